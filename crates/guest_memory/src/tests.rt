@@ -1,0 +1,87 @@
+//! Values from outside: the limits of a memory's size, and the bytes of words.
+use crate::*;
+use std::alloc::Global;
+use std::test::Fail;
+use wire_frame::Fault;
+
+#[test]
+fn makes_memories_within_limits(rt: HostRuntime) {
+    for (size, fault) in [
+        (0, Some(Fault::BadMake)),
+        (3968, Some(Fault::BadMake)),
+        (4096, None),
+        (4097, Some(Fault::BadMake)),
+        (4160, Some(Fault::BadMake)),
+        (65_536, None),
+        (16_777_216, None),
+        (16_777_344, Some(Fault::BadMake)),
+        (u64::MAX, Some(Fault::BadMake)),
+    ] {
+        assert_eq!(rt; FlatMem::new(rt.alloc(), size).err(), fault, "{size} bytes");
+    }
+}
+
+#[test]
+fn reads_what_was_written(rt: HostRuntime) -> Result<(), Fail> {
+    let mut memory = FlatMem::new(rt.alloc(), 4096)?;
+    assert_eq!(rt; memory.size(), 4096);
+    write_words(&mut memory, 4080, 0x1000, 0x3C_0000_0003);
+    let mut last = [0u8; 16];
+    read_bytes(&memory, 4080, &mut last);
+    let bytes = [0, 0x10, 0, 0, 0, 0, 0, 0, 3, 0, 0, 0, 0x3C, 0, 0, 0];
+    assert_eq!(rt; last, bytes);
+    assert_eq!(rt; read_word(&memory, 4088), 0x3C_0000_0003);
+    assert_eq!(rt; read_words(&memory, 4080), (0x1000, 0x3C_0000_0003));
+    write_word(&mut memory, 4080, 0x0102_0304_0506_0708);
+    write_bytes(&mut memory, 4081, &[0xAA, 0xBB]);
+    assert_eq!(rt; read_word(&memory, 4080), 0x0102_0304_05BB_AA08);
+    memory.clear();
+    assert_eq!(rt; read_words(&memory, 4080), (0, 0));
+    Ok(())
+}
+
+// Sets the first word, by whatever memory it is; what the memory then holds there.
+fn first_word<M: GuestMem>(mut memory: M) -> Option<u64> {
+    if memory.size() < 8 {
+        return None;
+    }
+    memory.clear();
+    write_word(&mut memory, 0, 7);
+    Some(read_word(&memory, 0))
+}
+
+#[test]
+fn boxes_are_memories(rt: HostRuntime) -> Result<(), Fail> {
+    let boxed: Box<dyn GuestMem + Send> = Box::new(rt.alloc(), FlatMem::new(rt.alloc(), 4096)?)?;
+    assert_eq!(rt; first_word(boxed), Some(7));
+    Ok(())
+}
+
+// Takes all the room that the host gives, in ever smaller parts. It gives up at a heap that does not run out, as that of
+// a sanitizer; there, let the allocations of `FlatMem::new` fail in turn.
+fn all_room(alloc: Global) -> Option<Vec<Vec<u8>>> {
+    let mut taken = Vec::with_capacity(alloc, 40_000).ok()?;
+    let mut size = 1usize << 46;
+    for _ in 0..35 {
+        for _ in 0..16_384 {
+            let Ok(part) = Vec::<u8>::with_capacity(alloc, size) else {
+                break;
+            };
+            if taken.push(part).is_err() {
+                return None;
+            }
+        }
+        size /= 2;
+    }
+    Some(taken)
+}
+
+#[test]
+fn tells_of_refused_memory(rt: HostRuntime) -> Result<(), Fail> {
+    let taken = all_room(rt.alloc()).ok_or("the heap does not run out")?;
+    assert_eq!(rt; FlatMem::new(rt.alloc(), 4096).err(), Some(Fault::NoMemory));
+    assert_eq!(rt; FlatMem::new(rt.alloc(), 4097).err(), Some(Fault::BadMake));
+    drop(taken);
+    assert!(rt; FlatMem::new(rt.alloc(), 4096).is_ok());
+    Ok(())
+}

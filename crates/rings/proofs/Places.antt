@@ -1,0 +1,72 @@
+-- The places that a ring's device owns.
+use Rattle.std.proofs.Common.{◌≡◌, ℕ, zero, suc, ◌+◌, ◌-◌, ◌*◌, ◌%◌, ◌<◌, ◌≤◌, List, [], ◌∷◌, length, get_or, ◌≢◌, ⊎_elim, Bool, true, false, cond, IsTrue, refl, sym, ◌∙◌, ap, arith, add-one}
+use Rattle.std.proofs.lemmas.Bool.{cases_lt}
+use Rattle.std.proofs.Math.Nat.{mod-eq-sub-mod, mod-eq_of_lt, mod-lt}
+use Rattle.rings.specs.Ring.{RingState, places_from, owned, owned_count, IsRing, IsValidRing}
+
+-- a place less than one round past the end
+pub mod_wrapped : (m n : ℕ) → n ≤ m → m < n + n → m % n ≡ m - n
+mod_wrapped m n h k = mod-eq-sub-mod h ∙ mod-eq_of_lt (omega arith)
+
+pub length-places_from : (n h k : ℕ) → length (places_from n h k) ≡ k
+unfolding places_from
+length-places_from n h zero = refl
+length-places_from n h (suc k) = let e = length-places_from n (h + 1) k in omega (arith, e)
+
+pub get_or-places_from : (n h k i : ℕ) → i < k → get_or (places_from n h k) i 0 ≡ (h + i) % n
+unfolding places_from
+get_or-places_from n h zero i l = absurd (omega arith)
+get_or-places_from n h (suc k) zero l = let e : h ≡ h + 0 = omega arith in ap (λ (x : ℕ). x % n) e
+get_or-places_from n h (suc k) (suc i) l =
+    let e : h + 1 + i ≡ h + suc i = omega arith in
+    get_or-places_from n (h + 1) k i (omega arith) ∙ ap (λ (x : ℕ). x % n) e
+
+-- what is known of the owned place at i
+pub record IsOwnedAt (r : RingState) (i : ℕ) : Type 0 where
+  pub on : r.enabled ≡ true
+  pub valid : IsValidRing r
+  pub below : i < owned_count r
+  pub in_round : r.head + i < r.count + r.count
+  pub place : get_or (owned r) i 0 ≡ (r.head + i) % r.count
+
+pub owned_count-lt : (r : RingState) → IsValidRing r → owned_count r < r.count
+owned_count-lt r v = let some : 0 < r.count = omega (arith, v.least) in mod-lt _ some
+
+-- where head and tail differ, there is an owned place
+pub owned_count-some : (r : RingState) → IsValidRing r → r.head ≢ r.tail → 1 ≤ owned_count r
+owned_count-some r v differ = ⊎_elim ahead behind (cases_lt r.tail r.head)
+  where
+    ahead : r.tail < r.head → 1 ≤ owned_count r
+    ahead h =
+        let below : r.tail + r.count - r.head < r.count = omega (arith, v.head_below) in
+        let same : owned_count r ≡ r.tail + r.count - r.head = mod-eq_of_lt below in
+        omega (arith, v.head_below)
+
+    behind : r.head ≤ r.tail → 1 ≤ owned_count r
+    behind h =
+        let same : owned_count r ≡ r.tail + r.count - r.head - r.count = mod_wrapped (r.tail + r.count - r.head) r.count (omega (arith, v.tail_below)) (omega (arith, v.tail_below, v.head_below)) in
+        omega (arith, v.head_below)
+
+pub length-owned : (r : RingState) → length (owned r) ≡ cond r.enabled (owned_count r) 0
+unfolding owned
+length-owned r = elim r.enabled as (λ b. length (cond b (places_from r.count r.head (owned_count r)) []) ≡ cond b (owned_count r) 0) [ true ↦ length-places_from r.count r.head (owned_count r) | false ↦ refl ]
+
+owned_at_by : (r : RingState) (i : ℕ) (b : Bool) → r.enabled ≡ b → IsRing r → i < length (owned r) → IsOwnedAt r i
+unfolding owned
+owned_at_by r i true e ok l =
+    let v : IsValidRing r = ok e in
+    let n : length (owned r) ≡ owned_count r = length-owned r ∙ (rw e refl) in
+    let below : i < owned_count r = omega arith in
+    let less : owned_count r < r.count = owned_count-lt r v in
+    record {
+      on = e;
+      valid = v;
+      below = below;
+      in_round = omega (arith, v.head_below);
+      place = rw e (get_or-places_from r.count r.head (owned_count r) i below);
+    }
+owned_at_by r i false e ok l =
+    let n : length (owned r) ≡ 0 = length-owned r ∙ (rw e refl) in absurd (omega arith)
+
+pub owned_at : (r : RingState) (i : ℕ) → IsRing r → i < length (owned r) → IsOwnedAt r i
+owned_at r i ok l = owned_at_by r i r.enabled refl ok l

@@ -1,0 +1,115 @@
+-- Bits of what the code computes: or, and, shifts, two words as one, a loop that sets bits.
+use Rattle.std.proofs.Common.{arith, ◌≡◌, ◌≢◌, ℕ, zero, suc, ◌+◌, ◌-◌, ◌*◌, ◌/◌, ◌%◌, ◌^◌, ◌<◌, ◌≤◌, min, max, Bool, true, false, not, ◌&&◌, ◌||◌, List, [], ◌∷◌, refl, sym, ap, ◌∙◌, eqb, eqb-true, add-one, ltb, ltb-true, get_or, bit_and, bit_or, ⊎_elim}
+use Rattle.std.specs.Int.{bit_at, w64}
+use Rattle.std.specs.List.{list_any, range_with_len}
+use Rattle.std.proofs.lemmas.Bool.Decides.{nat_tests}
+use Rattle.std.proofs.lemmas.Bool.{eqb-false, cases_lt}
+use Rattle.std.proofs.Math.Bool.{or-true, or-false, or_assoc}
+use Rattle.std.proofs.lemmas.Nat.{or_shifted, or_comm}
+use Rattle.std.proofs.lemmas.Nat.Bits.{bit_at_or, bit_at_and, bit_at-lt, bit_at-zero, bit_at_ones, bit_at_set_same, bit_at_set_other, bit_at_cat_low, bit_at_cat_high, shr_and_one}
+use Rattle.wire_frame.specs.Bits.{has_bit, has_bit_in, two_words}
+
+max-one : (x y : ℕ) → x < 2 → y < 2 → eqb (max x y) 1 ≡ (eqb x 1 || eqb y 1)
+max-one zero zero h k = refl
+max-one zero (suc zero) h k = refl
+max-one (suc zero) zero h k = refl
+max-one (suc zero) (suc zero) h k = refl
+max-one (suc (suc x)) y h k = absurd (omega arith)
+max-one zero (suc (suc y)) h k = absurd (omega arith)
+max-one (suc zero) (suc (suc y)) h k = absurd (omega arith)
+
+min-one : (x y : ℕ) → x < 2 → y < 2 → eqb (min x y) 1 ≡ (eqb x 1 && eqb y 1)
+min-one zero zero h k = refl
+min-one zero (suc zero) h k = refl
+min-one (suc zero) zero h k = refl
+min-one (suc zero) (suc zero) h k = refl
+min-one (suc (suc x)) y h k = absurd (omega arith)
+min-one zero (suc (suc y)) h k = absurd (omega arith)
+min-one (suc zero) (suc (suc y)) h k = absurd (omega arith)
+
+pub has_bit_or : (a b i : ℕ) → has_bit (bit_or a b) i ≡ (has_bit a i || has_bit b i)
+unfolding has_bit
+has_bit_or a b i = ap (λ v. eqb v 1) (bit_at_or a b i) ∙ max-one _ _ (bit_at-lt a i) (bit_at-lt b i)
+
+pub has_bit_and : (a b i : ℕ) → has_bit (bit_and a b) i ≡ (has_bit a i && has_bit b i)
+unfolding has_bit
+has_bit_and a b i = ap (λ v. eqb v 1) (bit_at_and a b i) ∙ min-one _ _ (bit_at-lt a i) (bit_at-lt b i)
+
+pub has_bit_zero : (i : ℕ) → has_bit 0 i ≡ false
+unfolding has_bit
+has_bit_zero i = ap (λ v. eqb v 1) (bit_at-zero i)
+
+-- `u64::MAX` has every bit below 64
+pub has_bit_ones : (i : ℕ) → i < 64 → has_bit 18446744073709551615 i ≡ true
+unfolding has_bit
+has_bit_ones i h = ap (λ v. eqb v 1) (bit_at_ones 64 i h)
+
+-- the test `(n >> i) & 1 == 1`
+pub has_bit_shr : (n i : ℕ) → eqb (bit_and (n / 2 ^ i) 1) 1 ≡ has_bit n i
+unfolding has_bit
+has_bit_shr n i = ap (λ v. eqb v 1) (shr_and_one n i)
+
+-- `low | high << 32` is the two words
+pub has_bit_two_words : (low high p : ℕ) → low < 2 ^ 32 → high < 2 ^ 32 → p < 64 → has_bit (bit_or low (high * 4294967296 % 18446744073709551616)) p ≡ has_bit_in (low ∷ high ∷ []) p
+unfolding has_bit
+has_bit_two_words low high p l h small =
+    ap (λ n. eqb (bit_at n p) 1) merged ∙ ⊎_elim below above (cases_lt p 32)
+  where
+    fits : high * 4294967296 % 18446744073709551616 ≡ high * 2 ^ 32
+    fits = omega arith
+
+    merged : bit_or low (high * 4294967296 % 18446744073709551616) ≡ high * 2 ^ 32 + low
+    merged = ap (bit_or low) fits ∙ or_comm low (high * 2 ^ 32) ∙ or_shifted high 32 low l
+
+    below : p < 32 → eqb (bit_at (high * 2 ^ 32 + low) p) 1 ≡ eqb (bit_at (get_or (low ∷ high ∷ []) (p / 32) 0) (p % 32)) 1
+    below h =
+        let word : p / 32 ≡ 0 = omega arith in
+        let bit : p % 32 ≡ p = omega arith in
+        rw (word, bit) (ap (λ v. eqb v 1) (bit_at_cat_low high 32 low p h))
+
+    above : 32 ≤ p → eqb (bit_at (high * 2 ^ 32 + low) p) 1 ≡ eqb (bit_at (get_or (low ∷ high ∷ []) (p / 32) 0) (p % 32)) 1
+    above h =
+        let word : p / 32 ≡ 1 = omega arith in
+        let bit : p % 32 ≡ p - 32 = omega arith in
+        rw (word, bit) (ap (λ v. eqb v 1) (bit_at_cat_high high 32 low p l h))
+
+-- `pools | 1 << k`
+pub has_bit_set : (pools k p : ℕ) → k < 64 → has_bit (bit_or pools (1 * 2 ^ k % 18446744073709551616)) p ≡ (has_bit pools p || eqb k p)
+unfolding has_bit
+has_bit_set pools k p h = go (eqb k p) refl
+  where
+    go : (b : Bool) → eqb k p ≡ b → eqb (bit_at (bit_or pools (1 * 2 ^ k % 18446744073709551616)) p) 1 ≡ (eqb (bit_at pools p) 1 || b)
+    go true e = let same : k ≡ p = eqb-true k p e in rw (← same) (ap (λ v. eqb v 1) (bit_at_set_same w64 pools k h) ∙ sym (or-true _))
+    go false e = ap (λ v. eqb v 1) (bit_at_set_other w64 pools k h p (λ same. eqb-false k p e (sym same))) ∙ sym (or-false _)
+
+-- A loop over the pools collects those that pass a test: the mask has the pools below p that pass.
+
+pub collected_none : (t : ℕ → Bool) (q : ℕ) → has_bit 0 q ≡ (ltb q 0 && t q)
+collected_none t q = has_bit_zero q ∙ grind (arith, nat_tests)
+
+-- pool p passes, and its bit is set
+pub collected_more : (t : ℕ → Bool) (pools p : ℕ) → p < 64 → ((q : ℕ) → has_bit pools q ≡ (ltb q p && t q)) → t p ≡ true → (q : ℕ) → has_bit (bit_or pools (1 * 2 ^ p % 18446744073709551616)) q ≡ (ltb q (p + 1) && t q)
+collected_more t pools p h so_far passes q = has_bit_set pools p q h ∙ rw (so_far q) (grind (arith, nat_tests, passes))
+
+-- pool p does not pass
+pub collected_same : (t : ℕ → Bool) (pools p : ℕ) → ((q : ℕ) → has_bit pools q ≡ (ltb q p && t q)) → t p ≡ false → (q : ℕ) → has_bit pools q ≡ (ltb q (p + 1) && t q)
+collected_same t pools p so_far fails q = so_far q ∙ grind (arith, nat_tests, fails)
+
+-- A loop over the entries joins the pools of those that pass a test: the mask has a pool where some entry up to here has it.
+
+list_any-range_suc : (t : ℕ → Bool) (a n : ℕ) → list_any t (range_with_len a (suc n)) ≡ (list_any t (range_with_len a n) || t (a + n))
+list_any-range_suc t a zero = let place : a ≡ a + 0 = omega arith in or-false (t a) ∙ ap t place
+list_any-range_suc t a (suc n) =
+    let place : a + 1 + n ≡ a + suc n = omega arith in
+    ap (λ b. t a || b) (list_any-range_suc t (a + 1) n ∙ ap (λ k. list_any t (range_with_len (a + 1) n) || t k) place)
+    ∙ sym (or_assoc (t a) (list_any t (range_with_len (a + 1) n)) (t (a + suc n)))
+
+pub list_any-range_more : (t : ℕ → Bool) (n : ℕ) → list_any t (range_with_len 0 (n + 1)) ≡ (list_any t (range_with_len 0 n) || t n)
+list_any-range_more t n =
+    let place : 0 + n ≡ n = omega arith in
+    rw add-one (list_any-range_suc t 0 n ∙ ap (λ k. list_any t (range_with_len 0 n) || t k) place)
+
+-- the mask of entry n is joined
+pub joined_more : (t : ℕ → Bool) (pools mask p n : ℕ) → has_bit pools p ≡ list_any t (range_with_len 0 n) → has_bit mask p ≡ t n → has_bit (bit_or pools mask) p ≡ list_any t (range_with_len 0 (n + 1))
+joined_more t pools mask p n so_far entry =
+    has_bit_or pools mask p ∙ ap (λ b. b || has_bit mask p) so_far ∙ ap (λ b. list_any t (range_with_len 0 n) || b) entry ∙ sym (list_any-range_more t n)

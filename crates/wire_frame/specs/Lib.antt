@@ -1,0 +1,6 @@
+pub mod Address
+pub mod Apart
+pub mod Bits
+pub mod Fault
+pub mod Frame
+pub mod Row

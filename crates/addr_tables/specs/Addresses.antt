@@ -1,0 +1,86 @@
+-- Receive addresses and the multicast table: their words by offset, which pools have an address, and which addresses the
+-- multicast table has.
+use Rattle.std.specs.Prelude.{ℕ, ◌+◌, ◌*◌, ◌%◌, ◌^◌, Bool, ◌&&◌, ◌==◌, List, [], ◌∷◌, Option, replicate, slice_index}
+use Rattle.std.specs.List.{list_any, range_with_len}
+use Rattle.wire_frame.specs.declared.row.Row.{Row}
+use Rattle.wire_frame.specs.Row.{◌or◌, word_at, words_after, one_at, one_after}
+use Rattle.wire_frame.specs.Bits.{has_bit, has_bit_in, two_words, field}
+
+-- the words of RAL, RAH, MPSAR, MTA and MCSTCTRL
+pub record Addresses : Type 0 where
+  pub low : List ℕ
+  pub high : List ℕ
+  pub pools : List ℕ
+  pub hashes : List ℕ
+  pub control : ℕ
+
+unfoldable pub initial_addresses : Addresses
+initial_addresses = record { low = replicate 128 0; high = replicate 128 0; pools = replicate 256 0; hashes = replicate 128 0; control = 0 }
+
+-- ---- the words by their offsets
+
+abbrev pub low_row : Row
+low_row = record { first = 0xA200; count = 128; stride = 8; mask = 0xFFFFFFFF }
+
+abbrev pub high_row : Row
+high_row = record { first = 0xA204; count = 128; stride = 8; mask = 0x8000FFFF }
+
+abbrev pub pools_row : Row
+pools_row = record { first = 0xA600; count = 256; stride = 4; mask = 0xFFFFFFFF }
+
+abbrev pub hashes_row : Row
+hashes_row = record { first = 0x5200; count = 128; stride = 4; mask = 0xFFFFFFFF }
+
+abbrev pub control_offset : ℕ
+control_offset = 0x5090
+
+-- what a read of the offset gives, if it names one of these words
+unfoldable pub addresses_at : Addresses → ℕ → Option ℕ
+addresses_at a offset =
+    word_at low_row a.low offset
+    or word_at high_row a.high offset
+    or word_at pools_row a.pools offset
+    or word_at hashes_row a.hashes offset
+    or one_at control_offset a.control offset
+
+-- the words after a write of x
+unfoldable pub addresses_after : Addresses → ℕ → ℕ → Addresses
+addresses_after a offset x = record {
+  low = words_after low_row a.low offset x;
+  high = words_after high_row a.high offset x;
+  pools = words_after pools_row a.pools offset x;
+  hashes = words_after hashes_row a.hashes offset x;
+  control = one_after control_offset 7 a.control offset x;
+}
+
+-- ---- receive addresses
+
+-- the address of entry e: 32 bits in its low word, 16 in its high word
+abbrev pub entry_address : Addresses → ℕ → ℕ
+entry_address a e = slice_index a.low e + 2 ^ 32 * (slice_index a.high e % 2 ^ 16)
+
+-- entry e is valid and has the pool's bit
+abbrev pub entry_has_pool : Addresses → ℕ → ℕ → Bool
+entry_has_pool a pool e = has_bit (slice_index a.high e) 31 && has_bit_in (two_words a.pools e) pool
+
+-- entry e gives the pool the address
+abbrev pub entry_gives : Addresses → ℕ → ℕ → ℕ → Bool
+entry_gives a pool address e = entry_has_pool a pool e && (entry_address a e == address)
+
+-- the pool has the address: some entry gives it
+unfoldable pub has_address : Addresses → ℕ → ℕ → Bool
+has_address a pool address = list_any (entry_gives a pool address) (range_with_len 0 128)
+
+-- some pool has the address
+unfoldable pub is_held : Addresses → ℕ → Bool
+is_held a address = list_any (λ pool. has_address a pool address) (range_with_len 0 64)
+
+-- ---- the multicast table
+
+-- the lowest of the 12 bits of the address that are its hash: bits 47:36, 46:35, 45:34 or 43:32
+abbrev pub hash_low : ℕ → ℕ
+hash_low offset = slice_index (36 ∷ 35 ∷ 34 ∷ 32 ∷ []) offset
+
+-- the table is on and has the bit of the address's hash
+unfoldable pub multicast_hit : Addresses → ℕ → Bool
+multicast_hit a address = has_bit a.control 2 && has_bit_in a.hashes (field address (hash_low (a.control % 4)) 12)

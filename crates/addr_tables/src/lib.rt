@@ -1,0 +1,14 @@
+//! Receive addresses and the multicast table of the physical function.
+//!
+//! [`AddrTables`] holds the registers RAL, RAH, MPSAR, MTA and MCSTCTRL, and answers which pools have an address
+//! ([`AddrTables::pools_of`]) and whether the multicast table has it ([`AddrTables::multicast_hit`]). Its meaning is the
+//! words of the registers, so a write changes one word and nothing else. It stands on [`wire_frame`], and no call takes
+//! memory.
+#![tactic(auto)]
+
+pub mod addresses;
+pub mod registers;
+#[cfg(test)]
+mod tests;
+
+pub use addresses::AddrTables;

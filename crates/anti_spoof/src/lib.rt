@@ -1,0 +1,11 @@
+//! Whether a pool may send a frame.
+//!
+//! [`honest`] is the check on senders (82599 datasheet, anti-spoofing): it looks at what of the settings is the pool's own,
+//! and at the frame, and at nothing else. It stands on [`pool_filter`], and takes no memory.
+#![tactic(auto)]
+
+pub mod sender;
+#[cfg(test)]
+mod tests;
+
+pub use sender::honest;

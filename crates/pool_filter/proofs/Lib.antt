@@ -1,0 +1,6 @@
+pub mod FlagLemmas
+pub mod MapLemmas
+pub mod OwnLemmas
+pub mod RisingLemmas
+pub mod WordLemmas
+pub mod WriteLemmas

@@ -1,0 +1,9 @@
+pub mod Accepts
+pub mod Flags
+pub mod Map
+pub mod Own
+pub mod Settings
+pub use Rattle.wire_frame.specs.Bits
+pub use Rattle.wire_frame.specs.Row
+pub use Rattle.addr_tables.specs.Addresses
+pub use Rattle.vlan_table.specs.Vlans

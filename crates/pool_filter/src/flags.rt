@@ -1,0 +1,59 @@
+//! The flags of a pool.
+ghost use Rattle.std.specs.Prelude.{⊤, ◌≡◌, ℕ, ◌<◌, [], ◌∷◌, codes, slice_index};
+ghost use Rattle.wire_frame.specs.Bits.{has_bit};
+ghost use Rattle.pool_filter.specs.Flags.{has_flags};
+
+use bitflags::{Flag, Flags, bitflag_items};
+
+/// What a pool accepts beside its own addresses and VLAN ids, as its word of VMOLR holds it (82599 datasheet, VMOLR).
+///
+/// - `AUPE`: untagged frames, where VLANs are filtered;
+/// - `ROMPE`: multicast frames whose destination the multicast table has;
+/// - `BAM`: broadcast frames;
+/// - `MPE`: all multicast frames.
+#[derive(Clone, Copy, Debug, PartialEq, Eq)]
+pub struct PoolFlags(pub u32);
+
+bitflag_items! {
+    impl PoolFlags: u32 {
+        const AUPE = 0x0100_0000;
+        const ROMPE = 0x0200_0000;
+        const BAM = 0x0800_0000;
+        const MPE = 0x1000_0000;
+    }
+}
+
+impl Flags for PoolFlags {
+    type Bits = u32;
+
+    ghost exact = { ⊤ };
+
+    ghost table = { (codes "AUPE", 0x1000000) ∷ (codes "ROMPE", 0x2000000) ∷ (codes "BAM", 0x8000000) ∷ (codes "MPE", 0x10000000) ∷ [] };
+
+    ghost set_of = { λ f. f.0 };
+
+    fn flags<'a>() -> &'a [Flag<PoolFlags>] {
+        PoolFlags::FLAGS
+    }
+
+    fn bits(&self) -> u32 {
+        self.0
+    }
+
+    fn from_bits_retain(bits: u32) -> PoolFlags {
+        PoolFlags(bits)
+    }
+}
+
+// The pools whose word has all of the flags, of one word a pool.
+pub(crate) fn pools_with(words: &[u32; 64], flags: PoolFlags) -> u64
+    ensures { (p : ℕ) → p < 64 → has_bit result p ≡ has_flags (slice_index words.now p) flags.0 }
+{
+    let mut pools = 0u64;
+    for p in 0..64 {
+        if PoolFlags::from_bits_retain(words[p]).contains(flags) {
+            pools |= 1 << p;
+        }
+    }
+    pools
+}

@@ -1,0 +1,21 @@
+//! Taking one descriptor of a transmit queue, and the frame that its descriptors give.
+//!
+//! [`fetch_into`] takes the descriptor at the head of a ring: it gathers the bytes of the frame that is being sent, writes
+//! the descriptor back where the driver asks for it, and at the last descriptor of a frame ends it under the port's VLAN
+//! rule and the limit on frames (82599 datasheet, transmit descriptors). All of it is one definition, `fetch` in `specs/`;
+//! [`fetch`] is the same with the frame in the answer. The bytes of a frame go straight from the guest's memory into
+//! [`Pending`]. Nothing is asked of the descriptor: whatever the guest wrote there, the call returns. No call takes memory.
+//!
+//! The crate stands on `rings`, `guest_memory` and `wire_frame`.
+#![tactic(auto)]
+
+mod descriptor;
+pub mod fetching;
+pub mod outcome;
+pub mod pending;
+#[cfg(test)]
+mod tests;
+
+pub use fetching::{fetch, fetch_into};
+pub use outcome::{Fetched, Progress, Served};
+pub use pending::Pending;

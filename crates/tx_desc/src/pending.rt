@@ -1,0 +1,101 @@
+//! The frame that is being sent, as far as it is gathered.
+ghost use Rattle.std.specs.Prelude.{◌≡◌, ℕ, ◌+◌, ◌≤◌, [], length, slice_range, if◌then◌else◌};
+ghost use Rattle.tx_desc.specs.Transmit.{Gathering, Gathered, Overlong, joined, ended, refuses};
+ghost use Rattle.tx_desc.specs.Lent.{lent_after};
+ghost use Rattle.tx_desc.specs.declared.outcome.Fetched.TheVariants.{Frame, Dropped};
+
+use crate::descriptor::TxDescriptor;
+use guest_memory::{GuestMem, read_bytes};
+use std::marker::Model;
+use wire_frame::{FrameBuf, FrameLimit, PortVlan};
+
+/// The bytes gathered so far of the frame that is being sent, or that they are too many.
+#[derive(Drop)]
+pub struct Pending {
+    cells: [u8; 9018],
+    len: usize,
+    is_overlong: bool,
+}
+
+impl Model for Pending {
+    ghost use Rattle.std.specs.Prelude.{take, ◌≤◌, if◌then◌else◌};
+    ghost use Rattle.tx_desc.specs.Transmit.{Gathering, Gathered, Overlong};
+
+    ghost Value = { Gathering };
+
+    ghost view = { λ p. if p.is_overlong then Overlong else Gathered (take p.len p.cells) };
+
+    ghost invariant = { λ p. p.len ≤ 9018 };
+}
+
+impl Pending {
+    /// No bytes.
+    pub fn new() -> Pending
+        ensures { result ≡ Gathered [] }
+    {
+        Pending {
+            cells: [0; 9018],
+            len: 0,
+            is_overlong: false,
+        }
+    }
+
+    /// Forgets what is gathered, as where a queue goes off.
+    #[inline]
+    pub fn clear(&mut self)
+        ensures { self.new ≡ Gathered [] }
+    {
+        self.len = 0;
+        self.is_overlong = false;
+    }
+
+    // Joins the `size` bytes of the memory from `at` on, unless there are more than `limit` then.
+    #[inline]
+    #[tactic(auto, unfolding(crate::specs::Transmit::joined))]
+    pub(crate) fn join<M: GuestMem>(&mut self, memory: &M, at: u64, size: usize, limit: FrameLimit)
+        requires { at + size ≤ length (M.bytes memory.now) }
+        ensures { self.new ≡ joined limit self.old (slice_range (M.bytes memory.now) at (at + size)) }
+    {
+        let most = usize::from(limit.get());
+        if self.is_overlong || size > most || self.len > most - size {
+            self.is_overlong = true;
+            return;
+        }
+        let end = self.len + size;
+        read_bytes(memory, at, &mut self.cells[self.len..end]);
+        self.len = end;
+    }
+
+    // Ends the frame under the last descriptor, and tells whether it is a frame; then `frame` is it, else what it was.
+    #[tactic(auto, unfolding(crate::specs::Transmit::ended))]
+    pub(crate) fn end(
+        &self,
+        frame: &mut FrameBuf,
+        last: TxDescriptor,
+        rule: PortVlan,
+        limit: FrameLimit,
+    ) -> bool
+        ensures value { ended limit rule last.word self.now ≡ (if result then Frame frame.new else Dropped) }
+        ensures frame { frame.new ≡ lent_after (ended limit rule last.word self.now) frame.old }
+    {
+        if self.is_overlong {
+            return false;
+        }
+        let bytes = &self.cells[..self.len];
+        if refuses(rule, bytes) {
+            return false;
+        }
+        match last.tag(rule) {
+            None => frame.refill(bytes, limit),
+            Some(tag) => frame.refill_tagged(tag, bytes, limit),
+        }
+    }
+}
+
+// Whether the port lets no such bytes pass: it has a tag of its own, and they are tagged already.
+#[inline]
+fn refuses(rule: PortVlan, bytes: &[u8]) -> bool
+    ensures { result ≡ refuses rule bytes.now }
+{
+    matches!(rule, PortVlan::Always(_)) && bytes.len() >= 14 && bytes[12] == 0x81 && bytes[13] == 0
+}

@@ -1,0 +1,203 @@
+-- The loops over the pieces of a frame, one piece at a time.
+use Rattle.std.proofs.Common.{◌≡◌, ℕ, zero, suc, ◌+◌, ◌-◌, ◌*◌, ◌/◌, ◌<◌, ◌≤◌, min, List, [], ◌∷◌, length, take, drop, set, get_or, map, Option, Bool, true, false, nat_lt, ◌||◌, refl, sym, ◌∙◌, ap, arith, eqb, inl, inr}
+use Rattle.std.proofs.lemmas.List.{drop_more, take_more, take_more_set, take_min, drop_min, get_or-map, length-map}
+use Rattle.std.proofs.lemmas.Bool.{ltb-false, lt-ltb, le-ltb, cases_eq, eq-eqb, ne_eqb}
+use Rattle.guest_memory.specs.Memory.{Write, overwrite, write_all, two_words, word_at}
+use Rattle.rings.specs.Ring.{RingState, owned, head_after}
+use Rattle.rx_desc.specs.declared.placing.Placed.TheVariants.{Put, NoRoom, Faulted}
+use Rattle.rx_desc.specs.Receive.{Delivery, deliver_pieces, pieces, slots, data_writes, is_nil, cut, zip_writes, back_writes, passes_end, status}
+
+-- the writes from the piece at i on; xs is what is left of the data
+pub rest_writes : List ℕ → ℕ → ℕ → ℕ → List ℕ → List Write
+rest_writes places b n i xs = zip_writes (drop i places) (cut b (n - i) xs)
+
+pub rest_writes-none : (places : List ℕ) (b n : ℕ) (xs : List ℕ) → rest_writes places b n 0 xs ≡ zip_writes places (cut b n xs)
+unfolding rest_writes
+rest_writes-none places b n xs = let e : n - 0 ≡ n = omega arith in ap (λ (k : ℕ). zip_writes places (cut b k xs)) e
+
+zip_writes-nil : (places : List ℕ) → zip_writes places [] ≡ []
+unfolding zip_writes
+zip_writes-nil [] = refl
+zip_writes-nil (a ∷ places) = refl
+
+pub rest_writes-all : (places : List ℕ) (b n i : ℕ) (xs : List ℕ) → n ≤ i → rest_writes places b n i xs ≡ []
+unfolding rest_writes cut
+rest_writes-all places b n i xs h = let e : n - i ≡ 0 = omega arith in ap (λ (k : ℕ). zip_writes (drop i places) (cut b k xs)) e ∙ zip_writes-nil (drop i places)
+
+rest_writes-more : (places : List ℕ) (b n i : ℕ) (xs : List ℕ) → i < n → i < length places → rest_writes places b n i xs ≡ record { at = get_or places i 0; bytes = take b xs } ∷ rest_writes places b n (i + 1) (drop b xs)
+unfolding rest_writes cut zip_writes
+rest_writes-more places b n i xs h k =
+    let e : n - i ≡ suc (n - (i + 1)) = omega arith in
+    ap (λ (k : ℕ). zip_writes (drop i places) (cut b k xs)) e ∙ ap (λ (d : List ℕ). zip_writes d (cut b (suc (n - (i + 1))) xs)) (drop_more places i 0 k)
+
+pub write_all-none : (ws : List Write) (m : List ℕ) → ws ≡ [] → write_all ws m ≡ m
+unfolding write_all
+write_all-none ws m e = rw e refl
+
+write_all-more : (ws rest : List Write) (a : ℕ) (p m : List ℕ) → ws ≡ record { at = a; bytes = p } ∷ rest → write_all ws m ≡ write_all rest (overwrite a p m)
+unfolding write_all
+write_all-more ws rest a p m e = rw e refl
+
+pub passes_end-none : (n : ℕ) (ws : List Write) → ws ≡ [] → passes_end n ws ≡ false
+unfolding passes_end
+passes_end-none n ws e = rw e refl
+
+passes_end-more : (n : ℕ) (ws rest : List Write) (a : ℕ) (p : List ℕ) → ws ≡ record { at = a; bytes = p } ∷ rest → passes_end n ws ≡ (nat_lt n (a + length p) || passes_end n rest)
+unfolding passes_end
+passes_end-more n ws rest a p e = rw e refl
+
+-- what a loop that has the writes from i on left knows of the piece at i and the pieces after it
+pub record StepsOn (places : List ℕ) (b n i : ℕ) (xs piece tail m m' : List ℕ) (a end : ℕ) : Type 0 where
+  pub written : write_all (rest_writes places b n (i + 1) tail) m' ≡ write_all (rest_writes places b n i xs) m
+  pub passes : passes_end end (rest_writes places b n i xs) ≡ (nat_lt end (a + length piece) || passes_end end (rest_writes places b n (i + 1) tail))
+
+pub steps_on : (places : List ℕ) (b n i mid : ℕ) (xs piece tail m : List ℕ) (a end : ℕ) → i < n → i < length places → a ≡ get_or places i 0 → mid ≡ min b (length xs) → piece ≡ take mid xs → tail ≡ drop mid xs → StepsOn places b n i xs piece tail m (overwrite a piece m) a end
+steps_on places b n i mid xs piece tail m a end h k at middle front back =
+    let p : piece ≡ take b xs = front ∙ ap (λ (k : ℕ). take k xs) middle ∙ take_min b xs in
+    let t : tail ≡ drop b xs = back ∙ ap (λ (k : ℕ). drop k xs) middle ∙ drop_min b xs in
+    let more = rest_writes-more places b n i xs h k in
+    record {
+      written = rw (p, t, at) (sym (write_all-more _ _ _ _ m more));
+      passes = rw (p, t, at) (passes_end-more end _ _ _ _ more);
+    }
+
+or_false : (x y : Bool) → (x || y) ≡ false → (x ≡ false) × (y ≡ false)
+or_false true y e = cc
+or_false false y e = (refl, e)
+
+-- a write that does not pass the end, and those after it
+pub record FitsOn (places : List ℕ) (b n i : ℕ) (piece tail : List ℕ) (a end : ℕ) : Type 0 where
+  pub here : a + length piece ≤ end
+  pub after : passes_end end (rest_writes places b n (i + 1) tail) ≡ false
+
+pub fits_on : (places : List ℕ) (b n i : ℕ) (xs piece tail m m' : List ℕ) (a end : ℕ) → StepsOn places b n i xs piece tail m m' a end → passes_end end (rest_writes places b n i xs) ≡ false → FitsOn places b n i piece tail a end
+fits_on places b n i xs piece tail m m' a end s e =
+    let both = or_false _ _ (sym s.passes ∙ e) in record { here = ltb-false end (a + length piece) both.0; after = both.1 }
+
+-- the write-backs from the piece at i on; xs is what is left of the data
+pub rest_backs : Bool → Option ℕ → List ℕ → ℕ → ℕ → ℕ → List ℕ → List Write
+rest_backs lb tag places b n i xs = back_writes lb tag (drop i places) (cut b (n - i) xs)
+
+pub rest_backs-none : (lb : Bool) (tag : Option ℕ) (places : List ℕ) (b n : ℕ) (xs : List ℕ) → rest_backs lb tag places b n 0 xs ≡ back_writes lb tag places (cut b n xs)
+unfolding rest_backs
+rest_backs-none lb tag places b n xs = let e : n - 0 ≡ n = omega arith in ap (λ (k : ℕ). back_writes lb tag places (cut b k xs)) e
+
+back_writes-nil : (lb : Bool) (tag : Option ℕ) (places : List ℕ) → back_writes lb tag places [] ≡ []
+unfolding back_writes
+back_writes-nil lb tag [] = refl
+back_writes-nil lb tag (a ∷ places) = refl
+
+pub rest_backs-all : (lb : Bool) (tag : Option ℕ) (places : List ℕ) (b n i : ℕ) (xs : List ℕ) → n ≤ i → rest_backs lb tag places b n i xs ≡ []
+unfolding rest_backs cut
+rest_backs-all lb tag places b n i xs h = let e : n - i ≡ 0 = omega arith in ap (λ (k : ℕ). back_writes lb tag (drop i places) (cut b k xs)) e ∙ back_writes-nil lb tag (drop i places)
+
+is_nil-cut : (b n i : ℕ) (xs : List ℕ) → i < n → is_nil (cut b (n - (i + 1)) xs) ≡ eqb (i + 1) n
+unfolding cut
+is_nil-cut b n i xs h =
+    elim (cases_eq (i + 1) n) [
+      | inl e ↦ let z : n - (i + 1) ≡ 0 = omega arith in ap (λ (k : ℕ). is_nil (cut b k xs)) z ∙ sym (eq-eqb (i + 1) n e)
+      | inr e ↦ let z : n - (i + 1) ≡ suc (n - (i + 2)) = omega arith in ap (λ (k : ℕ). is_nil (cut b k xs)) z ∙ sym (ne_eqb (i + 1) n e)
+    ]
+
+rest_backs-more : (lb : Bool) (tag : Option ℕ) (places : List ℕ) (b n i : ℕ) (xs : List ℕ) → i < n → i < length places → rest_backs lb tag places b n i xs ≡ record { at = get_or places i 0; bytes = two_words 0 (status lb tag (eqb (i + 1) n) (length (take b xs))) } ∷ rest_backs lb tag places b n (i + 1) (drop b xs)
+unfolding rest_backs cut back_writes
+rest_backs-more lb tag places b n i xs h k =
+    let e : n - i ≡ suc (n - (i + 1)) = omega arith in
+    let last = is_nil-cut b n i (drop b xs) h in
+    ap (λ (k : ℕ). back_writes lb tag (drop i places) (cut b k xs)) e ∙ ap (λ (d : List ℕ). back_writes lb tag d (cut b (suc (n - (i + 1))) xs)) (drop_more places i 0 k) ∙ rw last refl
+
+pub back_on : (lb : Bool) (tag : Option ℕ) (places : List ℕ) (b n i mid : ℕ) (xs piece tail m : List ℕ) (a word : ℕ) → i < n → i < length places → a ≡ get_or places i 0 → mid ≡ min b (length xs) → piece ≡ take mid xs → tail ≡ drop mid xs → word ≡ status lb tag (eqb (i + 1) n) (length piece) → write_all (rest_backs lb tag places b n (i + 1) tail) (overwrite a (two_words 0 word) m) ≡ write_all (rest_backs lb tag places b n i xs) m
+back_on lb tag places b n i mid xs piece tail m a word h k at middle front back is =
+    let p : piece ≡ take b xs = front ∙ ap (λ (k : ℕ). take k xs) middle ∙ take_min b xs in
+    let t : tail ≡ drop b xs = back ∙ ap (λ (k : ℕ). drop k xs) middle ∙ drop_min b xs in
+    rw (is, p, t, at) (sym (write_all-more _ _ _ _ m (rest_backs-more lb tag places b n i xs h k)))
+
+-- where the descriptor at i stands
+pub get_or-slots : (r : RingState) (i : ℕ) → i < length (owned r) → get_or (slots r) i 0 ≡ r.base + 16 * get_or (owned r) i 0
+get_or-slots r i h = get_or-map (λ (place : ℕ). r.base + 16 * place) (owned r) i 0 0 h
+
+pub length-slots : (r : RingState) → length (slots r) ≡ length (owned r)
+length-slots r = length-map (owned r) (λ (place : ℕ). r.base + 16 * place)
+
+-- only as many addresses as pieces count
+pub zip_writes-take : (places : List ℕ) (b n : ℕ) (xs : List ℕ) → zip_writes (take n places) (cut b n xs) ≡ zip_writes places (cut b n xs)
+unfolding zip_writes cut
+zip_writes-take places b zero xs = sym (zip_writes-nil places)
+zip_writes-take [] b (suc n) xs = refl
+zip_writes-take (a ∷ places) b (suc n) xs = ap (λ (ws : List Write). record { at = a; bytes = take b xs } ∷ ws) (zip_writes-take places b n (drop b xs))
+
+-- the words that stand at the places
+pub words_at : List ℕ → List ℕ → List ℕ
+words_at places m = map (λ s. word_at s m) places
+
+pub words_at-is : (places m : List ℕ) (b n : ℕ) (xs : List ℕ) → zip_writes (words_at places m) (cut b n xs) ≡ data_writes places (cut b n xs) m
+unfolding words_at
+words_at-is places m b n xs = refl
+
+pub length-words_at : (places m : List ℕ) → length (words_at places m) ≡ length places
+unfolding words_at
+length-words_at places m = length-map places (λ (s : ℕ). word_at s m)
+
+pub get_or-words_at : (places m : List ℕ) (i : ℕ) → i < length places → get_or (words_at places m) i 0 ≡ word_at (get_or places i 0) m
+unfolding words_at
+get_or-words_at places m i h = get_or-map (λ (s : ℕ). word_at s m) places i 0 0 h
+
+-- one more address read
+pub filled_on : (kept words : List ℕ) (i a : ℕ) → i < length kept → i < length words → a ≡ get_or words i 0 → take i kept ≡ take i words → take (i + 1) (set kept i a) ≡ take (i + 1) words
+filled_on kept words i a h k e before =
+    take_more_set kept i a h ∙ rw (e, before) (sym (take_more words i 0 k))
+
+-- a write that passes the end
+pub passes_here : (places : List ℕ) (b n i : ℕ) (xs piece tail m m' : List ℕ) (a end : ℕ) → StepsOn places b n i xs piece tail m m' a end → end < a + length piece → passes_end end (rest_writes places b n i xs) ≡ true
+passes_here places b n i xs piece tail m m' a end s h = s.passes ∙ rw (lt-ltb end (a + length piece) h) refl
+
+-- a write that does not
+pub passes_later : (places : List ℕ) (b n i : ℕ) (xs piece tail m m' : List ℕ) (a end : ℕ) → StepsOn places b n i xs piece tail m m' a end → a + length piece ≤ end → passes_end end (rest_writes places b n (i + 1) tail) ≡ passes_end end (rest_writes places b n i xs)
+passes_later places b n i xs piece tail m m' a end s h = sym (s.passes ∙ rw (le-ltb end (a + length piece) h) refl)
+
+length-cut : (b k : ℕ) (xs : List ℕ) → length (cut b k xs) ≡ k
+unfolding cut
+length-cut b zero xs = refl
+length-cut b (suc k) xs = let e = length-cut b k (drop b xs) in omega (arith, e)
+
+-- the number of pieces of b bytes, the last of which may be shorter
+abbrev pub count_of : ℕ → List ℕ → ℕ
+count_of b xs = (length xs + b - 1) / b
+
+-- the three ends of placing
+
+no_room : (b : ℕ) (lb : Bool) (tag : Option ℕ) (xs m : List ℕ) (r : RingState) → length (owned r) < count_of b xs → deliver_pieces lb tag (pieces b xs) m r ≡ record { placed = NoRoom; memory = m; ring = r }
+unfolding deliver_pieces
+no_room b lb tag xs m r h =
+    let test : nat_lt (length (owned r)) (length (pieces b xs)) ≡ true = rw length-cut (lt-ltb _ _ h) in
+    rw test refl
+
+faulted : (b : ℕ) (lb : Bool) (tag : Option ℕ) (xs m : List ℕ) (r : RingState) → count_of b xs ≤ length (owned r) → passes_end (length m) (data_writes (slots r) (pieces b xs) m) ≡ true → deliver_pieces lb tag (pieces b xs) m r ≡ record { placed = Faulted; memory = m; ring = record r { enabled = false } }
+unfolding deliver_pieces
+faulted b lb tag xs m r h e =
+    let test : nat_lt (length (owned r)) (length (pieces b xs)) ≡ false = rw length-cut (le-ltb _ _ h) in
+    rw (test, e) refl
+
+put : (b : ℕ) (lb : Bool) (tag : Option ℕ) (xs m : List ℕ) (r : RingState) → count_of b xs ≤ length (owned r) → passes_end (length m) (data_writes (slots r) (pieces b xs) m) ≡ false → deliver_pieces lb tag (pieces b xs) m r ≡ record { placed = Put; memory = write_all (back_writes lb tag (slots r) (pieces b xs)) (write_all (data_writes (slots r) (pieces b xs) m) m); ring = record r { head = head_after (count_of b xs) r } }
+unfolding deliver_pieces
+put b lb tag xs m r h e =
+    let test : nat_lt (length (owned r)) (length (pieces b xs)) ≡ false = rw length-cut (le-ltb _ _ h) in
+    let count : length (pieces b xs) ≡ count_of b xs = length-cut b (count_of b xs) xs in
+    rw (test, e, count) refl
+
+-- the same, with the number of pieces by a name
+
+pub deliver-no_room : (b n : ℕ) (lb : Bool) (tag : Option ℕ) (xs m : List ℕ) (r : RingState) → n ≡ count_of b xs → length (owned r) < n → deliver_pieces lb tag (pieces b xs) m r ≡ record { placed = NoRoom; memory = m; ring = r }
+deliver-no_room b n lb tag xs m r count h = no_room b lb tag xs m r (omega (arith, count))
+
+pub deliver-faulted : (b n : ℕ) (lb : Bool) (tag : Option ℕ) (xs m : List ℕ) (r : RingState) → n ≡ count_of b xs → n ≤ length (owned r) → passes_end (length m) (data_writes (slots r) (cut b n xs) m) ≡ true → deliver_pieces lb tag (pieces b xs) m r ≡ record { placed = Faulted; memory = m; ring = record r { enabled = false } }
+deliver-faulted b n lb tag xs m r count h e =
+    faulted b lb tag xs m r (omega (arith, count)) (ap (λ (k : ℕ). passes_end (length m) (data_writes (slots r) (cut b k xs) m)) (sym count) ∙ e)
+
+pub deliver-put : (b n : ℕ) (lb : Bool) (tag : Option ℕ) (xs m : List ℕ) (r : RingState) → n ≡ count_of b xs → n ≤ length (owned r) → passes_end (length m) (data_writes (slots r) (cut b n xs) m) ≡ false → deliver_pieces lb tag (pieces b xs) m r ≡ record { placed = Put; memory = write_all (back_writes lb tag (slots r) (cut b n xs)) (write_all (data_writes (slots r) (cut b n xs) m) m); ring = record r { head = head_after n r } }
+deliver-put b n lb tag xs m r count h e =
+    put b lb tag xs m r (omega (arith, count)) (ap (λ (k : ℕ). passes_end (length m) (data_writes (slots r) (cut b k xs) m)) (sym count) ∙ e)
+    ∙ ap (λ (k : ℕ). after k) (sym count)
+  where
+    after : ℕ → Delivery
+    after k = record { placed = Put; memory = write_all (back_writes lb tag (slots r) (cut b k xs)) (write_all (data_writes (slots r) (cut b k xs) m) m); ring = record r { head = head_after k r } }

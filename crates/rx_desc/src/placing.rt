@@ -1,0 +1,226 @@
+//! Placing a frame.
+ghost use Rattle.std.specs.Prelude.{◌≡◌, ℕ, ◌+◌, ◌*◌, ◌-◌, ◌^◌, ◌<◌, ◌≤◌, length, false, is_none, IfSome, IsTrue};
+ghost use Rattle.guest_memory.specs.Memory.{write_all};
+ghost use Rattle.rings.specs.Ring.{owned, LiesInside};
+ghost use Rattle.rx_desc.specs.Parts.{text_of};
+ghost use Rattle.rx_desc.specs.Receive.{deliver, deliver_pieces, cut, pieces, slots, zip_writes, data_writes, back_writes, passes_end, status as status_of};
+
+use crate::parts::{Parts, write_parts};
+use guest_memory::{GuestMem, read_word, write_words};
+use rings::Ring;
+use wire_frame::FrameBuf;
+
+/// The most buffers that a frame of 9018 bytes fills, at the least size of a buffer.
+const MOST_PIECES: usize = 9;
+/// Status: the descriptor is done (82599 datasheet, DD).
+const DONE: u64 = 1;
+/// Status: the frame ends here (EOP).
+const END_OF_PACKET: u64 = 1 << 1;
+/// Status: a VLAN tag was stripped (VP).
+const VLAN_PACKET: u64 = 1 << 3;
+/// Status: another pool sent the frame (LB).
+const LOOPBACK: u64 = 1 << 18;
+/// The place of the length in the status.
+const LENGTH: u64 = 1 << 32;
+/// The place of the tag control in the status.
+const TAG: u64 = 1 << 48;
+
+/// How a receive queue places frames (82599 datasheet, SRRCTL and RXDCTL).
+#[derive(Clone, Copy, Debug, PartialEq, Eq)]
+pub struct RxConfig {
+    /// The size of each buffer, in bytes: 1024 to 16,384 while the queue is on (SRRCTL, BSIZEPACKET).
+    pub buffer_size: usize,
+    /// Whether the VLAN tag of a tagged frame is stripped (RXDCTL, VME).
+    pub strip_tag: bool,
+}
+
+/// What became of a frame.
+#[derive(Clone, Copy, Debug, PartialEq, Eq)]
+pub enum Placed {
+    /// It stands in the guest's buffers, and the descriptors are written back.
+    Put,
+    /// The queue is off, or owns fewer descriptors than the frame needs. Nothing has changed.
+    NoRoom,
+    /// A piece would pass the end of the memory. The queue is off now, and nothing else has changed.
+    Faulted,
+}
+
+/// Places `frame` in the buffers of the ring's next descriptors, and writes these back (82599 datasheet, advanced receive
+/// descriptors, read and write-back format). `loopback` says that another pool sent it.
+#[tactic(auto, unfolding(crate::specs::Receive::deliver))]
+pub fn place<M: GuestMem>(
+    memory: &mut M,
+    ring: &mut Ring,
+    config: &RxConfig,
+    frame: &FrameBuf,
+    loopback: bool,
+) -> Placed
+    requires least { IsTrue ring.old.enabled → 1024 ≤ config.now.buffer_size }
+    requires most { IsTrue ring.old.enabled → config.now.buffer_size ≤ 16384 }
+    requires inside { LiesInside (length (M.bytes memory.old)) ring.old }
+    ensures placed { result ≡ (deliver config.now loopback frame.now (M.bytes memory.old) ring.old).placed }
+    ensures written { M.bytes memory.new ≡ (deliver config.now loopback frame.now (M.bytes memory.old) ring.old).memory }
+    ensures ring { ring.new ≡ (deliver config.now loopback frame.now (M.bytes memory.old) ring.old).ring }
+    ensures size { length (M.bytes memory.new) ≡ length (M.bytes memory.old) }
+    ensures inside { LiesInside (length (M.bytes memory.new)) ring.new }
+    ensures on { IsTrue ring.new.enabled → IsTrue ring.old.enabled }
+{
+    if !ring.is_enabled() {
+        return Placed::NoRoom;
+    }
+    let bytes = frame.bytes();
+    if config.strip_tag {
+        if let Some(tag) = frame.tag() {
+            let source = Parts {
+                front: &bytes[..12],
+                back: &bytes[16..],
+            };
+            return place_data(
+                memory,
+                ring,
+                config.buffer_size,
+                source,
+                loopback,
+                Some(tag),
+            );
+        }
+    }
+    let source = Parts {
+        front: &bytes[..0],
+        back: bytes,
+    };
+    place_data(memory, ring, config.buffer_size, source, loopback, None)
+}
+
+// Places `source` in the buffers of the ring's next descriptors; `tag` was taken off it.
+fn place_data<M: GuestMem>(
+    memory: &mut M,
+    ring: &mut Ring,
+    size: usize,
+    source: Parts,
+    loopback: bool,
+    tag: Option<u16>,
+) -> Placed
+    requires least { 1024 ≤ size }
+    requires most { size ≤ 16384 }
+    requires short { length (text_of source) ≤ 9018 }
+    requires inside { LiesInside (length (M.bytes memory.old)) ring.old }
+    ensures placed { result ≡ (deliver_pieces loopback tag (pieces size (text_of source.entry)) (M.bytes memory.old) ring.old).placed }
+    ensures written { M.bytes memory.new ≡ (deliver_pieces loopback tag (pieces size (text_of source.entry)) (M.bytes memory.old) ring.old).memory }
+    ensures ring { ring.new ≡ (deliver_pieces loopback tag (pieces size (text_of source.entry)) (M.bytes memory.old) ring.old).ring }
+    ensures size { length (M.bytes memory.new) ≡ length (M.bytes memory.old) }
+    ensures inside { LiesInside (length (M.bytes memory.new)) ring.new }
+    ensures on { IsTrue ring.new.enabled → IsTrue ring.old.enabled }
+{
+    let count = (source.len() + size - 1) / size;
+    if count > ring.available() as usize {
+        return Placed::NoRoom;
+    }
+    let Some(addresses) = buffers(memory, ring, size, source, count) else {
+        ring.disable();
+        return Placed::Faulted;
+    };
+    write_pieces(memory, &addresses, size, source, count);
+    write_back(memory, ring, size, source, count, loopback, tag);
+    ring.advance(count as u32);
+    Placed::Put
+}
+
+// The addresses of the buffers of the first descriptors; none where some piece would pass the memory's end.
+fn buffers<M: GuestMem>(
+    memory: &M,
+    ring: &Ring,
+    size: usize,
+    source: Parts,
+    count: usize,
+) -> Option<[u64; MOST_PIECES]>
+    requires nine { count ≤ 9 }
+    requires room { count ≤ length (owned ring.now) }
+    requires inside { LiesInside (length (M.bytes memory.now)) ring.now }
+    ensures small { length (M.bytes memory.now) < 2 ^ 64 }
+    ensures variant { is_none result ≡ passes_end (length (M.bytes memory.now)) (data_writes (slots ring.now) (cut size count (text_of source.entry)) (M.bytes memory.now)) }
+    ensures value { IfSome result (λ xs. zip_writes xs (cut size count (text_of source.entry)) ≡ data_writes (slots ring.now) (cut size count (text_of source.entry)) (M.bytes memory.now)) }
+{
+    let memory_size = memory.size();
+    let mut addresses = [0u64; MOST_PIECES];
+    let mut rest = source;
+    for i in 0..count {
+        let (piece, tail) = rest.split_at(size.min(rest.len()));
+        let address = read_word(memory, ring.slot(i as u32));
+        let len = piece.len() as u64;
+        if len > memory_size || address > memory_size - len {
+            return None;
+        }
+        addresses[i] = address;
+        rest = tail;
+    }
+    Some(addresses)
+}
+
+// Writes each piece at its address.
+fn write_pieces<M: GuestMem>(
+    memory: &mut M,
+    addresses: &[u64; MOST_PIECES],
+    size: usize,
+    source: Parts,
+    count: usize,
+)
+    requires nine { count ≤ 9 }
+    requires small { length (M.bytes memory.old) < 2 ^ 64 }
+    requires fits { passes_end (length (M.bytes memory.old)) (zip_writes addresses.now (cut size count (text_of source))) ≡ false }
+    ensures written { M.bytes memory.new ≡ write_all (zip_writes addresses.now (cut size count (text_of source.entry))) (M.bytes memory.old) }
+    ensures size { length (M.bytes memory.new) ≡ length (M.bytes memory.old) }
+{
+    let mut rest = source;
+    for i in 0..count {
+        let (piece, tail) = rest.split_at(size.min(rest.len()));
+        write_parts(memory, addresses[i], &piece);
+        rest = tail;
+    }
+}
+
+// Writes back the first descriptors.
+fn write_back<M: GuestMem>(
+    memory: &mut M,
+    ring: &Ring,
+    size: usize,
+    source: Parts,
+    count: usize,
+    loopback: bool,
+    tag: Option<u16>,
+)
+    requires room { count ≤ length (owned ring.now) }
+    requires inside { LiesInside (length (M.bytes memory.old)) ring.now }
+    requires short { length (text_of source) ≤ 9018 }
+    requires nine { count ≤ 9 }
+    ensures written { M.bytes memory.new ≡ write_all (back_writes loopback tag (slots ring.now) (cut size count (text_of source.entry))) (M.bytes memory.old) }
+    ensures size { length (M.bytes memory.new) ≡ length (M.bytes memory.old) }
+{
+    let mut rest = source;
+    for i in 0..count {
+        let (piece, tail) = rest.split_at(size.min(rest.len()));
+        let len = piece.len();
+        let word = status(len as u64, loopback, tag, i + 1 == count);
+        write_words(memory, ring.slot(i as u32), 0, word);
+        rest = tail;
+    }
+}
+
+// The second word of a descriptor that is written back.
+#[inline]
+#[tactic(auto, unfolding(crate::specs::Receive::status))]
+fn status(len: u64, loopback: bool, tag: Option<u16>, last: bool) -> u64
+    requires { len ≤ 9018 }
+    ensures { result ≡ status_of loopback tag last len }
+{
+    let end = if last {
+        match tag {
+            Some(tag) => END_OF_PACKET + VLAN_PACKET + TAG * u64::from(tag),
+            None => END_OF_PACKET,
+        }
+    } else {
+        0
+    };
+    let switched = if loopback { LOOPBACK } else { 0 };
+    DONE + end + switched + LENGTH * len
+}

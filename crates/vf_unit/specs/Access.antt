@@ -1,0 +1,96 @@
+-- What register accesses do to an open virtual function.
+use Rattle.std.specs.Prelude.{ℕ, ◌+◌, ◌*◌, ◌/◌, ◌%◌, ◌^◌, Bool, true, ◌&&◌, ◌==◌, nat_le, List, [], length, bit_and, if◌then◌else◌}
+use Rattle.wire_frame.specs.Bits.{has_bit, with_bit}
+use Rattle.rings.specs.Ring.{RingState, ring_word, ring_written, switched}
+use Rattle.tx_desc.specs.Transmit.{Gathered}
+use Rattle.irq_causes.specs.Causes.{CauseState, all_raised, all_unmasked, masked, auto_clearing, cleared, emptied}
+use Rattle.vf_unit.specs.declared.queues.ReceiveQueue.{ReceiveQueue}
+use Rattle.vf_unit.specs.declared.queues.TransmitQueue.{TransmitQueue}
+use Rattle.vf_unit.specs.declared.registers.Register.{Register}
+use Rattle.vf_unit.specs.declared.registers.Register.TheVariants.{Nowhere, Control, Links, CauseRead, CauseSet, MaskSet, MaskClear, AutoClear, QueueVectors, OtherVector, Receive, ReceiveBuffers, ReceiveControl, Transmit, TransmitControl, FramesReceived, FramesSent}
+use Rattle.vf_unit.specs.Registers.{register_at}
+use Rattle.vf_unit.specs.Function.{State, Effect, initial, quiet, with_change, receive_of, transmit_of, with_receive, with_transmit}
+
+-- ---- reads
+
+-- bit 25 where the queue is on
+abbrev pub enable_word : RingState → ℕ
+enable_word r = if r.enabled then 2 ^ 25 else 0
+
+-- what a register reads
+unfoldable pub word : State → Register → ℕ
+word s Links = 0x70000000
+word s CauseRead = s.causes.causes
+word s MaskSet = s.causes.enabled
+word s AutoClear = s.causes.auto_clear
+word s QueueVectors = s.queue_vectors
+word s OtherVector = s.other_vector
+word s (Receive q register) = ring_word (receive_of s q).ring register
+word s (ReceiveBuffers q) = with_bit (receive_of s q).buffers 28
+word s (ReceiveControl q) = enable_word (receive_of s q).ring + (if (receive_of s q).strips_tag then 2 ^ 30 else 0)
+word s (Transmit q register) = ring_word (transmit_of s q).ring register
+word s (TransmitControl q) = enable_word (transmit_of s q).ring
+word s FramesReceived = s.frames_received
+word s FramesSent = s.frames_sent
+word s Control = 0
+word s CauseSet = 0
+word s MaskClear = 0
+word s Nowhere = 0
+
+abbrev pub with_causes : State → CauseState → State
+with_causes s c = record s { causes = c }
+
+-- what a read leaves: reading the causes empties them
+unfoldable pub after_read : State → Register → State
+after_read s CauseRead = with_causes s (emptied s.causes)
+after_read s _ = s
+
+-- ---- writes
+
+-- SRRCTL, written: ignored while the queue is on
+abbrev pub buffers_written : ReceiveQueue → ℕ → ReceiveQueue
+buffers_written queue x = if queue.ring.enabled then queue else record queue { buffers = bit_and x 0x0E00001F }
+
+-- buffers of the advanced type, and of 1 to 16 KiB
+abbrev pub may_receive : ℕ → Bool
+may_receive buffers = (buffers / 2 ^ 25 == 1) && (nat_le 1 (buffers % 32) && nat_le (buffers % 32) 16)
+
+-- RXDCTL, written, in a memory of n bytes: bit 25 turns the queue on or off, bit 30 is whether tags are stripped
+abbrev pub receive_switched : ℕ → ReceiveQueue → ℕ → ReceiveQueue
+receive_switched n queue x =
+    record { ring = switched (has_bit x 25) (may_receive queue.buffers) n queue.ring; buffers = queue.buffers; strips_tag = has_bit x 30 }
+
+-- TXDCTL, written: a queue that goes off loses its pending frame
+abbrev pub transmit_switched : ℕ → TransmitQueue → ℕ → TransmitQueue
+transmit_switched n queue x =
+    record { ring = switched (has_bit x 25) true n queue.ring; pending = if has_bit x 25 then queue.pending else Gathered [] }
+
+-- what a write of x to a register does
+unfoldable pub register_written : State → Register → ℕ → Effect
+register_written s Control x = quiet (if has_bit x 26 then initial s.memory else s)
+register_written s CauseRead x = quiet (with_causes s (cleared s.causes x))
+register_written s CauseSet x = with_change s (all_raised s.causes x)
+register_written s MaskSet x = with_change s (all_unmasked s.causes x)
+register_written s MaskClear x = quiet (with_causes s (masked s.causes x))
+register_written s AutoClear x = quiet (with_causes s (auto_clearing s.causes x))
+register_written s QueueVectors x = quiet (record s { queue_vectors = bit_and x 0x83838383 })
+register_written s OtherVector x = quiet (record s { other_vector = bit_and x 0x83 })
+register_written s (Receive q register) x =
+    quiet (with_receive s q (record (receive_of s q) { ring = ring_written (receive_of s q).ring register x }))
+register_written s (ReceiveBuffers q) x = quiet (with_receive s q (buffers_written (receive_of s q) x))
+register_written s (ReceiveControl q) x = quiet (with_receive s q (receive_switched (length s.memory) (receive_of s q) x))
+register_written s (Transmit q register) x =
+    quiet (with_transmit s q (record (transmit_of s q) { ring = ring_written (transmit_of s q).ring register x }))
+register_written s (TransmitControl q) x = quiet (with_transmit s q (transmit_switched (length s.memory) (transmit_of s q) x))
+register_written s _ x = quiet s
+
+-- ---- by offset
+
+abbrev pub word_at_offset : State → ℕ → ℕ
+word_at_offset s offset = word s (register_at offset)
+
+abbrev pub after_read_at : State → ℕ → State
+after_read_at s offset = after_read s (register_at offset)
+
+abbrev pub written_at : State → ℕ → ℕ → Effect
+written_at s offset x = register_written s (register_at offset) x

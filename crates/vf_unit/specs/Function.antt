@@ -1,0 +1,143 @@
+-- An open virtual function: its state, what a frame that comes does, and what the service of a transmit queue does.
+use Rattle.std.specs.Prelude.{ℕ, ◌+◌, ◌*◌, ◌%◌, ◌^◌, ◌≤◌, Bool, true, false, List, [], length, if◌then◌else◌, IsTrue}
+use Rattle.wire_frame.specs.Bits.{field}
+use Rattle.wire_frame.specs.declared.vlan.PortVlan.{PortVlan}
+use Rattle.rings.specs.Ring.{RingState, no_ring, LiesInside}
+use Rattle.tx_desc.specs.Transmit.{Gathering, Gathered, Service, fetch}
+use Rattle.rx_desc.specs.declared.placing.Placed.{Placed}
+use Rattle.rx_desc.specs.declared.placing.Placed.TheVariants.{Put, NoRoom, Faulted}
+use Rattle.rx_desc.specs.Receive.{Delivery, deliver}
+use Rattle.irq_causes.specs.Causes.{CauseState, Change, no_causes, silent, raised_by}
+use Rattle.vf_unit.specs.declared.registers.Queue.{Queue}
+use Rattle.vf_unit.specs.declared.registers.Queue.TheVariants.{Q0, Q1}
+use Rattle.vf_unit.specs.declared.queues.ReceiveQueue.{ReceiveQueue}
+use Rattle.vf_unit.specs.declared.queues.TransmitQueue.{TransmitQueue}
+
+-- ---- the state
+
+pub record State : Type 0 where
+  pub memory : List ℕ
+  pub receive_0 : ReceiveQueue
+  pub receive_1 : ReceiveQueue
+  pub transmit_0 : TransmitQueue
+  pub transmit_1 : TransmitQueue
+  pub causes : CauseState
+  pub queue_vectors : ℕ
+  pub other_vector : ℕ
+  pub frames_received : ℕ
+  pub frames_sent : ℕ
+
+abbrev pub initial_receive : ReceiveQueue
+initial_receive = record { ring = no_ring; buffers = 0; strips_tag = false }
+
+abbrev pub initial_transmit : TransmitQueue
+initial_transmit = record { ring = no_ring; pending = Gathered [] }
+
+-- every register initial, over this memory
+abbrev pub initial : List ℕ → State
+initial memory = record {
+  memory = memory;
+  receive_0 = initial_receive;
+  receive_1 = initial_receive;
+  transmit_0 = initial_transmit;
+  transmit_1 = initial_transmit;
+  causes = no_causes;
+  queue_vectors = 0;
+  other_vector = 0;
+  frames_received = 0;
+  frames_sent = 0;
+}
+
+-- a receive queue that is on lies inside a memory of n bytes, and has buffers of 1 to 16 KiB
+pub record IsReceiving (n : ℕ) (q : ReceiveQueue) : Type 0 where
+  pub inside : LiesInside n q.ring
+  pub least : IsTrue q.ring.enabled → 1 ≤ q.buffers % 32
+  pub most : IsTrue q.ring.enabled → q.buffers % 32 ≤ 16
+
+-- queues that are on lie inside the memory
+pub record IsTied (s : State) : Type 0 where
+  pub receive_0 : IsReceiving (length s.memory) s.receive_0
+  pub receive_1 : IsReceiving (length s.memory) s.receive_1
+  pub transmit_0 : LiesInside (length s.memory) s.transmit_0.ring
+  pub transmit_1 : LiesInside (length s.memory) s.transmit_1.ring
+
+-- ---- the queues by their numbers
+
+abbrev pub receive_of : State → Queue → ReceiveQueue
+receive_of s Q0 = s.receive_0
+receive_of s Q1 = s.receive_1
+
+abbrev pub transmit_of : State → Queue → TransmitQueue
+transmit_of s Q0 = s.transmit_0
+transmit_of s Q1 = s.transmit_1
+
+abbrev pub with_receive : State → Queue → ReceiveQueue → State
+with_receive s Q0 queue = record s { receive_0 = queue }
+with_receive s Q1 queue = record s { receive_1 = queue }
+
+abbrev pub with_transmit : State → Queue → TransmitQueue → State
+with_transmit s Q0 queue = record s { transmit_0 = queue }
+with_transmit s Q1 queue = record s { transmit_1 = queue }
+
+-- ---- changes
+
+-- the state after a change, and the vectors whose messages the change issued
+pub record Effect : Type 0 where
+  pub state : State
+  pub messages : ℕ
+
+abbrev pub quiet : State → Effect
+quiet s = record { state = s; messages = 0 }
+
+-- a change of the causes
+abbrev pub with_change : State → Change → Effect
+with_change s c = record { state = record s { causes = c.state }; messages = c.messages }
+
+-- ---- a frame that comes
+
+-- frames placed are counted, modulo 2^32
+abbrev pub counted : Placed → ℕ → ℕ
+counted Put n = (n + 1) % 2 ^ 32
+counted NoRoom n = n
+counted Faulted n = n
+
+-- the cause of receive queue 0, whose vector is the lowest byte, is raised where a frame was placed
+abbrev pub announced : Placed → ℕ → CauseState → Change
+announced Put vectors c = raised_by c (field vectors 0 8)
+announced NoRoom vectors c = silent c
+announced Faulted vectors c = silent c
+
+abbrev pub after_placing : State → Delivery → Effect
+after_placing s d =
+    with_change
+    (record s { memory = d.memory; receive_0 = record s.receive_0 { ring = d.ring }; frames_received = counted d.placed s.frames_received })
+    (announced d.placed s.queue_vectors s.causes)
+
+-- a frame comes to the function, from the wire or from another pool; it goes to receive queue 0
+unfoldable pub delivered : Bool → List ℕ → State → Effect
+delivered loopback frame s =
+    after_placing s (deliver (record { buffer_size = 1024 * (s.receive_0.buffers % 32); strip_tag = s.receive_0.strips_tag }) loopback frame s.memory s.receive_0.ring)
+
+-- ---- the service of a transmit queue
+
+-- the byte of the vectors that is of a transmit queue
+abbrev pub transmit_vector : ℕ → Queue → ℕ
+transmit_vector vectors Q0 = field vectors 8 8
+transmit_vector vectors Q1 = field vectors 24 8
+
+-- one descriptor taken
+abbrev pub service : ℕ → PortVlan → State → Queue → Service
+service limit rule s q = fetch limit rule s.memory (transmit_of s q).ring (transmit_of s q).pending
+
+-- the state with what the service left
+abbrev pub with_service : State → Queue → Service → State
+with_service s q v = with_transmit (record s { memory = v.memory }) q (record { ring = v.ring; pending = v.pending })
+
+-- the queue's cause is raised where the descriptor was written back
+abbrev pub reported : Bool → ℕ → CauseState → Change
+reported true entry c = raised_by c entry
+reported false entry c = silent c
+
+unfoldable pub served : ℕ → PortVlan → State → Queue → Effect
+served limit rule s q =
+    with_change (with_service s q (service limit rule s q)) (reported (service limit rule s q).reported (transmit_vector s.queue_vectors q) s.causes)

@@ -1,0 +1,63 @@
+-- The register map of a virtual function.
+use Rattle.std.specs.Prelude.{ℕ, List, [], ◌∷◌, ◌==◌, if◌then◌else◌}
+use Rattle.vf_unit.specs.declared.registers.Queue.{Queue}
+use Rattle.vf_unit.specs.declared.registers.Queue.TheVariants.{Q0, Q1}
+use Rattle.rings.specs.declared.ring.RingRegister.{RingRegister}
+use Rattle.rings.specs.declared.ring.RingRegister.TheVariants.{BaseLow, BaseHigh, Length, Head, Tail}
+use Rattle.vf_unit.specs.declared.registers.Register.{Register}
+use Rattle.vf_unit.specs.declared.registers.Register.TheVariants.{Nowhere, Control, Links, CauseRead, CauseSet, MaskSet, MaskClear, AutoClear, QueueVectors, OtherVector, Receive, ReceiveBuffers, ReceiveControl, Transmit, TransmitControl, FramesReceived, FramesSent}
+
+-- a line of the map
+pub record Line : Type 0 where
+  pub offset : ℕ
+  pub register : Register
+
+abbrev pub register_map : List Line
+register_map =
+    record { offset = 0x0; register = Control }
+    ∷ record { offset = 0x10; register = Links }
+    ∷ record { offset = 0x100; register = CauseRead }
+    ∷ record { offset = 0x104; register = CauseSet }
+    ∷ record { offset = 0x108; register = MaskSet }
+    ∷ record { offset = 0x10C; register = MaskClear }
+    ∷ record { offset = 0x110; register = AutoClear }
+    ∷ record { offset = 0x120; register = QueueVectors }
+    ∷ record { offset = 0x140; register = OtherVector }
+    ∷ record { offset = 0x1000; register = Receive Q0 BaseLow }
+    ∷ record { offset = 0x1004; register = Receive Q0 BaseHigh }
+    ∷ record { offset = 0x1008; register = Receive Q0 Length }
+    ∷ record { offset = 0x1010; register = Receive Q0 Head }
+    ∷ record { offset = 0x1014; register = ReceiveBuffers Q0 }
+    ∷ record { offset = 0x1018; register = Receive Q0 Tail }
+    ∷ record { offset = 0x101C; register = FramesReceived }
+    ∷ record { offset = 0x1028; register = ReceiveControl Q0 }
+    ∷ record { offset = 0x1040; register = Receive Q1 BaseLow }
+    ∷ record { offset = 0x1044; register = Receive Q1 BaseHigh }
+    ∷ record { offset = 0x1048; register = Receive Q1 Length }
+    ∷ record { offset = 0x1050; register = Receive Q1 Head }
+    ∷ record { offset = 0x1054; register = ReceiveBuffers Q1 }
+    ∷ record { offset = 0x1058; register = Receive Q1 Tail }
+    ∷ record { offset = 0x1068; register = ReceiveControl Q1 }
+    ∷ record { offset = 0x2000; register = Transmit Q0 BaseLow }
+    ∷ record { offset = 0x2004; register = Transmit Q0 BaseHigh }
+    ∷ record { offset = 0x2008; register = Transmit Q0 Length }
+    ∷ record { offset = 0x2010; register = Transmit Q0 Head }
+    ∷ record { offset = 0x2018; register = Transmit Q0 Tail }
+    ∷ record { offset = 0x201C; register = FramesSent }
+    ∷ record { offset = 0x2028; register = TransmitControl Q0 }
+    ∷ record { offset = 0x2040; register = Transmit Q1 BaseLow }
+    ∷ record { offset = 0x2044; register = Transmit Q1 BaseHigh }
+    ∷ record { offset = 0x2048; register = Transmit Q1 Length }
+    ∷ record { offset = 0x2050; register = Transmit Q1 Head }
+    ∷ record { offset = 0x2058; register = Transmit Q1 Tail }
+    ∷ record { offset = 0x2068; register = TransmitControl Q1 }
+    ∷ []
+
+-- the register of the first line with that offset
+abbrev pub found_in : List Line → ℕ → Register
+found_in [] offset = Nowhere
+found_in (line ∷ lines) offset = if line.offset == offset then line.register else found_in lines offset
+
+-- the register at an offset, Nowhere where the map has none
+unfoldable pub register_at : ℕ → Register
+register_at offset = found_in register_map offset

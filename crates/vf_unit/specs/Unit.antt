@@ -1,0 +1,103 @@
+-- A virtual function, closed or open: what each call does to it and answers.
+use Rattle.std.specs.Prelude.{ℕ, ◌+◌, ◌%◌, ◌^◌, Bool, true, false, nat_le, List, length, replicate, slice_range, Option, Some, None, if◌then◌else◌}
+use Rattle.guest_memory.specs.Memory.{overwrite}
+use Rattle.wire_frame.specs.declared.vlan.PortVlan.{PortVlan}
+use Rattle.tx_desc.specs.declared.outcome.Fetched.{Fetched}
+use Rattle.tx_desc.specs.Lent.{lent_after}
+use Rattle.vf_unit.specs.declared.registers.Queue.{Queue}
+use Rattle.vf_unit.specs.Function.{State, Effect, initial, delivered, served, service}
+use Rattle.vf_unit.specs.Access.{word_at_offset, after_read_at, written_at}
+
+-- closed, with a memory of that size, or open
+pub data Function : Type 0 where
+  Closed : (size : ℕ) → Function
+  Open : (state : State) → Function
+
+abbrev pub size_of : Function → ℕ
+size_of (Closed size) = size
+size_of (Open s) = length s.memory
+
+abbrev pub is_open : Function → Bool
+is_open (Closed size) = false
+is_open (Open s) = true
+
+-- ---- opening, ending, reset
+
+-- open, with every register initial and every byte of the memory zero, whatever it was
+abbrev pub opened : Function → Function
+opened f = Open (initial (replicate (size_of f) 0))
+
+abbrev pub ended : Function → Function
+ended f = Closed (size_of f)
+
+-- every register initial; the memory stays, and so does whether it is open
+abbrev pub reset : Function → Function
+reset (Closed size) = Closed size
+reset (Open s) = Open (initial s.memory)
+
+-- ---- registers
+
+-- what a register reads, and what the read leaves
+unfoldable pub read_of : Function → ℕ → Option ℕ
+read_of (Closed size) offset = None
+read_of (Open s) offset = Some (word_at_offset s offset)
+
+unfoldable pub after_read_of : Function → ℕ → Function
+after_read_of (Closed size) offset = Closed size
+after_read_of (Open s) offset = Open (after_read_at s offset)
+
+-- a function after a change, and the vectors whose messages the change issued; a closed one stays as it is
+pub record Change : Type 0 where
+  pub function : Function
+  pub messages : ℕ
+
+abbrev pub changed : Function → (State → Effect) → Change
+changed (Closed size) change = record { function = Closed size; messages = 0 }
+changed (Open s) change = record { function = Open (change s).state; messages = (change s).messages }
+
+-- a register, written
+abbrev pub written : Function → ℕ → ℕ → Change
+written f offset x = changed f (λ s. written_at s offset x)
+
+-- ---- frames
+
+-- a frame that comes
+abbrev pub given : Bool → List ℕ → Function → Change
+given loopback frame f = changed f (λ s. delivered loopback frame s)
+
+-- the service of a transmit queue, and what came of it where the function is open
+abbrev pub serviced : ℕ → PortVlan → Function → Queue → Change
+serviced limit rule f q = changed f (λ s. served limit rule s q)
+
+abbrev pub service_outcome : ℕ → PortVlan → Function → Queue → Option Fetched
+service_outcome limit rule (Closed size) q = None
+service_outcome limit rule (Open s) q = Some (service limit rule s q).outcome
+
+-- the frame that the caller lends, afterwards
+abbrev pub lent_to : Option Fetched → List ℕ → List ℕ
+lent_to None frame = frame
+lent_to (Some outcome) frame = lent_after outcome frame
+
+-- one more frame was sent, modulo 2^32
+abbrev pub one_more_sent : Function → Function
+one_more_sent (Closed size) = Closed size
+one_more_sent (Open s) = Open (record s { frames_sent = (s.frames_sent + 1) % 2 ^ 32 })
+
+-- ---- memory
+
+-- n bytes from the address on lie inside the memory of an open function
+abbrev pub has_range : Function → ℕ → ℕ → Bool
+has_range (Closed size) address n = false
+has_range (Open s) address n = nat_le (address + n) (length s.memory)
+
+-- the bytes there, else those that the caller had
+unfoldable pub bytes_at : Function → ℕ → List ℕ → List ℕ
+bytes_at (Closed size) address had = had
+bytes_at (Open s) address had =
+    if nat_le (address + length had) (length s.memory) then slice_range s.memory address (address + length had) else had
+
+-- bytes written there, where they lie inside
+unfoldable pub memory_written : Function → ℕ → List ℕ → Function
+memory_written (Closed size) address bytes = Closed size
+memory_written (Open s) address bytes =
+    if nat_le (address + length bytes) (length s.memory) then Open (record s { memory = overwrite address bytes s.memory }) else Open s

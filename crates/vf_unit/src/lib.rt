@@ -1,0 +1,21 @@
+//! One virtual function, whole: its registers, its two receive and two transmit queues, its causes and its memory.
+//!
+//! A [`VfUnit`] is closed, with the size of its memory, or open with its whole state. Opening it makes every register
+//! initial and every byte of the memory zero, whatever it was, so that nothing of an earlier tenant is left. Each call is
+//! one definition of `specs/`, answers with the interrupt messages that it issued, and is `None` or nothing where the
+//! function is closed. The type ties every ring that is on to the memory. It stands on `rx_desc`, `tx_desc` and
+//! `irq_causes`, and takes no memory of the host.
+#![tactic(auto)]
+
+pub mod offsets;
+mod open;
+mod queues;
+pub mod registers;
+pub mod unit;
+
+pub use open::Service;
+pub use registers::{Queue, Register};
+pub use unit::VfUnit;
+
+#[cfg(test)]
+mod tests;

@@ -1,0 +1,345 @@
+//! An open virtual function.
+ghost use Rattle.std.specs.Prelude.{◌≡◌, ℕ, ◌+◌, ◌≤◌, ◌<◌, ◌^◌, ◌%◌, length, slice_range, replicate};
+ghost use Rattle.guest_memory.specs.Memory.{overwrite};
+ghost use Rattle.rings.specs.Ring.{ring_written};
+ghost use Rattle.tx_desc.specs.Lent.{told, lent_after};
+ghost use Rattle.vf_unit.specs.Function.{State, initial, receive_of, transmit_of, with_receive, with_transmit, with_service, service, served, delivered};
+ghost use Rattle.vf_unit.specs.Access.{word, after_read, buffers_written, receive_switched, transmit_switched, register_written, word_at_offset, after_read_at, written_at};
+
+use crate::offsets::{DROP_EN, LINK_UP, RST, VTIVAR_KEPT, VTIVAR_MISC_KEPT};
+use crate::queues::{ReceiveQueue, TransmitQueue};
+use crate::registers::{Queue, Register, register_of};
+use guest_memory::{GuestMem, read_bytes, write_bytes};
+use irq_causes::Causes;
+use rings::RingRegister;
+use rx_desc::{Placed, RxConfig, place};
+use std::marker::Model;
+use tx_desc::{Progress, Served, fetch_into};
+use wire_frame::{FrameBuf, FrameLimit, PortVlan, has_bit};
+
+/// What a service gave: what came of it, and the messages that it issued.
+#[derive(Clone, Copy, Debug, PartialEq, Eq)]
+pub struct Service {
+    /// What came of it.
+    pub outcome: Progress,
+    /// The messages that were issued: bit v for vector v, 0 to 2.
+    pub messages: u8,
+}
+
+/// A virtual function that is open, over its memory.
+#[derive(Drop)]
+pub struct OpenVf<M: GuestMem> {
+    memory: M,
+    receive_0: ReceiveQueue,
+    receive_1: ReceiveQueue,
+    transmit_0: TransmitQueue,
+    transmit_1: TransmitQueue,
+    causes: Causes,
+    queue_vectors: u32,
+    other_vector: u32,
+    frames_received: u32,
+    frames_sent: u32,
+}
+
+impl<M: GuestMem> Model for OpenVf<M> {
+    ghost use Rattle.vf_unit.specs.Function.{State, IsTied};
+
+    ghost Value = { State };
+
+    ghost view = { λ f. record { memory = M.bytes f.memory; receive_0 = f.receive_0; receive_1 = f.receive_1; transmit_0 = f.transmit_0; transmit_1 = f.transmit_1; causes = f.causes; queue_vectors = f.queue_vectors; other_vector = f.other_vector; frames_received = f.frames_received; frames_sent = f.frames_sent } };
+
+    ghost invariant = { λ f. IsTied (record { memory = M.bytes f.memory; receive_0 = f.receive_0; receive_1 = f.receive_1; transmit_0 = f.transmit_0; transmit_1 = f.transmit_1; causes = f.causes; queue_vectors = f.queue_vectors; other_vector = f.other_vector; frames_received = f.frames_received; frames_sent = f.frames_sent }) };
+}
+
+impl<M: GuestMem> OpenVf<M> {
+    /// A function over this memory, with every register initial.
+    pub fn new(memory: M) -> OpenVf<M>
+        ensures { result ≡ initial (M.bytes memory) }
+    {
+        OpenVf {
+            memory,
+            receive_0: ReceiveQueue::new(),
+            receive_1: ReceiveQueue::new(),
+            transmit_0: TransmitQueue::new(),
+            transmit_1: TransmitQueue::new(),
+            causes: Causes::new(),
+            queue_vectors: 0,
+            other_vector: 0,
+            frames_received: 0,
+            frames_sent: 0,
+        }
+    }
+
+    /// Makes every register initial. The memory stays.
+    pub fn reset(&mut self)
+        ensures { self.new ≡ initial self.old.memory }
+    {
+        self.receive_0.reset();
+        self.receive_1.reset();
+        self.transmit_0.reset();
+        self.transmit_1.reset();
+        self.causes = Causes::new();
+        self.queue_vectors = 0;
+        self.other_vector = 0;
+        self.frames_received = 0;
+        self.frames_sent = 0;
+    }
+
+    /// Makes every register initial and every byte of the memory zero.
+    pub fn reopen(&mut self)
+        ensures { self.new ≡ initial (replicate (length self.old.memory) 0) }
+    {
+        self.reset();
+        self.memory.clear();
+    }
+
+    /// Reads the register at an offset.
+    pub fn reg_read(&mut self, offset: u32) -> u32
+        ensures value { result ≡ word_at_offset self.old offset }
+        ensures state { self.new ≡ after_read_at self.old offset }
+    {
+        self.read(register_of(offset))
+    }
+
+    /// Writes the register at an offset; the messages that this issues.
+    pub fn reg_write(&mut self, offset: u32, x: u32) -> u8
+        ensures state { self.new ≡ (written_at self.old offset x).state }
+        ensures messages { result ≡ (written_at self.old offset x).messages }
+        ensures below { result < 8 }
+    {
+        self.write(register_of(offset), x)
+    }
+
+    // Reads a register.
+    #[tactic(auto, unfolding(crate::specs::Access::word, crate::specs::Access::after_read))]
+    fn read(&mut self, register: Register) -> u32
+        ensures value { result ≡ word self.old register }
+        ensures state { self.new ≡ after_read self.old register }
+    {
+        match register {
+            Register::Links => LINK_UP,
+            Register::CauseRead => u32::from(self.causes.read_icr()),
+            Register::MaskSet => u32::from(self.causes.mask()),
+            Register::AutoClear => u32::from(self.causes.auto_clear()),
+            Register::QueueVectors => self.queue_vectors,
+            Register::OtherVector => self.other_vector,
+            Register::Receive(Queue::Q0, register) => self.receive_0.ring.read(register),
+            Register::Receive(Queue::Q1, register) => self.receive_1.ring.read(register),
+            Register::ReceiveBuffers(Queue::Q0) => self.receive_0.buffers | DROP_EN,
+            Register::ReceiveBuffers(Queue::Q1) => self.receive_1.buffers | DROP_EN,
+            Register::ReceiveControl(Queue::Q0) => self.receive_0.read_control(),
+            Register::ReceiveControl(Queue::Q1) => self.receive_1.read_control(),
+            Register::Transmit(Queue::Q0, register) => self.transmit_0.ring.read(register),
+            Register::Transmit(Queue::Q1, register) => self.transmit_1.ring.read(register),
+            Register::TransmitControl(Queue::Q0) => self.transmit_0.read_control(),
+            Register::TransmitControl(Queue::Q1) => self.transmit_1.read_control(),
+            Register::FramesReceived => self.frames_received,
+            Register::FramesSent => self.frames_sent,
+            Register::Nowhere | Register::Control | Register::CauseSet | Register::MaskClear => 0,
+        }
+    }
+
+    // Writes a register; the messages that this issues.
+    #[tactic(auto, unfolding(crate::specs::Access::register_written))]
+    fn write(&mut self, register: Register, x: u32) -> u8
+        ensures state { self.new ≡ (register_written self.old register x).state }
+        ensures messages { result ≡ (register_written self.old register x).messages }
+        ensures below { result < 8 }
+    {
+        match register {
+            Register::CauseSet => return self.causes.ics(x),
+            Register::MaskSet => return self.causes.ims(x),
+            Register::Control => {
+                if has_bit(u64::from(x), RST) {
+                    self.reset();
+                }
+            }
+            Register::CauseRead => self.causes.write_icr(x),
+            Register::MaskClear => self.causes.imc(x),
+            Register::AutoClear => self.causes.iac(x),
+            Register::QueueVectors => self.queue_vectors = x & VTIVAR_KEPT,
+            Register::OtherVector => self.other_vector = x & VTIVAR_MISC_KEPT,
+            Register::Receive(queue, register) => self.write_receive(queue, register, x),
+            Register::ReceiveBuffers(queue) => self.write_receive_buffers(queue, x),
+            Register::ReceiveControl(queue) => self.write_receive_control(queue, x),
+            Register::Transmit(queue, register) => self.write_transmit(queue, register, x),
+            Register::TransmitControl(queue) => self.write_transmit_control(queue, x),
+            Register::Nowhere | Register::Links | Register::FramesReceived | Register::FramesSent =>
+                {}
+        }
+        0
+    }
+
+    // Writes a register of a receive ring.
+    fn write_receive(&mut self, queue: Queue, register: RingRegister, x: u32)
+        ensures { self.new ≡ with_receive self.old queue (record (receive_of self.old queue) { ring = ring_written (receive_of self.old queue).ring register x }) }
+    {
+        match queue {
+            Queue::Q0 => self.receive_0.write_ring(register, x),
+            Queue::Q1 => self.receive_1.write_ring(register, x),
+        }
+    }
+
+    // Writes SRRCTL.
+    fn write_receive_buffers(&mut self, queue: Queue, x: u32)
+        ensures { self.new ≡ with_receive self.old queue (buffers_written (receive_of self.old queue) x) }
+    {
+        match queue {
+            Queue::Q0 => self.receive_0.write_buffers(x),
+            Queue::Q1 => self.receive_1.write_buffers(x),
+        }
+    }
+
+    // Writes RXDCTL.
+    fn write_receive_control(&mut self, queue: Queue, x: u32)
+        ensures { self.new ≡ with_receive self.old queue (receive_switched (length self.old.memory) (receive_of self.old queue) x) }
+    {
+        let memory_size = self.memory.size();
+        match queue {
+            Queue::Q0 => self.receive_0.write_control(x, memory_size),
+            Queue::Q1 => self.receive_1.write_control(x, memory_size),
+        }
+    }
+
+    // Writes a register of a transmit ring.
+    fn write_transmit(&mut self, queue: Queue, register: RingRegister, x: u32)
+        ensures { self.new ≡ with_transmit self.old queue (record (transmit_of self.old queue) { ring = ring_written (transmit_of self.old queue).ring register x }) }
+    {
+        match queue {
+            Queue::Q0 => self.transmit_0.ring.write(register, x),
+            Queue::Q1 => self.transmit_1.ring.write(register, x),
+        }
+    }
+
+    // Writes TXDCTL.
+    fn write_transmit_control(&mut self, queue: Queue, x: u32)
+        ensures { self.new ≡ with_transmit self.old queue (transmit_switched (length self.old.memory) (transmit_of self.old queue) x) }
+    {
+        let memory_size = self.memory.size();
+        match queue {
+            Queue::Q0 => self.transmit_0.write_control(x, memory_size),
+            Queue::Q1 => self.transmit_1.write_control(x, memory_size),
+        }
+    }
+
+    /// Places a frame in receive queue 0; the messages that this issues. `loopback` says that another pool sent it.
+    #[tactic(auto, unfolding(crate::specs::Function::delivered))]
+    pub fn deliver(&mut self, frame: &FrameBuf, loopback: bool) -> u8
+        ensures state { self.new ≡ (delivered loopback frame.now self.old).state }
+        ensures messages { result ≡ (delivered loopback frame.now self.old).messages }
+        ensures below { result < 8 }
+    {
+        let config = RxConfig {
+            buffer_size: 1024 * (self.receive_0.buffers % 32) as usize,
+            strip_tag: self.receive_0.strips_tag,
+        };
+        let placed = place(
+            &mut self.memory,
+            &mut self.receive_0.ring,
+            &config,
+            frame,
+            loopback,
+        );
+        if placed != Placed::Put {
+            return 0;
+        }
+        self.frames_received = self.frames_received.wrapping_add(1);
+        self.causes.raise_by((self.queue_vectors % 256) as u8)
+    }
+
+    /// Takes the descriptor at the head of a transmit queue. A frame that ends with it is left in `frame`, which else stays
+    /// as it was.
+    #[tactic(auto, unfolding(crate::specs::Function::served))]
+    pub fn serve(
+        &mut self,
+        queue: Queue,
+        frame: &mut FrameBuf,
+        rule: PortVlan,
+        limit: FrameLimit,
+    ) -> Service
+        ensures state { self.new ≡ (served limit rule self.old queue).state }
+        ensures messages { result.messages ≡ (served limit rule self.old queue).messages }
+        ensures outcome { told result.outcome frame.new ≡ (service limit rule self.old queue).outcome }
+        ensures frame { frame.new ≡ lent_after (service limit rule self.old queue).outcome frame.old }
+        ensures below { result.messages < 8 }
+    {
+        let served = self.fetch_from(queue, frame, rule, limit);
+        let messages = if served.reported {
+            let vector = match queue {
+                Queue::Q0 => self.queue_vectors / 256 % 256,
+                Queue::Q1 => self.queue_vectors / 16_777_216 % 256,
+            };
+            self.causes.raise_by(vector as u8)
+        } else {
+            0
+        };
+        Service {
+            outcome: served.outcome,
+            messages,
+        }
+    }
+
+    // Takes the descriptor at the head of a transmit queue, and raises nothing.
+    fn fetch_from(
+        &mut self,
+        queue: Queue,
+        frame: &mut FrameBuf,
+        rule: PortVlan,
+        limit: FrameLimit,
+    ) -> Served
+        ensures state { self.new ≡ with_service self.old queue (service limit rule self.old queue) }
+        ensures reported { result.reported ≡ (service limit rule self.old queue).reported }
+        ensures outcome { told result.outcome frame.new ≡ (service limit rule self.old queue).outcome }
+        ensures frame { frame.new ≡ lent_after (service limit rule self.old queue).outcome frame.old }
+    {
+        match queue {
+            Queue::Q0 => fetch_into(
+                &mut self.memory,
+                &mut self.transmit_0.ring,
+                &mut self.transmit_0.pending,
+                frame,
+                rule,
+                limit,
+            ),
+            Queue::Q1 => fetch_into(
+                &mut self.memory,
+                &mut self.transmit_1.ring,
+                &mut self.transmit_1.pending,
+                frame,
+                rule,
+                limit,
+            ),
+        }
+    }
+
+    /// Counts one more frame sent, modulo 2^32.
+    pub fn sent(&mut self)
+        ensures { self.new ≡ record self.old { frames_sent = (self.old.frames_sent + 1) % 2 ^ 32 } }
+    {
+        self.frames_sent = self.frames_sent.wrapping_add(1);
+    }
+
+    /// The size of the memory, in bytes.
+    #[inline]
+    pub fn memory_size(&self) -> u64
+        ensures { result ≡ length self.now.memory }
+    {
+        self.memory.size()
+    }
+
+    /// Copies bytes of the memory.
+    pub fn mem_read(&self, at: u64, out: &mut [u8])
+        requires { at + length out.old ≤ length self.now.memory }
+        ensures { out.new ≡ slice_range self.now.memory at (at + length out.old) }
+    {
+        read_bytes(&self.memory, at, out);
+    }
+
+    /// Writes bytes of the memory.
+    pub fn mem_write(&mut self, at: u64, source: &[u8])
+        requires { at + length source.now ≤ length self.old.memory }
+        ensures { self.new ≡ record self.old { memory = overwrite at source.now self.old.memory } }
+    {
+        write_bytes(&mut self.memory, at, source);
+    }
+}

@@ -1,0 +1,179 @@
+//! A virtual function, closed or open.
+ghost use Rattle.std.specs.Prelude.{◌≡◌, ℕ, ◌<◌, length, Some, None, IfSome, if◌then◌else◌};
+ghost use Rattle.std.specs.Option.{option_map};
+ghost use Rattle.tx_desc.specs.Lent.{told};
+ghost use Rattle.vf_unit.specs.Unit.{Function, Closed, Open, size_of, is_open, opened, ended, reset, read_of, after_read_of, written, given, serviced, service_outcome, lent_to, one_more_sent, has_range, bytes_at, memory_written};
+
+use crate::open::{OpenVf, Service};
+use crate::registers::Queue;
+use guest_memory::GuestMem;
+use std::marker::Model;
+use wire_frame::{FrameBuf, FrameLimit, PortVlan};
+
+/// A virtual function, closed or open. Each call says what it does to one that is open; a closed one stays as it is.
+#[derive(Drop)]
+pub struct VfUnit<M: GuestMem> {
+    inner: OpenVf<M>,
+    is_open: bool,
+}
+
+impl<M: GuestMem> Model for VfUnit<M> {
+    ghost use Rattle.std.specs.Prelude.{length, if◌then◌else◌};
+    ghost use Rattle.vf_unit.specs.Unit.{Function, Closed, Open};
+
+    ghost Value = { Function };
+
+    ghost view = { λ u. if u.is_open then Open u.inner else Closed (length u.inner.memory) };
+}
+
+impl<M: GuestMem> VfUnit<M> {
+    /// A closed function over this memory.
+    pub fn new(memory: M) -> VfUnit<M>
+        ensures { result ≡ Closed (length (M.bytes memory)) }
+    {
+        VfUnit {
+            inner: OpenVf::new(memory),
+            is_open: false,
+        }
+    }
+
+    /// Whether it is open.
+    #[inline]
+    pub fn is_open(&self) -> bool
+        ensures { result ≡ is_open self.now }
+    {
+        self.is_open
+    }
+
+    /// The size of its memory, in bytes.
+    #[inline]
+    pub fn memory_size(&self) -> u64
+        ensures { result ≡ size_of self.now }
+    {
+        self.inner.memory_size()
+    }
+
+    /// Opens it: every register is initial and every byte of the memory zero, whatever it was.
+    pub fn open(&mut self)
+        ensures { self.new ≡ opened self.old }
+    {
+        self.inner.reopen();
+        self.is_open = true;
+    }
+
+    /// Closes it.
+    pub fn end(&mut self)
+        ensures { self.new ≡ ended self.old }
+    {
+        self.is_open = false;
+    }
+
+    /// Makes every register initial (SR-IOV 1.1, function-level reset). The memory stays.
+    pub fn reset(&mut self)
+        ensures { self.new ≡ reset self.old }
+    {
+        if self.is_open {
+            self.inner.reset();
+        }
+    }
+
+    /// Reads the register at an offset. An offset outside the map reads 0.
+    #[tactic(auto, unfolding(crate::specs::Unit::read_of, crate::specs::Unit::after_read_of))]
+    pub fn reg_read(&mut self, offset: u32) -> Option<u32>
+        ensures value { result ≡ read_of self.old offset }
+        ensures function { self.new ≡ after_read_of self.old offset }
+    {
+        if self.is_open {
+            Some(self.inner.reg_read(offset))
+        } else {
+            None
+        }
+    }
+
+    /// Writes the register at an offset; the messages that this issues. A write to an offset outside the map is ignored.
+    pub fn reg_write(&mut self, offset: u32, x: u32) -> Option<u8>
+        ensures function { self.new ≡ (written self.old offset x).function }
+        ensures messages { result ≡ (if is_open self.old then Some (written self.old offset x).messages else None) }
+        ensures below { IfSome result (λ messages. messages < 8) }
+    {
+        if self.is_open {
+            Some(self.inner.reg_write(offset, x))
+        } else {
+            None
+        }
+    }
+
+    /// Places a frame in receive queue 0; the messages that this issues. `loopback` says that another pool sent it.
+    pub fn deliver(&mut self, frame: &FrameBuf, loopback: bool) -> u8
+        ensures function { self.new ≡ (given loopback frame.now self.old).function }
+        ensures messages { result ≡ (given loopback frame.now self.old).messages }
+        ensures below { result < 8 }
+    {
+        if self.is_open {
+            self.inner.deliver(frame, loopback)
+        } else {
+            0
+        }
+    }
+
+    /// Takes the descriptor at the head of a transmit queue, under the port's VLAN rule and the limit on frames. A frame
+    /// that ends with it is left in `frame`, which else stays as it was.
+    pub fn serve(
+        &mut self,
+        queue: Queue,
+        frame: &mut FrameBuf,
+        rule: PortVlan,
+        limit: FrameLimit,
+    ) -> Option<Service>
+        ensures function { self.new ≡ (serviced limit rule self.old queue).function }
+        ensures outcome { option_map (λ s. told s.outcome frame.new) result ≡ service_outcome limit rule self.old queue }
+        ensures frame { frame.new ≡ lent_to (service_outcome limit rule self.old queue) frame.old }
+        ensures messages { option_map (λ s. s.messages) result ≡ (if is_open self.old then Some (serviced limit rule self.old queue).messages else None) }
+        ensures below { IfSome result (λ s. s.messages < 8) }
+    {
+        if self.is_open {
+            Some(self.inner.serve(queue, frame, rule, limit))
+        } else {
+            None
+        }
+    }
+
+    /// Counts one more frame sent, modulo 2^32.
+    pub fn sent(&mut self)
+        ensures { self.new ≡ one_more_sent self.old }
+    {
+        if self.is_open {
+            self.inner.sent();
+        }
+    }
+
+    /// Copies bytes of the memory into `out`, where it is open and they lie inside; tells whether it did.
+    #[tactic(auto, unfolding(crate::specs::Unit::bytes_at))]
+    pub fn mem_read(&self, at: u64, out: &mut [u8]) -> bool
+        ensures done { result ≡ has_range self.now at (length out.old) }
+        ensures bytes { out.new ≡ bytes_at self.now at out.old }
+    {
+        let len = out.len() as u64;
+        let size = self.inner.memory_size();
+        if !self.is_open || len > size || at > size - len {
+            return false;
+        }
+        self.inner.mem_read(at, out);
+        true
+    }
+
+    /// Writes bytes of the memory, where it is open and they lie inside; tells whether it did.
+    #[tactic(auto, unfolding(crate::specs::Unit::memory_written))]
+    pub fn mem_write(&mut self, at: u64, source: &[u8]) -> bool
+        ensures done { result ≡ has_range self.old at (length source.now) }
+        ensures function { self.new ≡ memory_written self.old at source.now }
+    {
+        let len = source.len() as u64;
+        let size = self.inner.memory_size();
+        if !self.is_open || len > size || at > size - len {
+            return false;
+        }
+        self.inner.mem_write(at, source);
+        true
+    }
+}

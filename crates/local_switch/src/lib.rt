@@ -1,0 +1,15 @@
+//! Who receives a frame, and whether it leaves for the wire.
+//!
+//! [`route`] asks the settings of the physical function alone (82599 datasheet, packet switching): a frame from the wire is
+//! for the pools that accept it, or else for the default pool; a frame of a pool goes to the wire, and under loopback to the
+//! other pools that accept it. It stands on `pool_filter` and takes no memory.
+#![tactic(auto)]
+
+pub mod routing;
+pub mod ways;
+
+pub use routing::route;
+pub use ways::{Route, Source};
+
+#[cfg(test)]
+mod tests;

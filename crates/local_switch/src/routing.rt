@@ -1,0 +1,77 @@
+//! Routing one frame.
+ghost use Rattle.std.specs.Prelude.{◌≡◌, ℕ, ◌<◌, ◌&&◌, not, ◌==◌};
+ghost use Rattle.wire_frame.specs.Bits.{has_bit};
+ghost use Rattle.local_switch.specs.Switch.{receives, leaves, takes_from_wire, takes_from_pool, is_for_the_wire};
+
+use crate::ways::{Route, Source};
+use pool_filter::{Tables, accept_mask};
+use wire_frame::{AddressKind, FrameBuf, PoolId};
+
+/// Where a frame goes. That its sender may send it is not asked here.
+#[tactic(auto, using(wire_frame::proofs::BitLemmas::has_bit_and), unfolding(crate::specs::Switch::receives))]
+pub fn route(tables: &Tables, from: Source, frame: &FrameBuf) -> Route
+    ensures local { (p : ℕ) → p < 64 → has_bit result.local p ≡ receives tables.now from frame.now p }
+    ensures wire { result.wire ≡ leaves tables.now from frame.now }
+{
+    let receiving = tables.receiving_pools();
+    match from {
+        Source::Wire => Route {
+            local: from_wire(tables, frame) & receiving,
+            wire: false,
+        },
+        Source::Pool(pool) => Route {
+            local: from_pool(tables, pool, frame) & receiving,
+            wire: !tables.loops_back() || is_for_the_wire(tables, frame),
+        },
+    }
+}
+
+// The pools that a frame from the wire is for: those that accept it, or else the default pool.
+#[tactic(auto, using(wire_frame::proofs::BitLemmas::has_bit_zero), unfolding(crate::specs::Switch::takes_from_wire))]
+fn from_wire(tables: &Tables, frame: &FrameBuf) -> u64
+    ensures { (p : ℕ) → p < 64 → has_bit result p ≡ takes_from_wire tables.now frame.now p }
+{
+    let accepting = accept_mask(tables, frame);
+    if accepting != 0 {
+        return accepting;
+    }
+    match tables.default_pool() {
+        Some(pool) => bit_of(pool),
+        None => 0,
+    }
+}
+
+// The pools that a frame of a pool is for: under loopback all others that accept it.
+#[tactic(auto, using(wire_frame::proofs::BitLemmas::has_bit_zero), unfolding(crate::specs::Switch::takes_from_pool))]
+fn from_pool(tables: &Tables, sender: PoolId, frame: &FrameBuf) -> u64
+    ensures { (p : ℕ) → p < 64 → has_bit result p ≡ takes_from_pool tables.now sender frame.now p }
+{
+    if !tables.loops_back() {
+        return 0;
+    }
+    without(accept_mask(tables, frame), sender)
+}
+
+// Whether the wire may have someone else whom the frame is for.
+fn is_for_the_wire(tables: &Tables, frame: &FrameBuf) -> bool
+    ensures { result ≡ is_for_the_wire tables.now frame.now }
+{
+    let destination = frame.dst();
+    destination.kind() != AddressKind::Unicast || !tables.is_held(destination)
+}
+
+// The set of one pool.
+#[tactic(auto, using(crate::proofs::PoolBits::has_bit_one))]
+fn bit_of(pool: PoolId) -> u64
+    ensures { (p : ℕ) → p < 64 → has_bit result p ≡ (pool == p) }
+{
+    1 << pool.get()
+}
+
+// The pools but one.
+#[tactic(auto, using(crate::proofs::PoolBits::has_bit_without))]
+fn without(pools: u64, pool: PoolId) -> u64
+    ensures { (p : ℕ) → p < 64 → has_bit result p ≡ (has_bit pools p && not (pool == p)) }
+{
+    pools & !(1 << pool.get())
+}

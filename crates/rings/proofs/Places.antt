@@ -1,5 +1,5 @@
 -- The places that a ring's device owns.
-use Rattle.std.proofs.Common.{◌≡◌, ℕ, zero, suc, ◌+◌, ◌-◌, ◌*◌, ◌%◌, ◌<◌, ◌≤◌, List, [], ◌∷◌, length, get_or, ◌≢◌, ⊎_elim, Bool, true, false, cond, IsTrue, refl, sym, ◌∙◌, ap, arith, add-one}
+use Rattle.std.proofs.Common.{◌≡◌, ℕ, zero, suc, ◌+◌, ◌-◌, ◌%◌, ◌<◌, ◌≤◌, [], length, get_or, ◌≢◌, ⊎_elim, Bool, true, false, cond, refl, ◌∙◌, ap, arith}
 use Rattle.std.proofs.lemmas.Bool.{cases_lt}
 use Rattle.std.proofs.Math.Nat.{mod-eq-sub-mod, mod-eq_of_lt, mod-lt}
 use Rattle.rings.specs.Ring.{RingState, places_from, owned, owned_count, IsRing, IsValidRing}

@@ -1,5 +1,5 @@
 -- What register accesses do to an open virtual function.
-use Rattle.std.specs.Prelude.{ℕ, ◌+◌, ◌*◌, ◌/◌, ◌%◌, ◌^◌, Bool, true, ◌&&◌, ◌==◌, nat_le, List, [], length, bit_and, if◌then◌else◌}
+use Rattle.std.specs.Prelude.{ℕ, ◌+◌, ◌/◌, ◌%◌, ◌^◌, Bool, true, ◌&&◌, ◌==◌, nat_le, [], length, bit_and, if◌then◌else◌}
 use Rattle.wire_frame.specs.Bits.{has_bit, with_bit}
 use Rattle.rings.specs.Ring.{RingState, ring_word, ring_written, switched}
 use Rattle.tx_desc.specs.Transmit.{Gathered}

@@ -1,9 +1,9 @@
 -- An open virtual function: its state, what a frame that comes does, and what the service of a transmit queue does.
-use Rattle.std.specs.Prelude.{ℕ, ◌+◌, ◌*◌, ◌%◌, ◌^◌, ◌≤◌, Bool, true, false, List, [], length, if◌then◌else◌, IsTrue}
+use Rattle.std.specs.Prelude.{ℕ, ◌+◌, ◌*◌, ◌%◌, ◌^◌, ◌≤◌, Bool, true, false, List, [], length, IsTrue}
 use Rattle.wire_frame.specs.Bits.{field}
 use Rattle.wire_frame.specs.declared.vlan.PortVlan.{PortVlan}
-use Rattle.rings.specs.Ring.{RingState, no_ring, LiesInside}
-use Rattle.tx_desc.specs.Transmit.{Gathering, Gathered, Service, fetch}
+use Rattle.rings.specs.Ring.{no_ring, LiesInside}
+use Rattle.tx_desc.specs.Transmit.{Gathered, Service, fetch}
 use Rattle.rx_desc.specs.declared.placing.Placed.{Placed}
 use Rattle.rx_desc.specs.declared.placing.Placed.TheVariants.{Put, NoRoom, Faulted}
 use Rattle.rx_desc.specs.Receive.{Delivery, deliver}

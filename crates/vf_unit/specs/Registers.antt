@@ -1,8 +1,6 @@
 -- The register map of a virtual function.
 use Rattle.std.specs.Prelude.{ℕ, List, [], ◌∷◌, ◌==◌, if◌then◌else◌}
-use Rattle.vf_unit.specs.declared.registers.Queue.{Queue}
 use Rattle.vf_unit.specs.declared.registers.Queue.TheVariants.{Q0, Q1}
-use Rattle.rings.specs.declared.ring.RingRegister.{RingRegister}
 use Rattle.rings.specs.declared.ring.RingRegister.TheVariants.{BaseLow, BaseHigh, Length, Head, Tail}
 use Rattle.vf_unit.specs.declared.registers.Register.{Register}
 use Rattle.vf_unit.specs.declared.registers.Register.TheVariants.{Nowhere, Control, Links, CauseRead, CauseSet, MaskSet, MaskClear, AutoClear, QueueVectors, OtherVector, Receive, ReceiveBuffers, ReceiveControl, Transmit, TransmitControl, FramesReceived, FramesSent}

@@ -1,5 +1,5 @@
 -- Bits of what the code computes: or, and, shifts, two words as one, a loop that sets bits.
-use Rattle.std.proofs.Common.{arith, ◌≡◌, ◌≢◌, ℕ, zero, suc, ◌+◌, ◌-◌, ◌*◌, ◌/◌, ◌%◌, ◌^◌, ◌<◌, ◌≤◌, min, max, Bool, true, false, not, ◌&&◌, ◌||◌, List, [], ◌∷◌, refl, sym, ap, ◌∙◌, eqb, eqb-true, add-one, ltb, ltb-true, get_or, bit_and, bit_or, ⊎_elim}
+use Rattle.std.proofs.Common.{arith, ◌≡◌, ℕ, zero, suc, ◌+◌, ◌-◌, ◌*◌, ◌/◌, ◌%◌, ◌^◌, ◌<◌, ◌≤◌, min, max, Bool, true, false, ◌&&◌, ◌||◌, [], ◌∷◌, refl, sym, ap, ◌∙◌, eqb, eqb-true, add-one, ltb, get_or, bit_and, bit_or, ⊎_elim}
 use Rattle.std.specs.Int.{bit_at, w64}
 use Rattle.std.specs.List.{list_any, range_with_len}
 use Rattle.std.proofs.lemmas.Bool.Decides.{nat_tests}
@@ -7,7 +7,7 @@ use Rattle.std.proofs.lemmas.Bool.{eqb-false, cases_lt}
 use Rattle.std.proofs.Math.Bool.{or-true, or-false, or_assoc}
 use Rattle.std.proofs.lemmas.Nat.{or_shifted, or_comm}
 use Rattle.std.proofs.lemmas.Nat.Bits.{bit_at_or, bit_at_and, bit_at-lt, bit_at-zero, bit_at_ones, bit_at_set_same, bit_at_set_other, bit_at_cat_low, bit_at_cat_high, shr_and_one}
-use Rattle.wire_frame.specs.Bits.{has_bit, has_bit_in, two_words}
+use Rattle.wire_frame.specs.Bits.{has_bit, has_bit_in}
 
 max-one : (x y : ℕ) → x < 2 → y < 2 → eqb (max x y) 1 ≡ (eqb x 1 || eqb y 1)
 max-one zero zero h k = refl

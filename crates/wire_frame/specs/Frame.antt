@@ -1,5 +1,5 @@
 -- An Ethernet frame without FCS: destination, source and the rest.
-use Rattle.std.specs.Prelude.{◌≡◌, ℕ, ◌+◌, ◌*◌, ◌/◌, ◌%◌, ◌≤◌, ◌++◌, List, [], ◌∷◌, length, take, drop, slice_index, slice_range, Option, Some, None, Bool, ◌==◌, ◌&&◌, ◌||◌, not, nat_le, if◌then◌else◌, IsTrue}
+use Rattle.std.specs.Prelude.{ℕ, ◌+◌, ◌*◌, ◌/◌, ◌%◌, ◌≤◌, ◌++◌, List, [], ◌∷◌, length, take, drop, slice_index, slice_range, Option, Some, None, Bool, ◌==◌, ◌&&◌, ◌||◌, not, nat_le, if◌then◌else◌, IsTrue}
 
 abbrev pub destination : List ℕ → List ℕ
 destination f = take 6 f

@@ -1,5 +1,5 @@
 -- A row of a register map: words of 32 bits, where they stand, and what a write keeps.
-use Rattle.std.specs.Prelude.{ℕ, ◌+◌, ◌-◌, ◌*◌, ◌/◌, ◌%◌, Bool, ◌&&◌, ◌==◌, nat_le, nat_lt, List, Option, Some, None, slice_index, slice_set, bit_and, if◌then◌else◌}
+use Rattle.std.specs.Prelude.{ℕ, ◌-◌, ◌/◌, ◌%◌, Bool, ◌&&◌, ◌==◌, nat_le, nat_lt, List, Option, Some, None, slice_index, slice_set, bit_and, if◌then◌else◌}
 use Rattle.std.specs.Option.{option_or}
 use Rattle.wire_frame.specs.declared.row.Row.{Row}
 

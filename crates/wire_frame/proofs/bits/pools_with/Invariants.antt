@@ -1,4 +1,4 @@
-use Rattle.std.proofs.Common.{◌≡◌, ℕ, ◌<◌, ltb, ◌&&◌, get_or}
+use Rattle.std.proofs.Common.{◌≡◌, ℕ, ltb, ◌&&◌, get_or}
 use Rattle.wire_frame.specs.Bits.{has_bit}
 use Rattle.wire_frame.proofs.bits.pools_with.Given as goal
 

@@ -1,6 +1,4 @@
-use Rattle.std.proofs.Common.{rules, ◌≡◌, ◌≤◌, ◌<◌, ◌+◌, ℕ, ◌∙◌, arith, length}
-use Rattle.std.proofs.lemmas.Grind.{common_steps}
-use Rattle.rings.specs.Ring.{owned, owned_count, IsValidRing}
+use Rattle.std.proofs.Common.{arith}
 use Rattle.rings.proofs.Places.{length-owned, owned_count-lt}
 use Rattle.rings.proofs.ring.Ring.advance.Goals as goal
 

@@ -1,5 +1,5 @@
 -- The number of places from the head to the tail is the length of the list of them.
-use Rattle.std.proofs.Common.{rules, ◌≡◌, ◌∙◌, arith}
+use Rattle.std.proofs.Common.{arith}
 use Rattle.std.proofs.lemmas.Grind.{common_steps}
 use Rattle.rings.proofs.Places.{length-owned}
 use Rattle.rings.proofs.ring.Ring.available.Goals as goal

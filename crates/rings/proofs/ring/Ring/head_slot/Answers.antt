@@ -1,6 +1,4 @@
 -- Where head and tail differ, the device owns a descriptor.
-use Rattle.std.proofs.Common.{◌≡◌, ◌≤◌, arith, length}
-use Rattle.rings.specs.Ring.{owned, owned_count}
 use Rattle.rings.proofs.Places.{length-owned, owned_count-some}
 use Rattle.rings.proofs.ring.Ring.head_slot.Goals as goal
 

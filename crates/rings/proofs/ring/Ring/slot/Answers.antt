@@ -1,6 +1,5 @@
-use Rattle.std.proofs.Common.{rules, ◌≡◌, ◌≤◌, ◌<◌, ◌+◌, ◌*◌, ℕ, ◌∙◌, arith, length, slice_index}
+use Rattle.std.proofs.Common.{arith}
 use Rattle.std.proofs.lemmas.Grind.{common_steps}
-use Rattle.rings.specs.Ring.{owned, owned_count, IsValidRing}
 use Rattle.rings.proofs.Places.{owned_at}
 use Rattle.rings.proofs.ring.Ring.slot.Goals as goal
 

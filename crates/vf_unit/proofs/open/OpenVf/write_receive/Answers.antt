@@ -1,5 +1,4 @@
 -- A write of a register of the ring leaves it inside the memory.
-use Rattle.vf_unit.specs.Function.{IsTied}
 use Rattle.vf_unit.proofs.open.OpenVf.write_receive.Goals as goal
 
 pub invariant_of-self : goal.invariant_of-self

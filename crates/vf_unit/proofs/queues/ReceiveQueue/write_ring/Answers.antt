@@ -1,6 +1,4 @@
 -- A write of a register of the ring leaves it inside the memory.
-use Rattle.std.proofs.Common.{◌≡◌}
-use Rattle.vf_unit.specs.Function.{IsReceiving}
 use Rattle.vf_unit.proofs.queues.ReceiveQueue.write_ring.Goals as goal
 
 pub returns-clause-kept : goal.returns-clause-kept

@@ -40,6 +40,41 @@ fn reads_what_was_written(rt: HostRuntime) -> Result<(), Fail> {
     Ok(())
 }
 
+// Eight bytes of a memory of 64 KiB, read over bytes that are not zero.
+fn eight<M: GuestMem>(memory: &M, addr: u64) -> [u8; 8] {
+    let mut bytes = [0xFFu8; 8];
+    if memory.size() == 65_536 && addr <= 65_528 {
+        read_bytes(memory, addr, &mut bytes);
+    }
+    bytes
+}
+
+#[test]
+fn has_zeros_where_nothing_was_written(rt: HostRuntime) -> Result<(), Fail> {
+    let mut memory = FlatMem::new(rt.alloc(), 65_536)?;
+    assert_eq!(rt; memory.size(), 65_536);
+    assert_eq!(rt; eight(&memory, 0), [0; 8]);
+    // A write high up: before its bytes, over both of its ends, past them, and at the end of the memory.
+    write_bytes(&mut memory, 0x8004, &[1, 2, 3, 4]);
+    assert_eq!(rt; eight(&memory, 0x7FFC), [0; 8]);
+    assert_eq!(rt; eight(&memory, 0x8000), [0, 0, 0, 0, 1, 2, 3, 4]);
+    assert_eq!(rt; eight(&memory, 0x8006), [3, 4, 0, 0, 0, 0, 0, 0]);
+    assert_eq!(rt; eight(&memory, 0x8008), [0; 8]);
+    assert_eq!(rt; eight(&memory, 65_528), [0; 8]);
+    // A write that begins among its bytes and goes on past them, and one that lies within.
+    write_bytes(&mut memory, 0x8006, &[5, 6, 7]);
+    write_bytes(&mut memory, 0x8005, &[9]);
+    assert_eq!(rt; eight(&memory, 0x8002), [0, 0, 1, 9, 5, 6, 7, 0]);
+    memory.clear();
+    assert_eq!(rt; memory.size(), 65_536);
+    assert_eq!(rt; eight(&memory, 0x8004), [0; 8]);
+    // What was there before does not come back in the gap below a later write.
+    write_bytes(&mut memory, 65_535, &[8]);
+    assert_eq!(rt; eight(&memory, 0x8004), [0; 8]);
+    assert_eq!(rt; eight(&memory, 65_528), [0, 0, 0, 0, 0, 0, 0, 8]);
+    Ok(())
+}
+
 // Sets the first word, by whatever memory it is; what the memory then holds there.
 fn first_word<M: GuestMem>(mut memory: M) -> Option<u64> {
     if memory.size() < 8 {

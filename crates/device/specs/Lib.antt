@@ -1,0 +1,5 @@
+pub mod Act
+pub mod Lone
+pub mod Outcome
+pub mod Resets
+pub mod World

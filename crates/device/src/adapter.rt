@@ -1,0 +1,355 @@
+//! All that a device is but the frame that it lends for services.
+ghost use Rattle.std.specs.Prelude.{◌≡◌, ℕ, ◌<◌, ◌≤◌, true, false, length, map, slice_index, slice_index_or, if◌then◌else◌, Some, None};
+ghost use Rattle.wire_frame.specs.Bits.{has_bit};
+ghost use Rattle.vf_unit.specs.Unit.{Closed, ended};
+ghost use Rattle.pool_filter.specs.Own.{own};
+ghost use Rattle.device.specs.Act.{serve, is_sent, is_done};
+ghost use Rattle.device.specs.Outcome.{IsShort, reply_of, went_out};
+ghost use Rattle.device.specs.World.{is_looped, offered, told, switched, silently, with_function, own_step, service, step, sent_by};
+ghost use Rattle.wire_frame.specs.Fault.{number_of};
+
+use crate::event::{Answer, Event, Reply};
+use crate::outcome::{Outcome, reply};
+use crate::refusal::{PF_SPACE, act, is_bad_offset};
+use crate::resets::{clear_resets, read_resets};
+use crate::wire_out::WireOut;
+use anti_spoof::honest;
+use guest_memory::GuestMem;
+use local_switch::{Source, route};
+use pool_filter::Tables;
+use std::marker::Model;
+use tx_desc::Progress;
+use vf_unit::{Queue, VfUnit};
+use wire_frame::{Fault, FrameBuf, FrameLimit, PoolId, has_bit};
+
+/// The settings, the virtual functions, and the frames that went to the wire.
+#[derive(Drop)]
+pub struct Adapter<M: GuestMem> {
+    pub limit: FrameLimit,
+    pub tables: Tables,
+    pub resets: u64,
+    pub units: Vec<VfUnit<M>>,
+    pub wire: WireOut,
+}
+
+impl<M: GuestMem> Model for Adapter<M> {
+    ghost use Rattle.std.specs.Prelude.{length, ◌≤◌};
+    ghost use Rattle.device.specs.World.{World};
+
+    ghost Value = { World };
+
+    ghost view = { λ a. record { limit = a.limit; settings = a.tables; resets = a.resets; functions = a.units.items; wire = a.wire } };
+
+    ghost invariant = { λ a. length a.units.items ≤ 64 };
+}
+
+// Whether a frame comes from a pool.
+fn is_looped(from: &Source) -> bool
+    ensures { result ≡ is_looped from.now }
+{
+    matches!(from, Source::Pool(_))
+}
+
+// Delivers a frame to each function in a set of pools; the messages that each pool got.
+fn deliver_to_all<M: GuestMem>(
+    units: &mut [VfUnit<M>],
+    pools: u64,
+    loopback: bool,
+    frame: &FrameBuf,
+) -> [u8; 64]
+    requires { length units.old ≤ 64 }
+    ensures functions { (r : ℕ) → r < length units.old →
+        slice_index_or units.new r (Closed 0) ≡ (offered (has_bit pools r) loopback frame.now (slice_index_or units.old r (Closed 0))).function }
+    ensures same_length { length units.new ≡ length units.old }
+    ensures pools { length result ≡ 64 }
+    ensures messages { (r : ℕ) → r < 64 →
+        slice_index result r ≡ (offered (has_bit pools r) loopback frame.now (slice_index_or units.old r (Closed 0))).messages }
+{
+    let mut raised = [0; 64];
+    for i in 0..units.len() {
+        if has_bit(pools, i as u32) {
+            raised[i] = units[i].deliver(frame, loopback);
+        }
+    }
+    raised
+}
+
+// Closes every function.
+fn end_all<M: GuestMem>(units: &mut [VfUnit<M>])
+    ensures { units.new ≡ map ended units.old }
+{
+    for unit in units.iter_mut() {
+        unit.end();
+    }
+}
+
+// Serves a queue of a function, by the function's own settings alone. The messages that this issues are left in `messages`,
+// and a frame that is sent in `frame`.
+#[tactic(auto, unfolding(crate::specs::Act::serve))]
+fn serve_queue<M: GuestMem>(
+    tables: &Tables,
+    limit: FrameLimit,
+    pool: PoolId,
+    unit: &mut VfUnit<M>,
+    queue: Queue,
+    frame: &mut FrameBuf,
+    messages: &mut u8,
+) -> Outcome
+    requires silent { messages.old ≡ 0 }
+    ensures function { unit.new ≡ (serve limit (own tables.now pool) unit.old queue).function }
+    ensures reply { reply_of unit.new result ≡ (serve limit (own tables.now pool) unit.old queue).reply }
+    ensures messages { messages.new ≡ (serve limit (own tables.now pool) unit.old queue).messages }
+    ensures sent { (serve limit (own tables.now pool) unit.old queue).sent ≡ (if went_out result then Some frame.new else None) }
+    ensures told { went_out result ≡ true → (serve limit (own tables.now pool) unit.old queue).reply ≡ Reply.Sent }
+    ensures untold { went_out result ≡ is_sent (serve limit (own tables.now pool) unit.old queue).reply }
+    ensures short { IsShort result }
+{
+    if !unit.is_open() {
+        return Outcome::Refused(Fault::NotOpen);
+    }
+    if !tables.may_transmit(pool) {
+        return Outcome::Idle;
+    }
+    match unit.serve(queue, frame, tables.port_vlan(pool), limit) {
+        None => Outcome::Refused(Fault::NotOpen),
+        Some(service) => {
+            *messages = service.messages;
+            match service.outcome {
+                Progress::Idle => Outcome::Idle,
+                Progress::More => Outcome::More,
+                Progress::Dropped => Outcome::Dropped,
+                Progress::Faulted => Outcome::Faulted,
+                Progress::Ended => {
+                    if !honest(tables, pool, frame) {
+                        return Outcome::Dropped;
+                    }
+                    unit.sent();
+                    Outcome::Sent
+                }
+            }
+        }
+    }
+}
+
+// An answer without messages.
+#[tactic(auto, unfolding(crate::specs::World::silence))]
+fn silent(reply: Reply) -> Answer
+    ensures { result ≡ silently reply }
+{
+    Answer {
+        reply,
+        raised: [0; 64],
+    }
+}
+
+// The answer to an event that is refused.
+fn refused(fault: Fault) -> Answer
+    ensures { result ≡ silently (Reply.Refused (number_of fault)) }
+{
+    silent(Reply::Refused(fault.number()))
+}
+
+impl<M: GuestMem> Adapter<M> {
+    /// How many virtual functions there are.
+    pub fn functions(&self) -> usize
+        ensures count { result ≡ length self.now.functions }
+        ensures few { length self.now.functions ≤ 64 }
+    {
+        self.units.len()
+    }
+
+    // Switches a frame; the messages that this issues.
+    fn switch(&mut self, from: Source, frame: &FrameBuf) -> [u8; 64]
+        ensures world { self.new ≡ switched self.old from frame.now }
+        ensures messages { result ≡ told self.old.settings self.old.functions from frame.now }
+    {
+        let loopback = is_looped(&from);
+        let route = route(&self.tables, from, frame);
+        self.wire.push_where(route.wire, frame);
+        deliver_to_all(&mut self.units, route.local, loopback, frame)
+    }
+
+    // An event of a function's own, but for a service.
+    #[tactic(auto, unfolding(crate::specs::World::silence))]
+    fn own_step(&mut self, pool: u8, event: &Event) -> Answer
+        ensures world { self.new ≡ (own_step self.old pool event.now).world }
+        ensures answer { result ≡ (own_step self.old pool event.now).answer }
+        ensures there { is_done result.reply ≡ true → pool < length self.old.functions }
+        ensures unsent { is_sent result.reply ≡ false }
+    {
+        let index = usize::from(pool);
+        if index >= self.units.len() {
+            return refused(Fault::NoSuchVf);
+        }
+        let mut messages = 0;
+        let outcome = act(&mut self.units[index], event, &mut messages);
+        let mut raised = [0; 64];
+        raised[index] = messages;
+        Answer {
+            reply: reply(&self.units[index], outcome),
+            raised,
+        }
+    }
+
+    // The reset of a function, which PFVFLRE shows where it was done.
+    fn function_reset(&mut self, pool: u8, event: &Event) -> Answer
+        requires { event.now ≡ Event.Flr pool }
+        ensures world { self.new ≡ (step self.old (Event.Flr pool)).world }
+        ensures answer { result ≡ (step self.old (Event.Flr pool)).answer }
+        ensures unsent { is_sent result.reply ≡ false }
+    {
+        let answer = self.own_step(pool, event);
+        if answer.reply.is_done() {
+            self.resets |= 1 << pool;
+        }
+        answer
+    }
+
+    // The service of a function's queue. A frame that is sent is left in `frame`.
+    fn serve(&mut self, pool: u8, queue: Queue, frame: &mut FrameBuf) -> Answer
+        ensures world { self.new ≡ (step self.old (Event.Serve pool queue)).world }
+        ensures answer { result ≡ (step self.old (Event.Serve pool queue)).answer }
+        ensures sent { sent_by self.old (Event.Serve pool queue) ≡ (if is_sent result.reply then Some frame.new else None) }
+    {
+        let index = usize::from(pool);
+        if index >= self.units.len() {
+            return refused(Fault::NoSuchVf);
+        }
+        match PoolId::new(pool) {
+            Some(sender) => self.serve_pool(sender, queue, frame),
+            None => unreachable!(),
+        }
+    }
+
+    // The service of a queue of a function that is there, but for the switching of a frame that is sent.
+    fn transmit(
+        &mut self,
+        pool: PoolId,
+        queue: Queue,
+        frame: &mut FrameBuf,
+        messages: &mut u8,
+    ) -> Outcome
+        requires there { pool < length self.old.functions }
+        requires silent { messages.old ≡ 0 }
+        ensures world { self.new ≡ with_function self.old pool (service self.old pool queue).function }
+        ensures reply { reply_of (service self.old pool queue).function result ≡ (service self.old pool queue).reply }
+        ensures messages { messages.new ≡ (service self.old pool queue).messages }
+        ensures sent { (service self.old pool queue).sent ≡ (if went_out result then Some frame.new else None) }
+        ensures told { went_out result ≡ true → (service self.old pool queue).reply ≡ Reply.Sent }
+        ensures untold { went_out result ≡ is_sent (service self.old pool queue).reply }
+        ensures short { IsShort result }
+    {
+        let index = usize::from(pool.get());
+        serve_queue(
+            &self.tables,
+            self.limit,
+            pool,
+            &mut self.units[index],
+            queue,
+            frame,
+            messages,
+        )
+    }
+
+    // The same, of a function that is there.
+    #[tactic(auto, unfolding(crate::specs::World::silence))]
+    fn serve_pool(&mut self, pool: PoolId, queue: Queue, frame: &mut FrameBuf) -> Answer
+        requires { pool < length self.old.functions }
+        ensures world { self.new ≡ (step self.old (Event.Serve pool queue)).world }
+        ensures answer { result ≡ (step self.old (Event.Serve pool queue)).answer }
+        ensures sent { sent_by self.old (Event.Serve pool queue) ≡ (if is_sent result.reply then Some frame.new else None) }
+    {
+        let index = usize::from(pool.get());
+        let mut messages = 0;
+        let outcome = self.transmit(pool, queue, frame, &mut messages);
+        if !outcome.is_sent() {
+            let mut raised = [0; 64];
+            raised[index] = messages;
+            return Answer {
+                reply: reply(&self.units[index], outcome),
+                raised,
+            };
+        }
+        let mut raised = self.switch(Source::Pool(pool), frame);
+        raised[index] = messages;
+        Answer {
+            reply: Reply::Sent,
+            raised,
+        }
+    }
+
+    // A read of a register of the physical function.
+    fn pf_read(&self, offset: u32) -> Answer
+        ensures { result ≡ (step self.now (Event.PfRead offset)).answer }
+    {
+        if is_bad_offset(PF_SPACE, offset) {
+            return refused(Fault::BadOffset);
+        }
+        let value = match read_resets(self.resets, offset) {
+            Some(word) => word,
+            None => self.tables.read(offset),
+        };
+        silent(Reply::Value(value))
+    }
+
+    // A write of a register of the physical function.
+    fn pf_write(&mut self, offset: u32, value: u32) -> Answer
+        ensures world { self.new ≡ (step self.old (Event.PfWrite offset value)).world }
+        ensures answer { result ≡ (step self.old (Event.PfWrite offset value)).answer }
+    {
+        if is_bad_offset(PF_SPACE, offset) {
+            return refused(Fault::BadOffset);
+        }
+        self.tables.write(offset, value);
+        self.resets = clear_resets(self.resets, offset, value);
+        silent(Reply::Done)
+    }
+
+    // The reset of the device.
+    fn pf_reset(&mut self) -> Answer
+        ensures world { self.new ≡ (step self.old Event.PfReset).world }
+        ensures answer { result ≡ (step self.old Event.PfReset).answer }
+    {
+        end_all(&mut self.units);
+        self.tables.clear();
+        self.resets = 0;
+        silent(Reply::Done)
+    }
+
+    // A frame from the wire.
+    fn wire_frame(&mut self, frame: &FrameBuf) -> Answer
+        ensures world { self.new ≡ (step self.old (Event.Wire frame.now)).world }
+        ensures answer { result ≡ (step self.old (Event.Wire frame.now)).answer }
+    {
+        if frame.bytes().len() > usize::from(self.limit.get()) {
+            return refused(Fault::BadFrame);
+        }
+        let raised = self.switch(Source::Wire, frame);
+        Answer {
+            reply: Reply::Done,
+            raised,
+        }
+    }
+
+    /// Takes one event. A frame that it sends is left in `lent`.
+    pub fn step(&mut self, event: &Event, lent: &mut FrameBuf) -> Answer
+        ensures world { self.new ≡ (step self.old event.now).world }
+        ensures answer { result ≡ (step self.old event.now).answer }
+        ensures sent { sent_by self.old event.now ≡ (if is_sent result.reply then Some lent.new else None) }
+    {
+        match event {
+            Event::Open(pool) => self.own_step(*pool, event),
+            Event::End(pool) => self.own_step(*pool, event),
+            Event::VfRead(pool, _) => self.own_step(*pool, event),
+            Event::VfWrite(pool, _, _) => self.own_step(*pool, event),
+            Event::MemRead(pool, _, _) => self.own_step(*pool, event),
+            Event::MemWrite(pool, _, _) => self.own_step(*pool, event),
+            Event::Serve(pool, queue) => self.serve(*pool, *queue, lent),
+            Event::Flr(pool) => self.function_reset(*pool, event),
+            Event::PfRead(offset) => self.pf_read(*offset),
+            Event::PfWrite(offset, value) => self.pf_write(*offset, *value),
+            Event::PfReset => self.pf_reset(),
+            Event::Wire(frame) => self.wire_frame(frame),
+        }
+    }
+}

@@ -1,0 +1,13 @@
+//! Runs of whole scripts, and of readers and writers that break. The values come from worked examples outside.
+
+mod accesses;
+mod bad_lines;
+mod broken;
+mod command_line;
+mod cut;
+mod grammar;
+mod harness;
+mod limits;
+mod receiving;
+mod sending;
+mod wire_out;

@@ -75,6 +75,39 @@ fn has_zeros_where_nothing_was_written(rt: HostRuntime) -> Result<(), Fail> {
     Ok(())
 }
 
+#[test]
+fn has_zeros_below_the_first_write(rt: HostRuntime) -> Result<(), Fail> {
+    let mut memory = FlatMem::new(rt.alloc(), 65_536)?;
+    assert_eq!(rt; memory.size(), 65_536);
+    // A write of nothing leaves zeros, wherever it is.
+    write_bytes(&mut memory, 0xA004, &[]);
+    assert_eq!(rt; eight(&memory, 0xA000), [0; 8]);
+    // Two bytes high up: below them, over each of their ends, over both, and above them.
+    write_bytes(&mut memory, 0x9003, &[1, 2]);
+    assert_eq!(rt; eight(&memory, 0x8FFB), [0; 8]);
+    assert_eq!(rt; eight(&memory, 0x8FFC), [0, 0, 0, 0, 0, 0, 0, 1]);
+    assert_eq!(rt; eight(&memory, 0x9000), [0, 0, 0, 1, 2, 0, 0, 0]);
+    assert_eq!(rt; eight(&memory, 0x9004), [2, 0, 0, 0, 0, 0, 0, 0]);
+    assert_eq!(rt; eight(&memory, 0x9005), [0; 8]);
+    // Far below them, then also between the two.
+    write_bytes(&mut memory, 0x10, &[3]);
+    write_bytes(&mut memory, 0x8000, &[4]);
+    write_bytes(&mut memory, 0x7000, &[]);
+    assert_eq!(rt; eight(&memory, 0x0C), [0, 0, 0, 0, 3, 0, 0, 0]);
+    assert_eq!(rt; eight(&memory, 0x7FFC), [0, 0, 0, 0, 4, 0, 0, 0]);
+    assert_eq!(rt; eight(&memory, 0x9000), [0, 0, 0, 1, 2, 0, 0, 0]);
+    memory.clear();
+    assert_eq!(rt; memory.size(), 65_536);
+    assert_eq!(rt; eight(&memory, 0x0C), [0; 8]);
+    assert_eq!(rt; eight(&memory, 0x9000), [0; 8]);
+    // From just below them over the first of them.
+    write_bytes(&mut memory, 0x9003, &[1, 2]);
+    write_bytes(&mut memory, 0x9001, &[5, 6, 7]);
+    assert_eq!(rt; eight(&memory, 0x9000), [0, 5, 6, 7, 2, 0, 0, 0]);
+    assert_eq!(rt; eight(&memory, 0x0C), [0; 8]);
+    Ok(())
+}
+
 // Sets the first word, by whatever memory it is; what the memory then holds there.
 fn first_word<M: GuestMem>(mut memory: M) -> Option<u64> {
     if memory.size() < 8 {

@@ -1,8 +1,8 @@
 //! The tables.
-ghost use Rattle.std.specs.Prelude.{◌≡◌, ℕ, ◌+◌, ◌*◌, ◌%◌, ◌<◌, ◌==◌, not};
+ghost use Rattle.std.specs.Prelude.{◌≡◌, ℕ, ◌+◌, ◌*◌, ◌%◌, ◌<◌, ◌==◌, not, Some, None, if◌then◌else◌};
 ghost use Rattle.byteorder.specs.Endian.{little_number};
 ghost use Rattle.wire_frame.specs.Bits.{has_bit};
-ghost use Rattle.addr_tables.specs.Addresses.{initial_addresses, addresses_at, addresses_after, entry_address, entry_gives, has_address, is_held, hash_low, multicast_hit};
+ghost use Rattle.addr_tables.specs.Addresses.{initial_addresses, addresses_at, addresses_after, entry_address, entry_has_pool, entry_gives, has_address, is_held, hash_low, multicast_hit};
 
 use crate::registers::{MCSTCTRL, MCSTCTRL_KEPT, MFE, MPSAR, MTA, RAH, RAL, VALID};
 use std::marker::Model;
@@ -73,6 +73,22 @@ impl AddrTables {
         ensures { result ≡ entry_address self.now e }
     {
         u64::from(self.low[e]) + u64::from(self.high[e] % 0x1_0000) * 0x1_0000_0000
+    }
+
+    /// The address that entry `e` gives the pool, as a number below 2^48, its first byte lowest: `None` where the entry is
+    /// not valid or does not have the pool's bit.
+    #[inline]
+    pub fn address_for(&self, pool: PoolId, e: usize) -> Option<u64>
+        requires { e < 128 }
+        ensures { result ≡ (if entry_has_pool self.now pool e then Some (entry_address self.now e) else None) }
+    {
+        if has_bit(u64::from(self.high[e]), VALID)
+            && has_bit(pool_words(&self.pools, e), u32::from(pool.get()))
+        {
+            Some(self.entry_address(e))
+        } else {
+            None
+        }
     }
 
     // The pools of an entry, if it is valid and holds the address; else none.

@@ -36,6 +36,41 @@ fn entries_with_one_address_are_united(rt: HostRuntime) {
     assert!(rt; !tables.is_held(Mac([2, 0, 0, 0, 0, 0x78])));
 }
 
+/// What an entry gives a pool. The first entry is for pool 1, the last for pool 34, the second is not valid and the third
+/// has no pools.
+#[test]
+fn entries_give_addresses(rt: HostRuntime) {
+    let mut tables = AddrTables::new();
+    let words = [
+        (0xA200, 0x5634_1202),
+        (0xA204, 0x8000_7778),
+        (0xA600, 0x2),
+        (0xA5F8, 0x2),
+        (0xA5FC, 0x8000_7700),
+        (0xA9FC, 0x4),
+        (0xA208, 0x2),
+        (0xA20C, 0x7700),
+        (0xA608, 0x2),
+        (0xA210, 0x2),
+        (0xA214, 0x8000_7800),
+    ];
+    for (offset, value) in words {
+        tables.write(offset, value);
+    }
+    let given = [
+        (1, 0, Some(0x7778_5634_1202)),
+        (34, 0, None),
+        (1, 1, None),
+        (1, 2, None),
+        (1, 127, None),
+        (34, 127, Some(0x7700_0000_0002)),
+    ];
+    for (number, entry, want) in given {
+        let found = PoolId::new(number).and_then(|pool| tables.address_for(pool, entry));
+        assert_eq!(rt; found, want, "pool {number}, entry {entry}");
+    }
+}
+
 /// The hash of 01:00:5E:00:12:03 by each value of MO, worked out by hand from the two last bytes, 0x12 and 0x03: the word
 /// of MTA, and its bit.
 #[test]

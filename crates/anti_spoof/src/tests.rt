@@ -1,6 +1,6 @@
 //! Frames that pools try to send, and the checks that stop them.
-use crate::honest;
-use pool_filter::Tables;
+use crate::{honest, permits};
+use pool_filter::{Own, Tables};
 use std::test::Fail;
 use wire_frame::{FrameBuf, PoolId};
 
@@ -85,6 +85,49 @@ fn vlans_are_checked(rt: HostRuntime) -> Result<(), Fail> {
             untagged_passes,
             "untagged, after {offset}"
         );
+    }
+    Ok(())
+}
+
+/// The same check on own settings that are held as a value: pool 5 has 02:00:00:00:00:05 and VLAN 100, and takes no untagged
+/// frames. Without checks all frames may be sent, then those from its address, then moreover in its VLAN alone.
+#[test]
+fn held_settings_are_checked(rt: HostRuntime) -> Result<(), Fail> {
+    let pool = PoolId::new(5).ok_or("no such pool")?;
+    let mut tables = Tables::new();
+    for (offset, value) in [
+        (0xA228, 0x2),
+        (0xA22C, 0x8000_0500),
+        (0xA628, 0x20),
+        (0xF100, 0x8000_0064),
+        (0xF200, 0x20),
+        (0xA00C, 0x10),
+    ] {
+        tables.write(offset, value);
+    }
+    let frames = [
+        frame_from([2, 0, 0, 0, 0, 5], Some(0x2064))?,
+        frame_from([2, 0, 0, 0, 0, 5], Some(101))?,
+        frame_from([2, 0, 0, 0, 0, 5], None)?,
+        frame_from([2, 0, 0, 0, 0, 0x99], Some(100))?,
+    ];
+    let mut own = Own::none();
+    for (checks, passes) in [
+        (0x0, [true, true, true, true]),
+        (0x20, [true, true, true, false]),
+        (0x2000, [true, false, false, true]),
+        (0x2020, [true, false, false, false]),
+    ] {
+        tables.write(0x8200, checks);
+        tables.own(pool, &mut own);
+        let [tagged, elsewhere, untagged, nobodys] = &frames;
+        let found = [
+            permits(&own, tagged),
+            permits(&own, elsewhere),
+            permits(&own, untagged),
+            permits(&own, nobodys),
+        ];
+        assert_eq!(rt; found, passes, "checks {checks}");
     }
     Ok(())
 }

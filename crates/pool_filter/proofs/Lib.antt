@@ -1,6 +1,7 @@
 pub mod FlagLemmas
 pub mod MapLemmas
 pub mod OwnLemmas
+pub mod PutLemmas
 pub mod RisingLemmas
 pub mod WordLemmas
 pub mod WriteLemmas

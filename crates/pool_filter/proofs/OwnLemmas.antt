@@ -9,7 +9,7 @@ use Rattle.addr_tables.specs.Addresses.{initial_addresses, has_address, entry_ad
 use Rattle.vlan_table.specs.Vlans.{initial_vlans, has_vlan, is_in_entries, entry_id, entry_has_pool as vlan_has_pool}
 use Rattle.pool_filter.specs.Settings.{Settings, initial_settings}
 use Rattle.pool_filter.specs.Own.{OwnSettings, own, contains, rising, addresses_of, vlan_ids_of, no_settings, SaysSame}
-use Rattle.pool_filter.proofs.RisingLemmas.{contains-rising, IsRising-rising, IsStrictlyIncreasing-from_rising, same_numbers}
+use Rattle.pool_filter.proofs.RisingLemmas.{contains-rising, IsRising-rising, IsStrictlyIncreasing-from_rising, equal_from_same_set}
 
 contains-map-filter : (f : ℕ → ℕ) (t : ℕ → Bool) (q : ℕ) (xs : List ℕ) → contains (map f (filter t xs)) q ≡ list_any (λ x. t x && eqb (f x) q) xs
 contains-map-filter f t q [] = refl
@@ -62,11 +62,11 @@ equal_say_same o n same = record {
 
 same_addresses : (s t : Settings) (p q : ℕ) → SaysSame (own s p) (own t q) → (own s p).addresses ≡ (own t q).addresses
 unfolding own
-same_addresses s t p q same = same_numbers (rising (addresses_of s.addresses p)) (rising (addresses_of t.addresses q)) (IsRising-rising (addresses_of s.addresses p)) (IsRising-rising (addresses_of t.addresses q)) same.addresses
+same_addresses s t p q same = equal_from_same_set (rising (addresses_of s.addresses p)) (rising (addresses_of t.addresses q)) (IsRising-rising (addresses_of s.addresses p)) (IsRising-rising (addresses_of t.addresses q)) same.addresses
 
 same_vlan_ids : (s t : Settings) (p q : ℕ) → SaysSame (own s p) (own t q) → (own s p).vlan_ids ≡ (own t q).vlan_ids
 unfolding own
-same_vlan_ids s t p q same = same_numbers (rising (vlan_ids_of s.vlans p)) (rising (vlan_ids_of t.vlans q)) (IsRising-rising (vlan_ids_of s.vlans p)) (IsRising-rising (vlan_ids_of t.vlans q)) same.vlan_ids
+same_vlan_ids s t p q same = equal_from_same_set (rising (vlan_ids_of s.vlans p)) (rising (vlan_ids_of t.vlans q)) (IsRising-rising (vlan_ids_of s.vlans p)) (IsRising-rising (vlan_ids_of t.vlans q)) same.vlan_ids
 
 pub same_are_equal : (s t : Settings) (p q : ℕ) → SaysSame (own s p) (own t q) → own s p ≡ own t q
 same_are_equal s t p q same = λ i. record {

@@ -1,5 +1,5 @@
 -- What of the settings is a pool's own.
-use Rattle.std.specs.Prelude.{◌≡◌, ℕ, ◌+◌, ◌/◌, ◌%◌, ◌^◌, Bool, false, List, [], ◌∷◌, map, ◌==◌, nat_lt, slice_index, if◌then◌else◌}
+use Rattle.std.specs.Prelude.{◌≡◌, ℕ, ◌+◌, ◌/◌, ◌%◌, ◌^◌, Bool, true, false, not, ◌&&◌, List, [], ◌∷◌, map, ◌==◌, nat_lt, slice_index, if◌then◌else◌}
 use Rattle.std.specs.List.{list_any, range_with_len, filter}
 use Rattle.wire_frame.specs.declared.vlan.PortVlan.{PortVlan}
 use Rattle.wire_frame.specs.declared.vlan.PortVlan.TheVariants.{Descriptor, Always, Never}
@@ -83,3 +83,20 @@ pub record SaysSame (o n : OwnSettings) : Type 0 where
   pub checks_address : o.checks_address ≡ n.checks_address
   pub checks_vlan : o.checks_vlan ≡ n.checks_vlan
   pub port_vlan : o.port_vlan ≡ n.port_vlan
+
+-- ---- the test of that
+
+abbrev pub same_bool : Bool → Bool → Bool
+same_bool true b = b
+same_bool false b = not b
+
+abbrev pub same_numbers : List ℕ → List ℕ → Bool
+same_numbers [] [] = true
+same_numbers (x ∷ xs) (y ∷ ys) = (x == y) && same_numbers xs ys
+same_numbers _ _ = false
+
+abbrev pub same_settings : OwnSettings → OwnSettings → Bool
+same_settings o n =
+    same_numbers o.addresses n.addresses && (same_numbers o.vlan_ids n.vlan_ids
+    && (same_bool o.takes_untagged n.takes_untagged && (same_bool o.may_receive n.may_receive && (same_bool o.may_transmit n.may_transmit
+    && (same_bool o.checks_address n.checks_address && (same_bool o.checks_vlan n.checks_vlan && (o.port_vlan == n.port_vlan)))))))

@@ -9,6 +9,7 @@ ghost use Rattle.pool_filter.specs.Accepts.{flags_of, takes_untagged, takes_hash
 ghost use Rattle.pool_filter.specs.Own.{own, contains, port_vlan_of};
 
 use crate::flags::{PoolFlags, pools_with};
+use crate::own::{Own, port_vlan_of, put_addresses, put_vlan_ids};
 use crate::registers::{
     DEFAULT_POOL_OFF, LOOPBACK, PF_VT_CTL, PF_VT_CTL_INITIAL, PF_VT_CTL_KEPT, PF_VT_CTL_SET,
     PFDTXGSWC, PFDTXGSWC_KEPT, PFVFRE, PFVFSPOOF, PFVFTE, VMOLR, VMVIR,
@@ -265,18 +266,21 @@ impl Tables {
         has_bit(u64::from(word), u32::from(pool % 32))
     }
 
-    /// Which VLAN tag is inserted into the frames that the pool sends (82599 datasheet, VMVIR).
+    // The pool's word of VMVIR.
     #[inline]
     #[tactic(auto, unfolding(crate::specs::Own::own))]
+    fn port_word(&self, pool: PoolId) -> u32
+        ensures { result ≡ (own self.now pool).port_vlan }
+    {
+        self.port_vlans[usize::from(pool.get())]
+    }
+
+    /// Which VLAN tag is inserted into the frames that the pool sends (82599 datasheet, VMVIR).
+    #[inline]
     pub fn port_vlan(&self, pool: PoolId) -> PortVlan
         ensures { result ≡ port_vlan_of (own self.now pool).port_vlan }
     {
-        let word = self.port_vlans[usize::from(pool.get())];
-        match word / 0x4000_0000 {
-            1 => PortVlan::Always((word % 0x1_0000) as u16),
-            2 => PortVlan::Never,
-            _ => PortVlan::Descriptor,
-        }
+        port_vlan_of(self.port_word(pool))
     }
 
     /// Whether the sources of the pool's frames are checked (82599 datasheet, PFVFSPOOF).
@@ -334,5 +338,20 @@ impl Tables {
         ensures { result ≡ contains (own self.now pool).vlan_ids id }
     {
         self.vlans.member(id, pool)
+    }
+
+    /// What of the settings is the pool's own, left in `found`, whatever that held. It looks at every entry of the tables.
+    #[tactic(auto, unfolding(crate::specs::Own::own))]
+    pub fn own(&self, pool: PoolId, found: &mut Own)
+        ensures { found.new ≡ own self.now pool }
+    {
+        put_addresses(&self.addresses, pool, &mut found.addresses);
+        put_vlan_ids(&self.vlans, pool, &mut found.vlan_ids);
+        found.takes_untagged = self.takes_untagged(pool);
+        found.may_receive = self.may_receive(pool);
+        found.may_transmit = self.may_transmit(pool);
+        found.checks_address = self.checks_address(pool);
+        found.checks_vlan = self.checks_vlan(pool);
+        found.port_vlan = self.port_word(pool);
     }
 }

@@ -1,5 +1,5 @@
 //! Words as a driver writes them, frames as they come from the wire, and which pools take them.
-use crate::{PoolFlags, Tables, accept_mask};
+use crate::{Own, PoolFlags, Tables, accept_mask};
 use bitflags::Flags;
 use std::process::Abort;
 use std::test::Fail;
@@ -210,6 +210,148 @@ fn port_vlans(rt: HostRuntime) -> Result<(), Fail> {
         assert_eq!(rt; tables.port_vlan(pool(5)?), rule);
         assert_eq!(rt; tables.port_vlan(pool(4)?), PortVlan::Descriptor);
     }
+    Ok(())
+}
+
+// Words that give pools 1 and 2 something of their own. Entries 0 and 127 hold 02:00:00:00:00:77 for pool 1, entry 5
+// 02:00:00:00:00:03 for pools 1 and 2, entry 6 02:00:00:00:00:66 for pool 2, and entry 7, which is not valid,
+// 02:00:00:00:00:55 for pool 1. Of the VLAN entries, 0 and 63 hold id 100 for pool 1, 1 holds id 7 for pools 1 and 2, 2 holds
+// id 9 for pool 2, 3, which is not valid, id 11 for pool 1, and 4 id 200 for pool 1, which the VLAN table does not have.
+const OWN_WORDS: [(u32, u32); 34] = [
+    (0xA200, 0x2),
+    (0xA204, 0x8000_7700),
+    (0xA600, 0x2),
+    (0xA5F8, 0x2),
+    (0xA5FC, 0x8000_7700),
+    (0xA9F8, 0x2),
+    (0xA228, 0x2),
+    (0xA22C, 0x8000_0300),
+    (0xA628, 0x6),
+    (0xA230, 0x2),
+    (0xA234, 0x8000_6600),
+    (0xA630, 0x4),
+    (0xA238, 0x2),
+    (0xA23C, 0x5500),
+    (0xA638, 0x2),
+    (0xF100, 0x8000_0064),
+    (0xF200, 0x2),
+    (0xF1FC, 0x8000_0064),
+    (0xF3F8, 0x2),
+    (0xF104, 0x8000_0007),
+    (0xF208, 0x6),
+    (0xF108, 0x8000_0009),
+    (0xF210, 0x4),
+    (0xF10C, 0xB),
+    (0xF218, 0x2),
+    (0xF110, 0x8000_00C8),
+    (0xF220, 0x2),
+    (0xA000, 0xA80),
+    (0xA00C, 0x10),
+    (0xF004, 0x0900_0000),
+    (0x51E0, 0x2),
+    (0x8110, 0x4),
+    (0x8200, 0x0402),
+    (0x8004, 0x4000_E064),
+];
+
+/// What two pools have of the words above, in one value that is used for both: each address and each id once, rising.
+#[test]
+fn own_settings_are_sets(rt: HostRuntime) -> Result<(), Fail> {
+    let tables = tables_with(&OWN_WORDS);
+    let mut own = Own::none();
+    tables.own(pool(1)?, &mut own);
+    assert_eq!(rt;
+        own.addresses.as_slice(),
+        &[0x0300_0000_0002, 0x7700_0000_0002][..]
+    );
+    assert_eq!(rt; own.vlan_ids.as_slice(), &[7, 100][..]);
+    for (last, has) in [(0x77, true), (0x03, true), (0x66, false), (0x55, false)] {
+        assert_eq!(rt;
+            own.has_address(Mac([2, 0, 0, 0, 0, last])),
+            has,
+            "to {last}"
+        );
+    }
+    for (id, has) in [
+        (7, true),
+        (100, true),
+        (9, false),
+        (11, false),
+        (200, false),
+    ] {
+        assert_eq!(rt; own.has_vlan(Vid::of_tag(id)), has, "id {id}");
+    }
+    assert!(rt; own.takes_untagged());
+    assert!(rt; own.may_receive());
+    assert!(rt; !own.may_transmit());
+    assert!(rt; own.checks_address());
+    assert!(rt; !own.checks_vlan());
+    assert_eq!(rt; own.port_vlan(), PortVlan::Always(0xE064));
+    tables.own(pool(2)?, &mut own);
+    assert_eq!(rt;
+        own.addresses.as_slice(),
+        &[0x0300_0000_0002, 0x6600_0000_0002][..]
+    );
+    assert_eq!(rt; own.vlan_ids.as_slice(), &[7, 9][..]);
+    assert!(rt; !own.takes_untagged());
+    assert!(rt; !own.may_receive());
+    assert!(rt; own.may_transmit());
+    assert!(rt; !own.checks_address());
+    assert!(rt; own.checks_vlan());
+    assert_eq!(rt; own.port_vlan(), PortVlan::Descriptor);
+    Ok(())
+}
+
+/// Each of the eight parts makes a difference. What does not: another pool's words, a flag that is not own, an entry that is
+/// not valid, and one more entry with an address that the pool has.
+#[test]
+fn own_settings_are_compared(rt: HostRuntime) -> Result<(), Fail> {
+    let mut before = Own::none();
+    tables_with(&OWN_WORDS).own(pool(1)?, &mut before);
+    for (offset, value, same) in [
+        (0xA200, 0x3, false),
+        (0xF104, 0x8000_0009, false),
+        (0xF004, 0x0800_0000, false),
+        (0x51E0, 0x0, false),
+        (0x8110, 0x6, false),
+        (0x8200, 0x0400, false),
+        (0x8200, 0x0602, false),
+        (0x8004, 0x0, false),
+        (0x51E0, 0xFFFF_FFFF, true),
+        (0xF004, 0x0100_0000, true),
+        (0xA238, 0x3, true),
+        (0xA204, 0x8000_0300, true),
+    ] {
+        let mut tables = tables_with(&OWN_WORDS);
+        tables.write(offset, value);
+        let mut after = Own::none();
+        tables.own(pool(1)?, &mut after);
+        assert_eq!(rt; before.is_same(&after), same, "{value} at {offset}");
+        assert_eq!(rt; after.is_same(&before), same, "{value} at {offset}");
+    }
+    Ok(())
+}
+
+/// A pool that has nothing, a copy of another's, and what is left of that when it is cleared.
+#[test]
+fn own_settings_as_a_whole(rt: HostRuntime) -> Result<(), Fail> {
+    let mut first = Own::none();
+    tables_with(&OWN_WORDS).own(pool(1)?, &mut first);
+    let mut second = Own::none();
+    tables_with(&OWN_WORDS).own(pool(2)?, &mut second);
+    let mut own = Own::none();
+    assert!(rt; !own.is_same(&first));
+    own.refill(&first);
+    assert!(rt; own.is_same(&first));
+    own.refill(&second);
+    assert!(rt; own.is_same(&second));
+    own.clear();
+    assert!(rt; own.is_same(&Own::none()));
+    Tables::new().own(pool(1)?, &mut first);
+    assert!(rt; own.is_same(&first));
+    assert!(rt; !own.has_address(Mac([2, 0, 0, 0, 0, 0x77])));
+    assert!(rt; !own.has_vlan(Vid::of_tag(0)));
+    assert_eq!(rt; own.port_vlan(), PortVlan::Descriptor);
     Ok(())
 }
 

@@ -38,6 +38,44 @@ fn entries_with_one_id_are_united(rt: HostRuntime) {
     }
 }
 
+/// What an entry gives a pool. The first entry is for pool 1, the last for pool 34, the second is not valid, and the id of
+/// the third, 101, is not in the VLAN table.
+#[test]
+fn entries_give_ids(rt: HostRuntime) {
+    let mut table = VlanTable::new();
+    let words = [
+        (0xF100, 0x8000_0064),
+        (0xF200, 0x2),
+        (0xF1FC, 0x8000_0FFF),
+        (0xF3FC, 0x4),
+        (0xF104, 0x64),
+        (0xF208, 0x2),
+        (0xF108, 0x8000_0065),
+        (0xF210, 0x2),
+        (0xA00C, 0x10),
+        (0xA1FC, 0x8000_0000),
+    ];
+    for (offset, value) in words {
+        table.write(offset, value);
+    }
+    let given = [
+        (1, 0, Some(100)),
+        (34, 0, None),
+        (1, 1, None),
+        (1, 2, None),
+        (1, 63, None),
+        (34, 63, Some(4095)),
+    ];
+    for (number, entry, want) in given {
+        let found = PoolId::new(number).and_then(|pool| table.id_for(pool, entry));
+        assert_eq!(rt;
+            found.map(|id| id.get()),
+            want,
+            "pool {number}, entry {entry}"
+        );
+    }
+}
+
 /// VLANs are filtered exactly where bit 30 of VLNCTRL is set.
 #[test]
 fn filtering_is_one_bit(rt: HostRuntime) {

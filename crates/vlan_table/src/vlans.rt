@@ -1,7 +1,7 @@
 //! The tables.
-ghost use Rattle.std.specs.Prelude.{◌≡◌, ℕ, ◌+◌, ◌*◌, ◌/◌, ◌%◌, ◌<◌, slice_index};
+ghost use Rattle.std.specs.Prelude.{◌≡◌, ℕ, ◌+◌, ◌*◌, ◌/◌, ◌%◌, ◌<◌, ◌&&◌, Some, None, slice_index, if◌then◌else◌};
 ghost use Rattle.wire_frame.specs.Bits.{has_bit, has_bit_in};
-ghost use Rattle.vlan_table.specs.Vlans.{initial_vlans, vlans_at, vlans_after, is_filtering, entry_gives, is_in_entries, has_vlan};
+ghost use Rattle.vlan_table.specs.Vlans.{initial_vlans, vlans_at, vlans_after, is_filtering, entry_id, entry_has_pool, entry_gives, is_in_entries, has_vlan};
 
 use crate::registers::{VALID, VFE, VFTA, VLNCTRL, VLNCTRL_KEPT, VLVF, VLVFB};
 use std::marker::Model;
@@ -79,6 +79,25 @@ impl VlanTable {
     {
         let word = self.table[usize::from(id / 32)];
         has_bit(u64::from(word), u32::from(id % 32))
+    }
+
+    /// The VLAN id that entry `e` gives the pool: `None` where the entry is not valid, does not have the pool's bit, or holds
+    /// an id that the VLAN table does not have.
+    #[inline]
+    pub fn id_for(&self, pool: PoolId, e: usize) -> Option<Vid>
+        requires { e < 64 }
+        ensures { result ≡ (if entry_has_pool self.now pool e && has_bit_in self.now.table (entry_id self.now e) then Some (entry_id self.now e) else None) }
+    {
+        let word = self.entries[e];
+        let id = Vid::of_tag((word % 4096) as u16);
+        if has_bit(u64::from(word), VALID)
+            && has_bit(pool_words(&self.pools, e), u32::from(pool.get()))
+            && self.in_table(id.get())
+        {
+            Some(id)
+        } else {
+            None
+        }
     }
 
     // The pools of an entry, if it is valid and holds the id; else none.

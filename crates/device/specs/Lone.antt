@@ -1,8 +1,8 @@
 -- One virtual function alone: what a run keeps for it, and what it does with that.
-use Rattle.std.specs.Prelude.{ℕ, Bool, true, false, not, ◌&&◌, List, [], ◌∷◌, Option, Some, None, length, ◌==◌, nat_lt, slice_index, if◌then◌else◌}
+use Rattle.std.specs.Prelude.{ℕ, Bool, List, [], ◌∷◌, Option, Some, None, length, ◌==◌, nat_lt, slice_index, if◌then◌else◌}
 use Rattle.std.specs.List.{cons_option}
 use Rattle.vf_unit.specs.Unit.{Function, Closed, ended}
-use Rattle.pool_filter.specs.Own.{OwnSettings, no_settings, own}
+use Rattle.pool_filter.specs.Own.{OwnSettings, no_settings, own, same_settings}
 use Rattle.local_switch.specs.declared.ways.Source.{Source}
 use Rattle.local_switch.specs.declared.ways.Source.TheVariants.{Wire, Pool}
 use Rattle.local_switch.specs.Switch.{is_pool, is_for_pool}
@@ -52,21 +52,6 @@ abbrev pub is_own : ℕ → Event → Bool
 is_own p e = is_pool (pool_of e) p
 
 -- ---- what a run keeps for a pool
-
-abbrev pub same_bool : Bool → Bool → Bool
-same_bool true b = b
-same_bool false b = not b
-
-abbrev pub same_numbers : List ℕ → List ℕ → Bool
-same_numbers [] [] = true
-same_numbers (x ∷ xs) (y ∷ ys) = (x == y) && same_numbers xs ys
-same_numbers _ _ = false
-
-abbrev pub same_settings : OwnSettings → OwnSettings → Bool
-same_settings o n =
-    same_numbers o.addresses n.addresses && (same_numbers o.vlan_ids n.vlan_ids
-    && (same_bool o.takes_untagged n.takes_untagged && (same_bool o.may_receive n.may_receive && (same_bool o.may_transmit n.may_transmit
-    && (same_bool o.checks_address n.checks_address && (same_bool o.checks_vlan n.checks_vlan && (o.port_vlan == n.port_vlan)))))))
 
 -- own settings that a write changed
 abbrev pub changed_settings : OwnSettings → OwnSettings → Option Item

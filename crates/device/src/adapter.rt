@@ -12,13 +12,12 @@ use crate::event::{Answer, Event, Reply};
 use crate::outcome::{Outcome, reply};
 use crate::refusal::{PF_SPACE, act, is_bad_offset};
 use crate::resets::{clear_resets, read_resets};
+use crate::service::{PoolRules, serve_queue};
 use crate::wire_out::WireOut;
-use anti_spoof::honest;
 use guest_memory::GuestMem;
 use local_switch::{Source, route};
 use pool_filter::Tables;
 use std::marker::Model;
-use tx_desc::Progress;
 use vf_unit::{Queue, VfUnit};
 use wire_frame::{Fault, FrameBuf, FrameLimit, PoolId, has_bit};
 
@@ -80,54 +79,6 @@ fn end_all<M: GuestMem>(units: &mut [VfUnit<M>])
 {
     for unit in units.iter_mut() {
         unit.end();
-    }
-}
-
-// Serves a queue of a function, by the function's own settings alone. The messages that this issues are left in `messages`,
-// and a frame that is sent in `frame`.
-#[tactic(auto, unfolding(crate::specs::Act::serve))]
-fn serve_queue<M: GuestMem>(
-    tables: &Tables,
-    limit: FrameLimit,
-    pool: PoolId,
-    unit: &mut VfUnit<M>,
-    queue: Queue,
-    frame: &mut FrameBuf,
-    messages: &mut u8,
-) -> Outcome
-    requires silent { messages.old ≡ 0 }
-    ensures function { unit.new ≡ (serve limit (own tables.now pool) unit.old queue).function }
-    ensures reply { reply_of unit.new result ≡ (serve limit (own tables.now pool) unit.old queue).reply }
-    ensures messages { messages.new ≡ (serve limit (own tables.now pool) unit.old queue).messages }
-    ensures sent { (serve limit (own tables.now pool) unit.old queue).sent ≡ (if went_out result then Some frame.new else None) }
-    ensures told { went_out result ≡ true → (serve limit (own tables.now pool) unit.old queue).reply ≡ Reply.Sent }
-    ensures untold { went_out result ≡ is_sent (serve limit (own tables.now pool) unit.old queue).reply }
-    ensures short { IsShort result }
-{
-    if !unit.is_open() {
-        return Outcome::Refused(Fault::NotOpen);
-    }
-    if !tables.may_transmit(pool) {
-        return Outcome::Idle;
-    }
-    match unit.serve(queue, frame, tables.port_vlan(pool), limit) {
-        None => Outcome::Refused(Fault::NotOpen),
-        Some(service) => {
-            *messages = service.messages;
-            match service.outcome {
-                Progress::Idle => Outcome::Idle,
-                Progress::More => Outcome::More,
-                Progress::Dropped => Outcome::Dropped,
-                Progress::Faulted => Outcome::Faulted,
-                Progress::Ended => {
-                    if !honest(tables, pool, frame) {
-                        return Outcome::Dropped;
-                    }
-                    unit.sent();
-                    Outcome::Sent
-                }
-            }
-        }
     }
 }
 
@@ -240,10 +191,13 @@ impl<M: GuestMem> Adapter<M> {
         ensures short { IsShort result }
     {
         let index = usize::from(pool.get());
-        serve_queue(
-            &self.tables,
-            self.limit,
+        let rules = PoolRules {
+            tables: &self.tables,
             pool,
+        };
+        serve_queue(
+            &rules,
+            self.limit,
             &mut self.units[index],
             queue,
             frame,

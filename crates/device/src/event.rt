@@ -1,6 +1,7 @@
 //! What a device is asked, and what it answers.
 ghost use Rattle.std.specs.Prelude.{◌≡◌};
 ghost use Rattle.device.specs.Act.{is_sent, is_done};
+ghost use Rattle.device.specs.Lone.{pool_of};
 
 use crate::bytes::MemBytes;
 use vf_unit::Queue;
@@ -69,6 +70,24 @@ pub struct Answer {
 }
 
 impl Event {
+    /// The number of the virtual function whose own event it is. Those of the physical function and frames from the wire are
+    /// nobody's.
+    pub fn pool(&self) -> Option<u8>
+        ensures { result ≡ pool_of self.now }
+    {
+        match self {
+            Event::Open(pool) => Some(*pool),
+            Event::End(pool) => Some(*pool),
+            Event::VfRead(pool, _) => Some(*pool),
+            Event::VfWrite(pool, _, _) => Some(*pool),
+            Event::MemRead(pool, _, _) => Some(*pool),
+            Event::MemWrite(pool, _, _) => Some(*pool),
+            Event::Serve(pool, _) => Some(*pool),
+            Event::Flr(pool) => Some(*pool),
+            Event::PfRead(_) | Event::PfWrite(_, _) | Event::PfReset | Event::Wire(_) => None,
+        }
+    }
+
     /// An equal event.
     pub fn copy(&self) -> Event
         ensures { result ≡ self.now }

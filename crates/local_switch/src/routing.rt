@@ -1,11 +1,11 @@
 //! Routing one frame.
 ghost use Rattle.std.specs.Prelude.{◌≡◌, ℕ, ◌<◌, ◌&&◌, not, ◌==◌};
 ghost use Rattle.wire_frame.specs.Bits.{has_bit};
-ghost use Rattle.local_switch.specs.Switch.{receives, leaves, takes_from_wire, takes_from_pool, is_for_the_wire};
+ghost use Rattle.local_switch.specs.Switch.{receives, leaves, takes_from_wire, takes_from_pool, is_for_pool, is_for_the_wire};
 
 use crate::ways::{Route, Source};
 use pool_filter::{Tables, accept_mask};
-use wire_frame::{AddressKind, FrameBuf, PoolId};
+use wire_frame::{AddressKind, FrameBuf, PoolId, has_bit};
 
 /// Where a frame goes. That its sender may send it is not asked here.
 #[tactic(auto, using(wire_frame::proofs::BitLemmas::has_bit_and), unfolding(crate::specs::Switch::receives))]
@@ -24,6 +24,18 @@ pub fn route(tables: &Tables, from: Source, frame: &FrameBuf) -> Route
             wire: !tables.loops_back() || is_for_the_wire(tables, frame),
         },
     }
+}
+
+/// Whether a frame is for a pool, be the pool allowed to receive or not: a frame from the wire that it accepts, or that falls
+/// to it as default pool; a frame of another pool that it accepts, under loopback.
+pub fn is_for_pool(tables: &Tables, from: Source, frame: &FrameBuf, pool: PoolId) -> bool
+    ensures { result ≡ is_for_pool tables.now from frame.now pool }
+{
+    let pools = match from {
+        Source::Wire => from_wire(tables, frame),
+        Source::Pool(sender) => from_pool(tables, sender, frame),
+    };
+    has_bit(pools, u32::from(pool.get()))
 }
 
 // The pools that a frame from the wire is for: those that accept it, or else the default pool.

@@ -1,0 +1,22 @@
+//! A virtual function alone: what a device keeps for it, and the function by itself that is given no more than that.
+//!
+//! A [`Watch`] steps a device and tells after each event what it leaves for one pool: an event of the pool's own, own
+//! settings that a write changed, that the device was reset, or a frame that the pool's filters accept or that falls to it.
+//! A [`Lone`] function is one unit with own settings: no other pool, no table, no switch. It takes these items and tells
+//! what is seen of it. That a run shows the pool the same is what `device` promises of its runs; here it is promised that
+//! both are what that promise speaks of. It stands on `device`, and no call takes memory.
+#![tactic(auto)]
+
+pub mod function;
+pub mod item;
+pub mod laws;
+pub mod together;
+pub mod watch;
+
+pub use function::Lone;
+pub use item::{Given, Kind, Seen};
+pub use together::follow;
+pub use watch::Watch;
+
+#[cfg(test)]
+mod tests;

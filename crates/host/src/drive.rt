@@ -8,25 +8,26 @@ use crate::output::Output;
 use crate::script::Script;
 use device::Device;
 use guest_memory::{FlatMem, GuestMem};
+use lone::{Lone, Watch, follow};
 use std::alloc::Global;
 use std::io::{Read, Write};
 use std::slice::from_ref;
+use wire_frame::PoolId;
 
 /// Reads a script, gives its events to a device, and writes the output of the mode.
 ///
-/// A mode that isn't there is [`Fault::Usage`] before anything is read. [`Fault::BadScript`] comes before anything is
-/// written; [`Fault::Io`] where the reader or the writer fails, and then the writer has the beginning of the output.
+/// [`Fault::BadScript`] comes before anything is written, and then [`Fault::NoSuchVf`] where the mode names a pool that isn't
+/// below the script's number of virtual functions. [`Fault::Io`] comes where the reader or the writer fails, and then the
+/// writer has the beginning of the output.
 pub fn drive<R: Read, W: Write>(
     alloc: Global,
     mode: Mode,
     reader: &mut R,
     writer: &mut W,
 ) -> Result<(), Fault> {
-    if mode != Mode::Run {
-        return Err(Fault::Usage);
-    }
     let script = Script::read(alloc, reader)?;
     let shape = script.shape();
+    let pool = mode.pool(shape.functions)?;
     let mut memories = Vec::with_capacity(alloc, usize::from(shape.functions))?;
     for _ in 0..shape.functions {
         let memory: Box<dyn GuestMem + Send> = Box::new(
@@ -35,7 +36,17 @@ pub fn drive<R: Read, W: Write>(
         )?;
         memories.push(memory)?;
     }
-    run(alloc, &script, memories, writer)
+    match (mode, pool) {
+        (Mode::Keep(_), Some(pool)) => keep(alloc, &script, pool, memories, writer),
+        (Mode::Lone(_), Some(pool)) => {
+            let memory: Box<dyn GuestMem + Send> = Box::new(
+                alloc,
+                FlatMem::new(alloc, shape.memory_size)?,
+            )?;
+            lone(alloc, &script, pool, memories, memory, writer)
+        }
+        _ => run(alloc, &script, memories, writer),
+    }
 }
 
 // Gives all events to a device over these memories, and writes its answers and the frames that went to the wire.
@@ -45,13 +56,12 @@ fn run<M: GuestMem, W: Write>(
     memories: Vec<M>,
     writer: &mut W,
 ) -> Result<(), Fault> {
-    let limit = script.shape().limit;
-    let mut device = Device::with_limit(alloc, memories, limit.get())?;
+    let mut device = Device::with_limit(alloc, memories, script.shape().limit.get())?;
     let mut output = Output::new(alloc, writer)?;
     let mut slots = Slots::new();
     let mut room = [0; MOST_BYTES];
     for (index, record) in script.records().iter().enumerate() {
-        let event = slots.event(*record, script.bytes(*record, &mut room), limit);
+        let event = slots.event(script, *record, &mut room);
         for answer in &device.run(alloc, from_ref(event))? {
             output.answer(index + 1, answer)?;
         }
@@ -59,6 +69,54 @@ fn run<M: GuestMem, W: Write>(
     for index in 0..device.wire_len() {
         if let Some(frame) = device.wire_at(index) {
             output.frame(frame.bytes())?;
+        }
+    }
+    output.finish()
+}
+
+// Gives all events to a device over these memories, and writes what they leave for the pool's lone function.
+fn keep<M: GuestMem, W: Write>(
+    alloc: Global,
+    script: &Script,
+    pool: PoolId,
+    memories: Vec<M>,
+    writer: &mut W,
+) -> Result<(), Fault> {
+    let device = Device::with_limit(alloc, memories, script.shape().limit.get())?;
+    let mut watch = Watch::new(device, pool);
+    let mut output = Output::new(alloc, writer)?;
+    let mut slots = Slots::new();
+    let mut room = [0; MOST_BYTES];
+    for (index, record) in script.records().iter().enumerate() {
+        let event = slots.event(script, *record, &mut room);
+        let kind = watch.step(event);
+        if let Some(item) = watch.item(kind, event) {
+            output.item(index + 1, &item)?;
+        }
+    }
+    output.finish()
+}
+
+// Gives the pool's lone function, over its memory, what is kept for it, and writes what is seen of it.
+fn lone<M: GuestMem, W: Write>(
+    alloc: Global,
+    script: &Script,
+    pool: PoolId,
+    memories: Vec<M>,
+    memory: M,
+    writer: &mut W,
+) -> Result<(), Fault> {
+    let limit = script.shape().limit;
+    let device = Device::with_limit(alloc, memories, limit.get())?;
+    let mut watch = Watch::new(device, pool);
+    let mut lone = Lone::new(memory, limit);
+    let mut output = Output::new(alloc, writer)?;
+    let mut slots = Slots::new();
+    let mut room = [0; MOST_BYTES];
+    for (index, record) in script.records().iter().enumerate() {
+        let event = slots.event(script, *record, &mut room);
+        if let Some(seen) = follow(&mut watch, &mut lone, event) {
+            output.seen(index + 1, pool, &seen)?;
         }
     }
     output.finish()

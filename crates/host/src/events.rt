@@ -3,7 +3,9 @@
 //! An event has room for the longest frame, and to make one costs as much as to move that room. So there is one event of
 //! each frequent kind, which is filled anew where it lies.
 
+use crate::arena::MOST_BYTES;
 use crate::record::Record;
+use crate::script::Script;
 use device::{Event, MemBytes, Queue};
 use wire_frame::{FrameBuf, FrameLimit};
 
@@ -37,8 +39,15 @@ impl Slots {
         }
     }
 
-    /// The event of a record and its bytes, in a device with this limit on frames.
-    pub fn event(&mut self, record: Record, bytes: &[u8], limit: FrameLimit) -> &Event {
+    /// The event of a script's record. Its bytes may be laid out in `room`.
+    pub fn event(
+        &mut self,
+        script: &Script,
+        record: Record,
+        room: &mut [u8; MOST_BYTES],
+    ) -> &Event {
+        let limit = script.shape().limit;
+        let bytes = script.bytes(record, room);
         let slot = match record {
             Record::VfRead(_, _) => &mut self.vf_read,
             Record::VfWrite(_, _, _) => &mut self.vf_write,
@@ -51,7 +60,7 @@ impl Slots {
             Record::Open(_) | Record::End(_) | Record::Flr(_) | Record::PfReset => &mut self.other,
         };
         if !refill(slot, record, bytes, limit) {
-            *slot = made(record, bytes, limit);
+            remake(slot, record, bytes, limit);
         }
         slot
     }
@@ -92,6 +101,13 @@ fn refill(slot: &mut Event, record: Record, bytes: &[u8], limit: FrameLimit) -> 
         _ => return false,
     }
     true
+}
+
+// Makes an event of another kind the event of a record and these bytes.
+#[cold]
+#[inline(never)]
+fn remake(slot: &mut Event, record: Record, bytes: &[u8], limit: FrameLimit) {
+    *slot = made(record, bytes, limit);
 }
 
 // The event of a record and these bytes.

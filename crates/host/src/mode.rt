@@ -1,6 +1,7 @@
 //! What the command line asks for.
 use crate::fault::Fault;
 use crate::number::number;
+use wire_frame::PoolId;
 
 /// What the command line asks for.
 #[derive(Clone, Copy, Debug, PartialEq, Eq)]
@@ -28,6 +29,20 @@ impl Mode {
                 }
             }
             _ => Err(Fault::Usage),
+        }
+    }
+
+    /// The pool of the virtual function that the mode names, if it names one. One that isn't below the number of functions
+    /// is [`Fault::NoSuchVf`].
+    pub fn pool(self, functions: u8) -> Result<Option<PoolId>, Fault> {
+        match self {
+            Mode::Run => Ok(None),
+            Mode::Keep(pool) | Mode::Lone(pool) => {
+                if pool >= u64::from(functions) {
+                    return Err(Fault::NoSuchVf);
+                }
+                Ok(PoolId::new(pool as u8))
+            }
         }
     }
 }

@@ -2,8 +2,10 @@
 
 use crate::fault::Fault;
 use device::{Answer, Reply};
+use lone::{Given, Seen};
 use std::alloc::Global;
 use std::io::Write;
+use wire_frame::PoolId;
 
 // How many bytes are held before they are written.
 const HELD: usize = 65_536;
@@ -27,6 +29,36 @@ impl<'a, W: Write> Output<'a, W> {
         self.decimal(number as u64)?;
         self.reply(&answer.reply)?;
         self.marks(&answer.raised)?;
+        self.end_line()
+    }
+
+    /// The line of what an event leaves for a lone function.
+    pub fn item(&mut self, number: usize, item: &Given) -> Result<(), Fault> {
+        self.decimal(number as u64)?;
+        match item {
+            Given::OwnEvent(_) => self.text(b" event")?,
+            Given::NewSettings(_) => self.text(b" settings")?,
+            Given::Gone => self.text(b" gone")?,
+            Given::Offer(frame, looped) => {
+                self.text(if *looped { b" offer 1 " } else { b" offer 0 " })?;
+                self.digits(frame.bytes())?;
+            }
+        }
+        self.end_line()
+    }
+
+    /// The line of what is seen of a pool's lone function: the number of the event that it comes of, the reply where there
+    /// is one, and the pool's mark where messages were issued.
+    pub fn seen(&mut self, number: usize, pool: PoolId, seen: &Seen) -> Result<(), Fault> {
+        self.decimal(number as u64)?;
+        let messages = match seen {
+            Seen::Replied(reply, messages) => {
+                self.reply(reply)?;
+                *messages
+            }
+            Seen::Interrupted(messages) => *messages,
+        };
+        self.mark(u64::from(pool.get()), messages)?;
         self.end_line()
     }
 
@@ -81,14 +113,20 @@ impl<'a, W: Write> Output<'a, W> {
     // The marks of eight pools from one on.
     fn marks_from(&mut self, first: u64, masks: &[u8; 8]) -> Result<(), Fault> {
         for (pool, mask) in masks.iter().enumerate() {
-            if *mask != 0 {
-                self.text(b" !")?;
-                self.decimal(first.saturating_add(pool as u64))?;
-                self.text(b":")?;
-                self.decimal(u64::from(*mask))?;
-            }
+            self.mark(first.saturating_add(pool as u64), *mask)?;
         }
         Ok(())
+    }
+
+    // A pool's mark, unless its mask is empty.
+    fn mark(&mut self, pool: u64, mask: u8) -> Result<(), Fault> {
+        if mask == 0 {
+            return Ok(());
+        }
+        self.text(b" !")?;
+        self.decimal(pool)?;
+        self.text(b":")?;
+        self.decimal(u64::from(mask))
     }
 
     // The digits of bytes, or `-` where there are none.

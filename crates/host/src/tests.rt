@@ -1,6 +1,7 @@
 //! Runs of whole scripts, and of readers and writers that break. The values come from worked examples outside.
 
 mod accesses;
+mod alone;
 mod bad_lines;
 mod broken;
 mod command_line;
@@ -8,6 +9,7 @@ mod cut;
 mod grammar;
 mod harness;
 mod limits;
+mod one_function;
 mod receiving;
 mod sending;
 mod wire_out;

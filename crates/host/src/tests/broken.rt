@@ -1,10 +1,11 @@
 //! Readers and writers that break at a call, or do less than they are asked.
-use super::harness::{long_script, run};
+use super::harness::{long_script, run, run_in};
 use crate::drive::drive;
 use crate::fault::Fault;
 use crate::mode::Mode;
 use std::io;
 use std::io::{Error, ErrorKind, Read, Write};
+use std::process::Abort;
 use std::test::Fail;
 
 // A reader of a text in parts. It fails at the call of that number, counted from 0.
@@ -76,10 +77,12 @@ const SCRIPT: &str =
 // How many bytes a call moves.
 const PART: usize = 7;
 
-#[test]
-fn reader_that_fails(rt: HostRuntime) -> Result<(), Fail> {
-    let script = long_script(rt.alloc(), SCRIPT)?;
-    let (_, output) = run(rt.alloc(), script.as_bytes());
+// Each mode, those for one function with the function that the script gives a frame to.
+const MODES: [Mode; 3] = [Mode::Run, Mode::Keep(3), Mode::Lone(3)];
+
+// A reader that fails at each of its calls in turn.
+fn check_reader<R: Abort + AllocGlobal>(rt: &R, mode: Mode, script: &str) -> Result<(), Fail> {
+    let (_, output) = run_in(rt.alloc(), mode, script.as_bytes());
     // one call for each part, and one that finds the end
     let calls = script.len().div_ceil(PART) + 1;
     for fails_at in 0..calls + 2 {
@@ -91,14 +94,26 @@ fn reader_that_fails(rt: HostRuntime) -> Result<(), Fail> {
             is_interrupted: false,
         };
         let mut written = Vec::new(rt.alloc());
-        let result = drive(rt.alloc(), Mode::Run, &mut reader, &mut written);
+        let result = drive(rt.alloc(), mode, &mut reader, &mut written);
         if fails_at < calls {
-            assert_eq!(rt; result, Err(Fault::Io), "at {fails_at}");
-            assert!(rt; written.is_empty(), "at {fails_at}");
+            assert_eq!(rt; result, Err(Fault::Io), "{mode:?} at {fails_at}");
+            assert!(rt; written.is_empty(), "{mode:?} at {fails_at}");
         } else {
-            assert_eq!(rt; result, Ok(()), "at {fails_at}");
-            assert!(rt; written.as_slice() == output.as_slice(), "at {fails_at}");
+            assert_eq!(rt; result, Ok(()), "{mode:?} at {fails_at}");
+            assert!(rt;
+                written.as_slice() == output.as_slice(),
+                "{mode:?} at {fails_at}"
+            );
         }
+    }
+    Ok(())
+}
+
+#[test]
+fn reader_that_fails(rt: HostRuntime) -> Result<(), Fail> {
+    let script = long_script(rt.alloc(), SCRIPT)?;
+    for mode in MODES {
+        check_reader(&rt, mode, script.as_str())?;
     }
     Ok(())
 }
@@ -137,10 +152,9 @@ fn reading_stops_at_the_first_bad_line(rt: HostRuntime) -> Result<(), Fail> {
     Ok(())
 }
 
-#[test]
-fn writer_that_fails(rt: HostRuntime) -> Result<(), Fail> {
-    let script = long_script(rt.alloc(), SCRIPT)?;
-    let (_, output) = run(rt.alloc(), script.as_bytes());
+// A writer that fails at each of its calls in turn.
+fn check_writer<R: Abort + AllocGlobal>(rt: &R, mode: Mode, script: &str) -> Result<(), Fail> {
+    let (_, output) = run_in(rt.alloc(), mode, script.as_bytes());
     // one call for each part, and the flush
     let calls = output.len().div_ceil(PART) + 1;
     for fails_at in 0..calls + 2 {
@@ -150,20 +164,27 @@ fn writer_that_fails(rt: HostRuntime) -> Result<(), Fail> {
             calls: 0,
             fails_at,
         };
-        let result = drive(rt.alloc(), Mode::Run, &mut script.as_bytes(), &mut writer);
+        let result = drive(rt.alloc(), mode, &mut script.as_bytes(), &mut writer);
+        let taken = writer.taken.as_slice();
         if fails_at < calls {
-            assert_eq!(rt; result, Err(Fault::Io), "at {fails_at}");
+            assert_eq!(rt; result, Err(Fault::Io), "{mode:?} at {fails_at}");
             assert!(rt;
-                output.as_slice().starts_with(writer.taken.as_slice()),
-                "at {fails_at}"
+                output.as_slice().starts_with(taken),
+                "{mode:?} at {fails_at}"
             );
         } else {
-            assert_eq!(rt; result, Ok(()), "at {fails_at}");
-            assert!(rt;
-                writer.taken.as_slice() == output.as_slice(),
-                "at {fails_at}"
-            );
+            assert_eq!(rt; result, Ok(()), "{mode:?} at {fails_at}");
+            assert!(rt; taken == output.as_slice(), "{mode:?} at {fails_at}");
         }
+    }
+    Ok(())
+}
+
+#[test]
+fn writer_that_fails(rt: HostRuntime) -> Result<(), Fail> {
+    let script = long_script(rt.alloc(), SCRIPT)?;
+    for mode in MODES {
+        check_writer(&rt, mode, script.as_str())?;
     }
     Ok(())
 }

@@ -1,10 +1,7 @@
 //! The words of the command line, and how the program ends.
-use crate::drive::drive;
 use crate::fault::Fault;
 use crate::mode::Mode;
 use crate::status::status;
-use std::io;
-use std::io::{Error, ErrorKind, Read};
 use std::test::Fail;
 
 // The words of a line, parted by `|`, and the mode that they ask for.
@@ -65,26 +62,6 @@ fn words_of_the_command_line(rt: HostRuntime) -> Result<(), Fail> {
         );
     }
     Ok(())
-}
-
-// A reader that nothing may be read from.
-#[derive(Drop)]
-struct Unread;
-
-impl Read for Unread {
-    fn read(&mut self, _buf: &mut [u8]) -> io::Result<usize> {
-        Err(Error::from(ErrorKind::Other))
-    }
-}
-
-#[test]
-fn modes_that_are_not_there(rt: HostRuntime) {
-    for mode in [Mode::Keep(0), Mode::Lone(0)] {
-        let mut written = Vec::new(rt.alloc());
-        let result = drive(rt.alloc(), mode, &mut Unread, &mut written);
-        assert_eq!(rt; result, Err(Fault::Usage), "{mode:?}");
-        assert!(rt; written.is_empty());
-    }
 }
 
 // Each fault, its text, its number and the status that it ends the program with.

@@ -36,8 +36,14 @@ pub struct BadCase {
 
 /// Runs each case, which has to have its output.
 pub fn check<R: Abort + AllocGlobal>(rt: &R, cases: &[Case]) -> Result<(), Fail> {
+    check_in(rt, Mode::Run, cases)
+}
+
+/// The same in a mode.
+pub fn check_in<R: Abort + AllocGlobal>(rt: &R, mode: Mode, cases: &[Case]) -> Result<(), Fail> {
     for case in cases {
-        let (result, written) = run(rt.alloc(), long_script(rt.alloc(), case.script)?.as_bytes());
+        let script = long_script(rt.alloc(), case.script)?;
+        let (result, written) = run_in(rt.alloc(), mode, script.as_bytes());
         let output = long_output(rt.alloc(), case.output)?;
         assert_eq!(rt; result, Ok(()), "{}", case.name);
         assert!(rt;
@@ -61,9 +67,14 @@ pub fn check_bad<R: Abort + AllocGlobal>(rt: &R, cases: &[BadCase]) -> Result<()
 
 /// What a run of a script gives and writes.
 pub fn run(alloc: Global, script: &[u8]) -> (Result<(), Fault>, Vec<u8>) {
+    run_in(alloc, Mode::Run, script)
+}
+
+/// The same in a mode.
+pub fn run_in(alloc: Global, mode: Mode, script: &[u8]) -> (Result<(), Fault>, Vec<u8>) {
     let mut reader = script;
     let mut written = Vec::new(alloc);
-    let result = drive(alloc, Mode::Run, &mut reader, &mut written);
+    let result = drive(alloc, mode, &mut reader, &mut written);
     (result, written)
 }
 

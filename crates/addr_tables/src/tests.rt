@@ -36,6 +36,99 @@ fn entries_with_one_address_are_united(rt: HostRuntime) {
     assert!(rt; !tables.is_held(Mac([2, 0, 0, 0, 0, 0x78])));
 }
 
+/// One entry, as its words change one after another: the pools of 02:00:00:00:00:11, 02:00:00:00:00:22 and
+/// 03:00:00:00:00:22 after each write. It becomes valid, gets another high word, low word and pools, is not valid for a
+/// while, and is then without pools.
+#[test]
+fn a_valid_entry_follows_its_words(rt: HostRuntime) {
+    let mut tables = AddrTables::new();
+    let steps = [
+        (0xA200, 0x2, [0, 0, 0]),
+        (0xA600, 0x8, [0, 0, 0]),
+        (0xA204, 0x8000_1100, [0x8, 0, 0]),
+        (0xA204, 0x8000_2200, [0, 0x8, 0]),
+        (0xA200, 0x3, [0, 0, 0x8]),
+        (0xA604, 0x8000_0000, [0, 0, 0x8000_0000_0000_0008]),
+        (0xA600, 0x10, [0, 0, 0x8000_0000_0000_0010]),
+        (0xA204, 0x2200, [0, 0, 0]),
+        (0xA604, 0x0, [0, 0, 0]),
+        (0xA204, 0x8000_2200, [0, 0, 0x10]),
+        (0xA600, 0x0, [0, 0, 0]),
+    ];
+    for (offset, value, want) in steps {
+        tables.write(offset, value);
+        let found = [
+            tables.pools_of(Mac([2, 0, 0, 0, 0, 0x11])),
+            tables.pools_of(Mac([2, 0, 0, 0, 0, 0x22])),
+            tables.pools_of(Mac([3, 0, 0, 0, 0, 0x22])),
+        ];
+        assert_eq!(rt; found, want, "after {offset} was {value}");
+    }
+}
+
+/// Three entries for one address, each with another pool, between entries for two others. As one after another ceases to
+/// be valid, the address keeps the pools of the rest.
+#[test]
+fn repeated_addresses_lose_one_entry(rt: HostRuntime) {
+    let mut tables = AddrTables::new();
+    let entries = [
+        (0, 0x55, 1),
+        (1, 0x66, 2),
+        (2, 0x55, 4),
+        (3, 0x44, 8),
+        (4, 0x55, 16),
+    ];
+    for (e, last, pools) in entries {
+        tables.write(0xA200 + 8 * e, 0x2);
+        tables.write(0xA600 + 8 * e, pools);
+        tables.write(0xA204 + 8 * e, 0x8000_0000 + 256 * last);
+    }
+    for (high, want) in [(0xA5FC, 21), (0xA204, 20), (0xA224, 4), (0xA214, 0)] {
+        tables.write(high, 0x5500);
+        assert_eq!(rt;
+            tables.pools_of(Mac([2, 0, 0, 0, 0, 0x55])),
+            want,
+            "after {high}"
+        );
+        assert_eq!(rt; tables.pools_of(Mac([2, 0, 0, 0, 0, 0x44])), 8);
+        assert_eq!(rt; tables.pools_of(Mac([2, 0, 0, 0, 0, 0x66])), 2);
+    }
+}
+
+/// 128 addresses, written from the highest to the lowest, whose last bytes are the even numbers. Each is found with the
+/// pool of its entry, and those below, between and above are not, all with at most 8 comparisons.
+#[test]
+fn many_addresses_take_few_comparisons(rt: HostRuntime) {
+    let mut tables = AddrTables::new();
+    assert_eq!(rt; tables.probe(Mac([2, 0, 0, 0, 0, 0])), (0, 0));
+    for e in 0..128 {
+        tables.write(0xA200 + 8 * e, 0x2);
+        tables.write(0xA204 + 8 * e, 0x8000_FE00 - 512 * e);
+        tables.write(0xA600 + 4 * (2 * e + e / 32 % 2), 1 << (e % 32));
+    }
+    for e in 0..128u8 {
+        let last = 254 - 2 * e;
+        let (pools, compared) = tables.probe(Mac([2, 0, 0, 0, 0, last]));
+        assert_eq!(rt; pools, 1 << (e % 64), "entry {e}");
+        assert!(rt; 1 <= compared && compared <= 8, "entry {e}: {compared}");
+        let (pools, compared) = tables.probe(Mac([2, 0, 0, 0, 0, last + 1]));
+        assert_eq!(rt; pools, 0, "above entry {e}");
+        assert!(rt;
+            7 <= compared && compared <= 8,
+            "above entry {e}: {compared}"
+        );
+    }
+    for other in [
+        Mac([0, 0, 0, 0, 0, 0]),
+        Mac([1, 0, 0, 0, 0, 0]),
+        Mac([0xFF; 6]),
+    ] {
+        let (pools, compared) = tables.probe(other);
+        assert_eq!(rt; pools, 0);
+        assert!(rt; 7 <= compared && compared <= 8, "{compared}");
+    }
+}
+
 /// What an entry gives a pool. The first entry is for pool 1, the last for pool 34, the second is not valid and the third
 /// has no pools.
 #[test]

@@ -1,5 +1,4 @@
 pub mod Arrivals
-mod Services
 mod Sizes
 pub mod Settings
 pub mod Steps

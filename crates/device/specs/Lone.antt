@@ -1,6 +1,7 @@
 -- One virtual function alone: what a run keeps for it, and what it does with that.
 use Rattle.std.specs.Prelude.{ℕ, Bool, List, [], ◌∷◌, Option, Some, None, length, ◌==◌, nat_lt, slice_index, if◌then◌else◌}
 use Rattle.std.specs.List.{cons_option}
+use Rattle.std.specs.Option.{unwrap_or}
 use Rattle.vf_unit.specs.Unit.{Function, Closed, ended}
 use Rattle.pool_filter.specs.Own.{OwnSettings, no_settings, own, same_settings}
 use Rattle.local_switch.specs.declared.ways.Source.{Source}
@@ -47,6 +48,10 @@ pool_of (PfRead offset) = None
 pool_of (PfWrite offset x) = None
 pool_of PfReset = None
 pool_of (Wire frame) = None
+
+-- the same, and 0 for nobody's
+abbrev pub owner : Event → ℕ
+owner e = unwrap_or (pool_of e) 0
 
 abbrev pub is_own : ℕ → Event → Bool
 is_own p e = is_pool (pool_of e) p

@@ -27,3 +27,12 @@ IsShort _ = Unit
 abbrev pub went_out : Outcome → Bool
 went_out Sent = true
 went_out _ = false
+
+abbrev pub was_done : Outcome → Bool
+was_done Done = true
+was_done _ = false
+
+-- bytes of a memory are read
+abbrev pub reads : Outcome → Bool
+reads (Bytes at count) = true
+reads _ = false

@@ -1,15 +1,17 @@
 //! All that a device is but the frame that it lends for services.
-ghost use Rattle.std.specs.Prelude.{◌≡◌, ℕ, ◌<◌, ◌≤◌, true, false, length, map, slice_index, slice_index_or, if◌then◌else◌, Some, None};
+ghost use Rattle.std.specs.Prelude.{◌≡◌, ℕ, ◌<◌, ◌≤◌, true, false, length, map, replicate, slice_index, slice_index_or, if◌then◌else◌, Some, None};
 ghost use Rattle.wire_frame.specs.Bits.{has_bit};
-ghost use Rattle.vf_unit.specs.Unit.{Closed, ended};
+ghost use Rattle.vf_unit.specs.Unit.{Function, Closed, bytes_at, ended};
 ghost use Rattle.pool_filter.specs.Own.{own};
-ghost use Rattle.device.specs.Act.{serve, is_sent, is_done};
-ghost use Rattle.device.specs.Outcome.{IsShort, reply_of, went_out};
-ghost use Rattle.device.specs.World.{is_looped, offered, told, switched, silently, with_function, own_step, service, step, sent_by};
-ghost use Rattle.wire_frame.specs.Fault.{number_of};
+ghost use Rattle.device.specs.Act.{serve, is_sent};
+ghost use Rattle.device.specs.Lone.{owner};
+ghost use Rattle.device.specs.declared.event.Reply.{Reply};
+ghost use Rattle.device.specs.Outcome.{IsShort, reply_of, reads, went_out, was_done};
+ghost use Rattle.device.specs.World.{is_looped, offered, told, switched, silence, function_of, with_function, own_step, service, step, sent_by};
 
-use crate::event::{Answer, Event, Reply};
-use crate::outcome::{Outcome, reply};
+use crate::bytes::MemBytes;
+use crate::event::Event;
+use crate::outcome::Outcome;
 use crate::refusal::{PF_SPACE, act, is_bad_offset};
 use crate::resets::{clear_resets, read_resets};
 use crate::service::{PoolRules, serve_queue};
@@ -82,24 +84,6 @@ fn end_all<M: GuestMem>(units: &mut [VfUnit<M>])
     }
 }
 
-// An answer without messages.
-#[tactic(auto, unfolding(crate::specs::World::silence))]
-fn silent(reply: Reply) -> Answer
-    ensures { result ≡ silently reply }
-{
-    Answer {
-        reply,
-        raised: [0; 64],
-    }
-}
-
-// The answer to an event that is refused.
-fn refused(fault: Fault) -> Answer
-    ensures { result ≡ silently (Reply.Refused (number_of fault)) }
-{
-    silent(Reply::Refused(fault.number()))
-}
-
 impl<M: GuestMem> Adapter<M> {
     /// How many virtual functions there are.
     pub fn functions(&self) -> usize
@@ -121,53 +105,66 @@ impl<M: GuestMem> Adapter<M> {
     }
 
     // An event of a function's own, but for a service.
-    #[tactic(auto, unfolding(crate::specs::World::silence))]
-    fn own_step(&mut self, pool: u8, event: &Event) -> Answer
+    fn own_step(&mut self, pool: u8, event: &Event, raised: &mut [u8; 64]) -> Outcome
+        requires silent { raised.old ≡ silence }
         ensures world { self.new ≡ (own_step self.old pool event.now).world }
-        ensures answer { result ≡ (own_step self.old pool event.now).answer }
-        ensures there { is_done result.reply ≡ true → pool < length self.old.functions }
-        ensures unsent { is_sent result.reply ≡ false }
+        ensures reply { reply_of (function_of pool self.new) result ≡ (own_step self.old pool event.now).answer.reply }
+        ensures raised { raised.new ≡ (own_step self.old pool event.now).answer.raised }
+        ensures there { reads result ≡ true → pool < length self.new.functions }
+        ensures done { was_done result ≡ true → pool < length self.old.functions }
+        ensures short { IsShort result }
+        ensures unsent { went_out result ≡ false }
     {
         let index = usize::from(pool);
         if index >= self.units.len() {
-            return refused(Fault::NoSuchVf);
+            return Outcome::Refused(Fault::NoSuchVf);
         }
         let mut messages = 0;
         let outcome = act(&mut self.units[index], event, &mut messages);
-        let mut raised = [0; 64];
         raised[index] = messages;
-        Answer {
-            reply: reply(&self.units[index], outcome),
-            raised,
-        }
+        outcome
     }
 
     // The reset of a function, which PFVFLRE shows where it was done.
-    fn function_reset(&mut self, pool: u8, event: &Event) -> Answer
-        requires { event.now ≡ Event.Flr pool }
+    fn function_reset(&mut self, pool: u8, event: &Event, raised: &mut [u8; 64]) -> Outcome
+        requires reset { event.now ≡ Event.Flr pool }
+        requires silent { raised.old ≡ silence }
         ensures world { self.new ≡ (step self.old (Event.Flr pool)).world }
-        ensures answer { result ≡ (step self.old (Event.Flr pool)).answer }
-        ensures unsent { is_sent result.reply ≡ false }
+        ensures reply { reply_of (function_of pool self.new) result ≡ (step self.old (Event.Flr pool)).answer.reply }
+        ensures raised { raised.new ≡ (step self.old (Event.Flr pool)).answer.raised }
+        ensures there { reads result ≡ true → pool < length self.new.functions }
+        ensures short { IsShort result }
+        ensures unsent { went_out result ≡ false }
     {
-        let answer = self.own_step(pool, event);
-        if answer.reply.is_done() {
+        let outcome = self.own_step(pool, event, raised);
+        if outcome.is_done() {
             self.resets |= 1 << pool;
         }
-        answer
+        outcome
     }
 
     // The service of a function's queue. A frame that is sent is left in `frame`.
-    fn serve(&mut self, pool: u8, queue: Queue, frame: &mut FrameBuf) -> Answer
+    fn serve(
+        &mut self,
+        pool: u8,
+        queue: Queue,
+        frame: &mut FrameBuf,
+        raised: &mut [u8; 64],
+    ) -> Outcome
+        requires silent { raised.old ≡ silence }
         ensures world { self.new ≡ (step self.old (Event.Serve pool queue)).world }
-        ensures answer { result ≡ (step self.old (Event.Serve pool queue)).answer }
-        ensures sent { sent_by self.old (Event.Serve pool queue) ≡ (if is_sent result.reply then Some frame.new else None) }
+        ensures reply { reply_of (function_of pool self.new) result ≡ (step self.old (Event.Serve pool queue)).answer.reply }
+        ensures raised { raised.new ≡ (step self.old (Event.Serve pool queue)).answer.raised }
+        ensures sent { sent_by self.old (Event.Serve pool queue) ≡ (if went_out result then Some frame.new else None) }
+        ensures there { reads result ≡ true → pool < length self.new.functions }
+        ensures short { IsShort result }
     {
         let index = usize::from(pool);
         if index >= self.units.len() {
-            return refused(Fault::NoSuchVf);
+            return Outcome::Refused(Fault::NoSuchVf);
         }
         match PoolId::new(pool) {
-            Some(sender) => self.serve_pool(sender, queue, frame),
+            Some(sender) => self.serve_pool(sender, queue, frame, raised),
             None => unreachable!(),
         }
     }
@@ -206,104 +203,124 @@ impl<M: GuestMem> Adapter<M> {
     }
 
     // The same, of a function that is there.
-    #[tactic(auto, unfolding(crate::specs::World::silence))]
-    fn serve_pool(&mut self, pool: PoolId, queue: Queue, frame: &mut FrameBuf) -> Answer
-        requires { pool < length self.old.functions }
+    fn serve_pool(
+        &mut self,
+        pool: PoolId,
+        queue: Queue,
+        frame: &mut FrameBuf,
+        raised: &mut [u8; 64],
+    ) -> Outcome
+        requires there { pool < length self.old.functions }
+        requires silent { raised.old ≡ silence }
         ensures world { self.new ≡ (step self.old (Event.Serve pool queue)).world }
-        ensures answer { result ≡ (step self.old (Event.Serve pool queue)).answer }
-        ensures sent { sent_by self.old (Event.Serve pool queue) ≡ (if is_sent result.reply then Some frame.new else None) }
+        ensures reply { reply_of (function_of pool self.new) result ≡ (step self.old (Event.Serve pool queue)).answer.reply }
+        ensures raised { raised.new ≡ (step self.old (Event.Serve pool queue)).answer.raised }
+        ensures sent { sent_by self.old (Event.Serve pool queue) ≡ (if went_out result then Some frame.new else None) }
+        ensures there { pool < length self.new.functions }
+        ensures short { IsShort result }
     {
-        let index = usize::from(pool.get());
         let mut messages = 0;
         let outcome = self.transmit(pool, queue, frame, &mut messages);
-        if !outcome.is_sent() {
-            let mut raised = [0; 64];
-            raised[index] = messages;
-            return Answer {
-                reply: reply(&self.units[index], outcome),
-                raised,
-            };
+        if outcome.is_sent() {
+            *raised = self.switch(Source::Pool(pool), frame);
         }
-        let mut raised = self.switch(Source::Pool(pool), frame);
-        raised[index] = messages;
-        Answer {
-            reply: Reply::Sent,
-            raised,
-        }
+        raised[usize::from(pool.get())] = messages;
+        outcome
     }
 
     // A read of a register of the physical function.
-    fn pf_read(&self, offset: u32) -> Answer
-        ensures { result ≡ (step self.now (Event.PfRead offset)).answer }
+    fn pf_read(&self, offset: u32) -> Outcome
+        ensures reply { (f : Function) → reply_of f result ≡ (step self.now (Event.PfRead offset)).answer.reply }
+        ensures silent { (step self.now (Event.PfRead offset)).answer.raised ≡ silence }
+        ensures unread { reads result ≡ false }
+        ensures unsent { went_out result ≡ false }
     {
         if is_bad_offset(PF_SPACE, offset) {
-            return refused(Fault::BadOffset);
+            return Outcome::Refused(Fault::BadOffset);
         }
         let value = match read_resets(self.resets, offset) {
             Some(word) => word,
             None => self.tables.read(offset),
         };
-        silent(Reply::Value(value))
+        Outcome::Value(value)
     }
 
     // A write of a register of the physical function.
-    fn pf_write(&mut self, offset: u32, value: u32) -> Answer
+    fn pf_write(&mut self, offset: u32, value: u32) -> Outcome
         ensures world { self.new ≡ (step self.old (Event.PfWrite offset value)).world }
-        ensures answer { result ≡ (step self.old (Event.PfWrite offset value)).answer }
+        ensures reply { (f : Function) → reply_of f result ≡ (step self.old (Event.PfWrite offset value)).answer.reply }
+        ensures silent { (step self.old (Event.PfWrite offset value)).answer.raised ≡ silence }
+        ensures unread { reads result ≡ false }
+        ensures unsent { went_out result ≡ false }
     {
         if is_bad_offset(PF_SPACE, offset) {
-            return refused(Fault::BadOffset);
+            return Outcome::Refused(Fault::BadOffset);
         }
         self.tables.write(offset, value);
         self.resets = clear_resets(self.resets, offset, value);
-        silent(Reply::Done)
+        Outcome::Done
     }
 
     // The reset of the device.
-    fn pf_reset(&mut self) -> Answer
-        ensures world { self.new ≡ (step self.old Event.PfReset).world }
-        ensures answer { result ≡ (step self.old Event.PfReset).answer }
+    fn pf_reset(&mut self)
+        ensures { self.new ≡ (step self.old Event.PfReset).world }
     {
         end_all(&mut self.units);
         self.tables.clear();
         self.resets = 0;
-        silent(Reply::Done)
     }
 
     // A frame from the wire.
-    fn wire_frame(&mut self, frame: &FrameBuf) -> Answer
+    fn wire_frame(&mut self, frame: &FrameBuf, raised: &mut [u8; 64]) -> Outcome
+        requires silent { raised.old ≡ silence }
         ensures world { self.new ≡ (step self.old (Event.Wire frame.now)).world }
-        ensures answer { result ≡ (step self.old (Event.Wire frame.now)).answer }
+        ensures reply { (f : Function) → reply_of f result ≡ (step self.old (Event.Wire frame.now)).answer.reply }
+        ensures raised { raised.new ≡ (step self.old (Event.Wire frame.now)).answer.raised }
+        ensures unread { reads result ≡ false }
+        ensures unsent { went_out result ≡ false }
     {
         if frame.bytes().len() > usize::from(self.limit.get()) {
-            return refused(Fault::BadFrame);
+            return Outcome::Refused(Fault::BadFrame);
         }
-        let raised = self.switch(Source::Wire, frame);
-        Answer {
-            reply: Reply::Done,
-            raised,
+        *raised = self.switch(Source::Wire, frame);
+        Outcome::Done
+    }
+
+    /// Takes one event, and tells what came of it. The messages are left in `raised`, and a frame that it sends in `lent`.
+    pub fn step(&mut self, event: &Event, lent: &mut FrameBuf, raised: &mut [u8; 64]) -> Outcome
+        requires silent { raised.old ≡ silence }
+        ensures world { self.new ≡ (step self.old event.now).world }
+        ensures reply { reply_of (function_of (owner event.now) self.new) result ≡ (step self.old event.now).answer.reply }
+        ensures raised { raised.new ≡ (step self.old event.now).answer.raised }
+        ensures sent { sent_by self.old event.now ≡ (if went_out result then Some lent.new else None) }
+        ensures there { reads result ≡ true → owner event.now < length self.new.functions }
+        ensures short { IsShort result }
+    {
+        match event {
+            Event::Open(pool) => self.own_step(*pool, event, raised),
+            Event::End(pool) => self.own_step(*pool, event, raised),
+            Event::VfRead(pool, _) => self.own_step(*pool, event, raised),
+            Event::VfWrite(pool, _, _) => self.own_step(*pool, event, raised),
+            Event::MemRead(pool, _, _) => self.own_step(*pool, event, raised),
+            Event::MemWrite(pool, _, _) => self.own_step(*pool, event, raised),
+            Event::Serve(pool, queue) => self.serve(*pool, *queue, lent, raised),
+            Event::Flr(pool) => self.function_reset(*pool, event, raised),
+            Event::PfRead(offset) => self.pf_read(*offset),
+            Event::PfWrite(offset, value) => self.pf_write(*offset, *value),
+            Event::PfReset => {
+                self.pf_reset();
+                Outcome::Done
+            }
+            Event::Wire(frame) => self.wire_frame(frame, raised),
         }
     }
 
-    /// Takes one event. A frame that it sends is left in `lent`.
-    pub fn step(&mut self, event: &Event, lent: &mut FrameBuf) -> Answer
-        ensures world { self.new ≡ (step self.old event.now).world }
-        ensures answer { result ≡ (step self.old event.now).answer }
-        ensures sent { sent_by self.old event.now ≡ (if is_sent result.reply then Some lent.new else None) }
+    /// Bytes of the memory of a function that is there, at most 2048.
+    pub fn mem_read(&self, pool: u8, at: u64, count: u16) -> MemBytes
+        requires there { pool < length self.now.functions }
+        requires short { count ≤ 2048 }
+        ensures { result ≡ bytes_at (function_of pool self.now) at (replicate {A = ℕ} count 0) }
     {
-        match event {
-            Event::Open(pool) => self.own_step(*pool, event),
-            Event::End(pool) => self.own_step(*pool, event),
-            Event::VfRead(pool, _) => self.own_step(*pool, event),
-            Event::VfWrite(pool, _, _) => self.own_step(*pool, event),
-            Event::MemRead(pool, _, _) => self.own_step(*pool, event),
-            Event::MemWrite(pool, _, _) => self.own_step(*pool, event),
-            Event::Serve(pool, queue) => self.serve(*pool, *queue, lent),
-            Event::Flr(pool) => self.function_reset(*pool, event),
-            Event::PfRead(offset) => self.pf_read(*offset),
-            Event::PfWrite(offset, value) => self.pf_write(*offset, *value),
-            Event::PfReset => self.pf_reset(),
-            Event::Wire(frame) => self.wire_frame(frame),
-        }
+        MemBytes::read(&self.units[usize::from(pool)], at, usize::from(count))
     }
 }

@@ -1,12 +1,14 @@
 //! The device.
-ghost use Rattle.std.specs.Prelude.{◌≡◌, ℕ, ◌<◌, ◌≤◌, ◌↔◌, ◌&&◌, true, false, length, map, slice_get, option_copied, IfOk, IfErr, OnOk, OnErr};
+ghost use Rattle.std.specs.Prelude.{◌≡◌, ℕ, ◌+◌, ◌<◌, ◌≤◌, ◌↔◌, ◌&&◌, true, false, [], ◌∷◌, ◌++◌, length, map, slice_get, option_copied, vec_len, vec_capacity, IfOk, IfErr, OnOk, OnErr};
 ghost use Rattle.std.specs.Option.{option_map};
 ghost use Rattle.vf_unit.specs.Unit.{Closed};
-ghost use Rattle.device.specs.World.{fresh, is_frame_limit, is_makeable, step, sent_by, answers, world_after};
-ghost use Rattle.device.specs.Lone.{keep, lone_of, lone_seen, lone_after, seen_by};
+ghost use Rattle.device.specs.Outcome.{IsShort, reply_of, reads};
+ghost use Rattle.device.specs.World.{fresh, is_frame_limit, is_makeable, function_of, step, sent_by, answers, world_after};
+ghost use Rattle.device.specs.Lone.{keep, lone_of, lone_seen, lone_after, owner, seen_by};
 
 use crate::adapter::Adapter;
-use crate::event::{Answer, Event};
+use crate::event::{Answer, Event, Reply};
+use crate::outcome::{Outcome, plain_reply};
 use crate::wire_out::WireOut;
 use guest_memory::{GuestMem, is_memory_size};
 use pool_filter::Tables;
@@ -92,26 +94,78 @@ impl<M: GuestMem> Device<M> {
     }
 
     /// Takes one event.
+    #[inline(always)]
+    #[tactic(auto, unfolding(crate::specs::World::silence))]
     pub fn step(&mut self, event: &Event) -> Answer
         ensures world { self.new ≡ (step self.old event.now).world }
         ensures answer { result ≡ (step self.old event.now).answer }
     {
-        self.adapter.step(event, &mut self.lent)
+        let mut raised = [0; 64];
+        let outcome = self.adapter.step(event, &mut self.lent, &mut raised);
+        self.answer(event, outcome, raised)
     }
 
     /// Takes one event, and gives the frame beside, where it sent one.
+    #[inline(always)]
+    #[tactic(auto, unfolding(crate::specs::World::silence))]
     pub fn step_sent(&mut self, event: &Event) -> (Answer, Option<FrameBuf>)
         ensures world { self.new ≡ (step self.old event.now).world }
         ensures answer { result.0 ≡ (step self.old event.now).answer }
         ensures sent { result.1 ≡ sent_by self.old event.now }
     {
-        let answer = self.adapter.step(event, &mut self.lent);
-        let sent = if answer.reply.is_sent() {
+        let mut raised = [0; 64];
+        let outcome = self.adapter.step(event, &mut self.lent, &mut raised);
+        let sent = if outcome.is_sent() {
             Some(self.lent.copy())
         } else {
             None
         };
-        (answer, sent)
+        (self.answer(event, outcome, raised), sent)
+    }
+
+    // The answer to an event, of what came of it. It is inlined into the steps, and they into their callers, so that no answer is
+    // made for who looks at none.
+    #[inline(always)]
+    fn answer(&self, event: &Event, outcome: Outcome, raised: [u8; 64]) -> Answer
+        requires there { reads outcome ≡ true → owner event.now < length self.now.functions }
+        requires short { IsShort outcome }
+        ensures reply { result.reply ≡ reply_of (function_of (owner event.now) self.now) outcome }
+        ensures raised { result.raised ≡ raised }
+    {
+        match outcome {
+            Outcome::Bytes(at, count) => Answer {
+                reply: Reply::Bytes(self.adapter.mem_read(event.owner(), at, count)),
+                raised,
+            },
+            _ => Answer {
+                reply: plain_reply(outcome),
+                raised,
+            },
+        }
+    }
+
+    // Takes one event, and adds its answer, for which there is room. An answer is large, and each arm makes it where it is to
+    // stand: one made before the arms meet would be copied.
+    #[inline]
+    #[tactic(auto, unfolding(crate::specs::World::silence))]
+    fn step_onto(&mut self, event: &Event, given: &mut Vec<Answer>)
+        requires { vec_len given.old < vec_capacity given.old }
+        ensures world { self.new ≡ (step self.old event.now).world }
+        ensures answer { given.new.items ≡ given.old.items ++ (step self.old event.now).answer ∷ [] }
+        ensures len { vec_len given.new ≡ vec_len given.old + 1 }
+        ensures capacity { vec_capacity given.new ≡ vec_capacity given.old }
+    {
+        let mut raised = [0; 64];
+        match self.adapter.step(event, &mut self.lent, &mut raised) {
+            Outcome::Bytes(at, count) => given.push_reserved(Answer {
+                reply: Reply::Bytes(self.adapter.mem_read(event.owner(), at, count)),
+                raised,
+            }),
+            outcome => given.push_reserved(Answer {
+                reply: plain_reply(outcome),
+                raised,
+            }),
+        }
     }
 
     /// Takes events in turn, and answers each. [`Fault::NoMemory`] comes before the first step, and leaves the device as it
@@ -134,11 +188,7 @@ impl<M: GuestMem> Device<M> {
             return Err(Fault::NoMemory);
         };
         for event in events {
-            let answer = self.step(event);
-            match given.push(answer) {
-                Ok(()) => {}
-                Err(_) => unreachable!(),
-            }
+            self.step_onto(event, &mut given);
         }
         Ok(given)
     }

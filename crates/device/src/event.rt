@@ -1,7 +1,7 @@
 //! What a device is asked, and what it answers.
 ghost use Rattle.std.specs.Prelude.{◌≡◌};
 ghost use Rattle.device.specs.Act.{is_sent, is_done};
-ghost use Rattle.device.specs.Lone.{pool_of};
+ghost use Rattle.device.specs.Lone.{pool_of, owner};
 
 use crate::bytes::MemBytes;
 use vf_unit::Queue;
@@ -86,6 +86,13 @@ impl Event {
             Event::Flr(pool) => Some(*pool),
             Event::PfRead(_) | Event::PfWrite(_, _) | Event::PfReset | Event::Wire(_) => None,
         }
+    }
+
+    // The same, and 0 for nobody's.
+    pub(crate) fn owner(&self) -> u8
+        ensures { result ≡ owner self.now }
+    {
+        self.pool().unwrap_or(0)
     }
 
     /// An equal event.

@@ -32,7 +32,7 @@ abbrev pub was_done : Outcome → Bool
 was_done Done = true
 was_done _ = false
 
--- bytes of a memory are read
+-- the reply is bytes of the function's memory
 abbrev pub reads : Outcome → Bool
 reads (Bytes at count) = true
 reads _ = false

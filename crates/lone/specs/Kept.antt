@@ -28,7 +28,8 @@ abbrev pub frame_of : Event → List ℕ → List ℕ
 frame_of (Wire frame) sent = frame
 frame_of _ sent = sent
 
--- the item of a kind
+-- the item that an event left, by its kind: the event itself, the pool's own settings after it, that the device was reset,
+-- or the frame
 abbrev pub item_for : Kind → Event → OwnSettings → List ℕ → Option Item
 item_for Nothing e o sent = None
 item_for OwnEvent e o sent = Some (OwnEvent e)

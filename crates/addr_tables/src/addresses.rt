@@ -27,6 +27,15 @@ impl Model for AddrTables {
     ghost invariant = { λ t. IsIndexOf t.index t.words };
 }
 
+impl Default for AddrTables {
+    ghost is_default = { λ t. t ≡ initial_addresses };
+
+    /// Tables in which every word is 0.
+    fn default() -> AddrTables {
+        AddrTables::new()
+    }
+}
+
 /// The words by their offsets.
 impl AddrTables {
     /// Tables in which every word is 0: no entry is valid, and the multicast table is off.

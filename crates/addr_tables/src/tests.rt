@@ -6,7 +6,7 @@ use wire_frame::{Mac, PoolId};
 /// it for pool 5, and a valid one without pools holds 02:00:00:00:00:78.
 #[test]
 fn entries_with_one_address_are_united(rt: HostRuntime) {
-    let mut tables = AddrTables::new();
+    let mut tables = AddrTables::default();
     let words = [
         (0xA200, 0x2),
         (0xA204, 0x8000_7700),

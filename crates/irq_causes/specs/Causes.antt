@@ -1,6 +1,6 @@
 -- Interrupt causes of one virtual function: three sets of its vectors 0 to 2, and the messages that a change issues.
 -- A set is a number below 8, whose bit v is 1 where vector v is in it.
-use Rattle.std.specs.Prelude.{ℕ, ◌%◌, ◌^◌, ◌&&◌, nat_lt, bit_and, bit_or, if◌then◌else◌}
+use Rattle.std.specs.Prelude.{ℕ, ◌%◌, ◌^◌, ◌||◌, nat_lt, bit_and, bit_or, if◌then◌else◌}
 use Rattle.std.specs.Int.{bit_not, w8}
 use Rattle.wire_frame.specs.Bits.{has_bit, with_bit}
 
@@ -46,11 +46,12 @@ silent c = record { state = c; messages = 0 }
 abbrev pub issued : CauseState → ℕ → Change
 issued c v = record { state = c; messages = 2 ^ v }
 
--- Cause v is raised. One that stands already changes nothing. Else one that is not enabled joins the causes, and one that
--- is enabled issues its message, and joins the causes unless it is cleared automatically.
+-- Cause v is raised. There is no vector above 2, and a cause that stands already changes nothing. Else one that is not
+-- enabled joins the causes, and one that is enabled issues its message, and joins the causes unless it is cleared
+-- automatically.
 unfoldable pub raised : CauseState → ℕ → Change
 raised c v =
-    if has_bit c.causes v then silent c
+    if nat_lt 2 v || has_bit c.causes v then silent c
     else (if has_bit c.enabled v
     then issued (if has_bit c.auto_clear v then c else with_cause c v) v
     else silent (with_cause c v))
@@ -100,6 +101,6 @@ cleared c word = record c { causes = c.causes without vectors_in word }
 abbrev pub emptied : CauseState → CauseState
 emptied c = record c { causes = 0 }
 
--- an entry of VTIVAR raises the vector of its bits 1:0, where bit 7 is 1 and the vector is below 3
+-- an entry of VTIVAR raises the cause of the vector in its bits 1:0, where bit 7 is 1
 unfoldable pub raised_by : CauseState → ℕ → Change
-raised_by c entry = if has_bit entry 7 && nat_lt (entry % 4) 3 then raised c (entry % 4) else silent c
+raised_by c entry = if has_bit entry 7 then raised c (entry % 4) else silent c

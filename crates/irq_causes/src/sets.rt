@@ -11,7 +11,7 @@ const ALLOCATED: u32 = 7;
 /// The causes of one virtual function that stand, the vectors that are enabled, and those that are cleared automatically.
 ///
 /// Sets of vectors are masks: bit v, of the bits 2:0, is vector v.
-#[derive(Drop)]
+#[derive(Debug, Drop)]
 pub struct Causes {
     causes: u8,
     enabled: u8,
@@ -64,19 +64,18 @@ impl Causes {
 
     /// Raises cause `v`, and answers with the messages that this issues: that of `v`, or none.
     ///
-    /// A cause that stands already changes nothing. Otherwise an enabled vector issues its message, and stands unless it is
-    /// cleared automatically; one that is not enabled stands.
+    /// There is no vector above 2, and a cause that stands already changes nothing. Otherwise an enabled vector issues its
+    /// message, and stands unless it is cleared automatically; one that is not enabled stands.
     #[tactic(auto, using(crate::proofs::Bounds::or_below_eight), unfolding(crate::specs::Causes::raised))]
     pub fn cause(&mut self, v: u8) -> u8
-        requires { v < 3 }
         ensures state { self.new ≡ (raised self.old v).state }
         ensures messages { result ≡ (raised self.old v).messages }
         ensures below { result < 8 }
     {
-        let vector = set_of(v);
-        if has_bit(u64::from(self.causes), u32::from(v)) {
+        if v >= Self::VECTORS || has_bit(u64::from(self.causes), u32::from(v)) {
             return 0;
         }
+        let vector = set_of(v);
         if !has_bit(u64::from(self.enabled), u32::from(v)) {
             self.causes |= vector;
             return 0;
@@ -90,17 +89,16 @@ impl Causes {
     /// Raises the cause that an entry of the vector allocation register names, and answers with the messages that this
     /// issues (82599 datasheet, VTIVAR).
     ///
-    /// The entry names the vector of its bits 1:0 where its bit 7 is 1 and the vector is below 3; otherwise nothing
-    /// happens.
+    /// The entry names the vector of its bits 1:0 where its bit 7 is 1. An entry that names none, or vector 3, which there is
+    /// not, changes nothing.
     #[tactic(auto, unfolding(crate::specs::Causes::raised_by))]
     pub fn raise_by(&mut self, entry: u8) -> u8
         ensures state { self.new ≡ (raised_by self.old entry).state }
         ensures messages { result ≡ (raised_by self.old entry).messages }
         ensures below { result < 8 }
     {
-        let v = entry % 4;
-        if has_bit(u64::from(entry), ALLOCATED) && v < Self::VECTORS {
-            self.cause(v)
+        if has_bit(u64::from(entry), ALLOCATED) {
+            self.cause(entry % 4)
         } else {
             0
         }
@@ -221,6 +219,14 @@ impl Causes {
         } else {
             0
         }
+    }
+}
+
+impl Default for Causes {
+    fn default() -> Causes
+        ensures { result ≡ no_causes }
+    {
+        Causes::new()
     }
 }
 

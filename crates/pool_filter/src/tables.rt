@@ -54,6 +54,15 @@ impl Model for Tables {
     } };
 }
 
+impl Default for Tables {
+    ghost is_default = { λ t. t ≡ initial_settings };
+
+    /// The settings with which a device is made.
+    fn default() -> Tables {
+        Tables::new()
+    }
+}
+
 /// Registers.
 impl Tables {
     /// The settings with which a device is made: the default pool is off, and every other word is 0.

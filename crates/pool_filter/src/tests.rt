@@ -328,6 +328,7 @@ fn own_settings_are_compared(rt: HostRuntime) -> Result<(), Fail> {
         tables.own(pool(1)?, &mut after);
         assert_eq!(rt; before.is_same(&after), same, "{value} at {offset}");
         assert_eq!(rt; after.is_same(&before), same, "{value} at {offset}");
+        assert_eq!(rt; before == after, same, "{value} at {offset}");
     }
     Ok(())
 }
@@ -342,13 +343,13 @@ fn own_settings_as_a_whole(rt: HostRuntime) -> Result<(), Fail> {
     let mut own = Own::none();
     assert!(rt; !own.is_same(&first));
     own.refill(&first);
-    assert!(rt; own.is_same(&first));
+    assert_eq!(rt; own, first);
     own.refill(&second);
-    assert!(rt; own.is_same(&second));
+    assert_eq!(rt; own, second);
     own.clear();
-    assert!(rt; own.is_same(&Own::none()));
-    Tables::new().own(pool(1)?, &mut first);
-    assert!(rt; own.is_same(&first));
+    assert_eq!(rt; own, Own::default());
+    Tables::default().own(pool(1)?, &mut first);
+    assert_eq!(rt; own, first);
     assert!(rt; !own.has_address(Mac([2, 0, 0, 0, 0, 0x77])));
     assert!(rt; !own.has_vlan(Vid::of_tag(0)));
     assert_eq!(rt; own.port_vlan(), PortVlan::Descriptor);

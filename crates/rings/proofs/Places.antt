@@ -1,5 +1,5 @@
 -- The places that a ring's device owns.
-use Rattle.std.proofs.Common.{◌≡◌, ℕ, zero, suc, ◌+◌, ◌-◌, ◌%◌, ◌<◌, ◌≤◌, [], length, get_or, ◌≢◌, ⊎_elim, Bool, true, false, cond, refl, ◌∙◌, ap, arith}
+use Rattle.std.proofs.Common.{◌≡◌, ℕ, zero, suc, ◌+◌, ◌-◌, ◌%◌, ◌<◌, ◌≤◌, [], length, get_or, ◌≢◌, ⊎_elim, Bool, true, false, cond, refl, sym, ◌∙◌, ap, arith}
 use Rattle.std.proofs.lemmas.Bool.{cases_lt}
 use Rattle.std.proofs.Math.Nat.{mod-eq-sub-mod, mod-eq_of_lt, mod-lt}
 use Rattle.rings.specs.Ring.{RingState, places_from, owned, owned_count, IsRing, IsValidRing}
@@ -70,3 +70,58 @@ owned_at_by r i false e ok l =
 
 pub owned_at : (r : RingState) (i : ℕ) → IsRing r → i < length (owned r) → IsOwnedAt r i
 owned_at r i ok l = owned_at_by r i r.enabled refl ok l
+
+-- ---- the law on them
+
+pub owned-off : (r : RingState) → r.enabled ≡ false → owned r ≡ []
+unfolding owned
+owned-off r off = rw off refl
+
+pub length-owned-on : (r : RingState) → r.enabled ≡ true → length (owned r) ≡ owned_count r
+length-owned-on r on = length-owned r ∙ (rw on refl)
+
+pub owned-place : (r : RingState) (i : ℕ) → IsValidRing r → i < length (owned r) → get_or (owned r) i 0 ≡ (r.head + i) % r.count
+owned-place r i v l = (owned_at r i (λ on. v) l).place
+
+-- between head and tail, the tail is not met
+tail_not_met : (n h t i : ℕ) → h < n → t < n → i < (t + n - h) % n → (h + i) % n ≢ t
+tail_not_met n h t i hn tn l = ⊎_elim round straight (cases_lt t h)
+  where
+    round : t < h → (h + i) % n ≢ t
+    round th =
+        let count : (t + n - h) % n ≡ t + n - h = mod-eq_of_lt (omega (arith, th, hn)) in
+        let below : i < t + n - h = rw (← count) l in
+        ⊎_elim
+        (λ (s : h + i < n). λ e. let same : (h + i) % n ≡ h + i = mod-eq_of_lt s in omega (arith, same, e, th))
+        (λ (s : n ≤ h + i). λ e. let same : (h + i) % n ≡ h + i - n = mod_wrapped (h + i) n s (omega (arith, below, hn, tn)) in omega (arith, same, e, below, s, hn))
+        (cases_lt (h + i) n)
+
+    straight : h ≤ t → (h + i) % n ≢ t
+    straight ht =
+        let count : (t + n - h) % n ≡ t + n - h - n = mod_wrapped (t + n - h) n (omega (arith, ht)) (omega (arith, ht, tn, hn)) in
+        let below : i < t + n - h - n = rw (← count) l in
+        λ e. let same : (h + i) % n ≡ h + i = mod-eq_of_lt (omega (arith, below, tn)) in omega (arith, same, e, below)
+
+-- and the place after the last is the tail
+ends_at_tail : (n h t : ℕ) → h < n → t < n → (h + (t + n - h) % n) % n ≡ t
+ends_at_tail n h t hn tn = ⊎_elim round straight (cases_lt t h)
+  where
+    round : t < h → (h + (t + n - h) % n) % n ≡ t
+    round th =
+        let count : (t + n - h) % n ≡ t + n - h = mod-eq_of_lt (omega (arith, th, hn)) in
+        let place : h + (t + n - h) % n ≡ t + n = omega (arith, count, hn) in
+        ap (λ (x : ℕ). x % n) place ∙ mod_wrapped (t + n) n (omega arith) (omega (arith, tn)) ∙ (omega arith)
+
+    straight : h ≤ t → (h + (t + n - h) % n) % n ≡ t
+    straight ht =
+        let count : (t + n - h) % n ≡ t + n - h - n = mod_wrapped (t + n - h) n (omega (arith, ht)) (omega (arith, ht, tn, hn)) in
+        let place : h + (t + n - h) % n ≡ t = omega (arith, count, hn, ht) in
+        ap (λ (x : ℕ). x % n) place ∙ mod-eq_of_lt tn
+
+pub owned-before_tail : (r : RingState) (i : ℕ) → IsValidRing r → i < length (owned r) → get_or (owned r) i 0 ≢ r.tail
+owned-before_tail r i v l =
+    let a = owned_at r i (λ on. v) l in
+    λ e. tail_not_met r.count r.head r.tail i v.head_below v.tail_below a.below (sym a.place ∙ e)
+
+pub owned-ends : (r : RingState) → IsValidRing r → r.enabled ≡ true → (r.head + length (owned r)) % r.count ≡ r.tail
+owned-ends r v on = ap (λ (x : ℕ). (r.head + x) % r.count) (length-owned-on r on) ∙ ends_at_tail r.count r.head r.tail v.head_below v.tail_below

@@ -25,7 +25,7 @@ pub enum RingRegister {
 }
 
 /// A ring of descriptors. One that is on is valid.
-#[derive(Drop)]
+#[derive(Debug, Drop)]
 pub struct Ring {
     base: u64,
     count: u16,
@@ -42,6 +42,15 @@ impl Model for Ring {
     ghost view = { λ r. record { base = r.base; count = r.count; head = r.head; tail = r.tail; enabled = r.enabled } };
 
     ghost invariant = { λ r. IsRing (record { base = r.base; count = r.count; head = r.head; tail = r.tail; enabled = r.enabled }) };
+}
+
+impl Default for Ring {
+    ghost is_default = { λ r. r ≡ no_ring };
+
+    /// A ring that is off, with nothing set.
+    fn default() -> Ring {
+        Ring::new()
+    }
 }
 
 impl Ring {

@@ -79,7 +79,7 @@ fn goes_on_only_where_it_is_valid(rt: HostRuntime) {
         assert_eq!(rt; ring.try_enable(size), goes_on, "{length} bytes at {base}");
     }
     // The base is the two halves together.
-    let mut ring = Ring::new();
+    let mut ring = Ring::default();
     ring.write(RingRegister::BaseLow, 0xFFFF_FF80);
     ring.write(RingRegister::BaseHigh, 0xFFFF_FFFF);
     ring.write(RingRegister::Length, 128);

@@ -28,6 +28,15 @@ impl Model for Pending {
     ghost invariant = { λ p. p.len ≤ 9018 };
 }
 
+impl Default for Pending {
+    ghost is_default = { λ p. p ≡ Gathered [] };
+
+    /// No bytes.
+    fn default() -> Pending {
+        Pending::new()
+    }
+}
+
 impl Pending {
     /// No bytes.
     pub fn new() -> Pending

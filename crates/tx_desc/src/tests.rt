@@ -189,7 +189,7 @@ fn two_descriptors(rt: HostRuntime) -> Result<(), Fail> {
         let mut ring = ring_of(2);
         let mut pending = Pending::new();
         let (first, reported) = fetch(&mut memory, &mut ring, &mut pending, rule, limit);
-        assert!(rt; matches!(first, Fetched::More) && reported, "under {most}");
+        assert_eq!(rt; (first, reported), (Fetched::More, true), "under {most}");
         let (second, reported) = fetch(&mut memory, &mut ring, &mut pending, rule, limit);
         assert!(rt; reported, "under {most}");
         match (second, len) {
@@ -198,7 +198,7 @@ fn two_descriptors(rt: HostRuntime) -> Result<(), Fail> {
             _ => assert!(rt; false, "under {most}"),
         }
         let (third, reported) = fetch(&mut memory, &mut ring, &mut pending, rule, limit);
-        assert!(rt; matches!(third, Fetched::Idle) && !reported, "under {most}");
+        assert_eq!(rt; (third, reported), (Fetched::Idle, false), "under {most}");
     }
     Ok(())
 }
@@ -212,7 +212,7 @@ fn pending_bytes(rt: HostRuntime) -> Result<(), Fail> {
         let mut memory = memory_of(&rt, rt.alloc(), PLAIN, FIRST, 0x5_0000_4800_003C)?;
         write_words(&mut memory, RING + 16, SECOND, 0x0900_000E);
         let mut ring = ring_of(2);
-        let mut pending = Pending::new();
+        let mut pending = Pending::default();
         let mut frame = FrameBuf::blank();
         let rule = PortVlan::Descriptor;
         let first = fetch_into(

@@ -72,7 +72,8 @@ impl<M: GuestMem> OpenVf<M> {
 
     /// Makes every register initial. The memory stays.
     pub fn reset(&mut self)
-        ensures { self.new ≡ initial self.old.memory }
+        ensures state { self.new ≡ initial self.old.memory }
+        ensures size { length self.new.memory ≡ length self.old.memory }
     {
         self.receive_0.reset();
         self.receive_1.reset();
@@ -87,7 +88,8 @@ impl<M: GuestMem> OpenVf<M> {
 
     /// Makes every register initial and every byte of the memory zero.
     pub fn reopen(&mut self)
-        ensures { self.new ≡ initial (replicate (length self.old.memory) 0) }
+        ensures state { self.new ≡ initial (replicate (length self.old.memory) 0) }
+        ensures size { length self.new.memory ≡ length self.old.memory }
     {
         self.reset();
         self.memory.clear();
@@ -97,6 +99,7 @@ impl<M: GuestMem> OpenVf<M> {
     pub fn reg_read(&mut self, offset: u32) -> u32
         ensures value { result ≡ word_at_offset self.old offset }
         ensures state { self.new ≡ after_read_at self.old offset }
+        ensures size { length self.new.memory ≡ length self.old.memory }
     {
         self.read(register_of(offset))
     }
@@ -106,6 +109,7 @@ impl<M: GuestMem> OpenVf<M> {
         ensures state { self.new ≡ (written_at self.old offset x).state }
         ensures messages { result ≡ (written_at self.old offset x).messages }
         ensures below { result < 8 }
+        ensures size { length self.new.memory ≡ length self.old.memory }
     {
         self.write(register_of(offset), x)
     }
@@ -115,6 +119,7 @@ impl<M: GuestMem> OpenVf<M> {
     fn read(&mut self, register: Register) -> u32
         ensures value { result ≡ word self.old register }
         ensures state { self.new ≡ after_read self.old register }
+        ensures size { length self.new.memory ≡ length self.old.memory }
     {
         match register {
             Register::Links => LINK_UP,
@@ -145,6 +150,7 @@ impl<M: GuestMem> OpenVf<M> {
         ensures state { self.new ≡ (register_written self.old register x).state }
         ensures messages { result ≡ (register_written self.old register x).messages }
         ensures below { result < 8 }
+        ensures size { length self.new.memory ≡ length self.old.memory }
     {
         match register {
             Register::CauseSet => return self.causes.ics(x),
@@ -172,7 +178,8 @@ impl<M: GuestMem> OpenVf<M> {
 
     // Writes a register of a receive ring.
     fn write_receive(&mut self, queue: Queue, register: RingRegister, x: u32)
-        ensures { self.new ≡ with_receive self.old queue (record (receive_of self.old queue) { ring = ring_written (receive_of self.old queue).ring register x }) }
+        ensures state { self.new ≡ with_receive self.old queue (record (receive_of self.old queue) { ring = ring_written (receive_of self.old queue).ring register x }) }
+        ensures size { length self.new.memory ≡ length self.old.memory }
     {
         match queue {
             Queue::Q0 => self.receive_0.write_ring(register, x),
@@ -182,7 +189,8 @@ impl<M: GuestMem> OpenVf<M> {
 
     // Writes SRRCTL.
     fn write_receive_buffers(&mut self, queue: Queue, x: u32)
-        ensures { self.new ≡ with_receive self.old queue (buffers_written (receive_of self.old queue) x) }
+        ensures state { self.new ≡ with_receive self.old queue (buffers_written (receive_of self.old queue) x) }
+        ensures size { length self.new.memory ≡ length self.old.memory }
     {
         match queue {
             Queue::Q0 => self.receive_0.write_buffers(x),
@@ -192,7 +200,8 @@ impl<M: GuestMem> OpenVf<M> {
 
     // Writes RXDCTL.
     fn write_receive_control(&mut self, queue: Queue, x: u32)
-        ensures { self.new ≡ with_receive self.old queue (receive_switched (length self.old.memory) (receive_of self.old queue) x) }
+        ensures state { self.new ≡ with_receive self.old queue (receive_switched (length self.old.memory) (receive_of self.old queue) x) }
+        ensures size { length self.new.memory ≡ length self.old.memory }
     {
         let memory_size = self.memory.size();
         match queue {
@@ -203,7 +212,8 @@ impl<M: GuestMem> OpenVf<M> {
 
     // Writes a register of a transmit ring.
     fn write_transmit(&mut self, queue: Queue, register: RingRegister, x: u32)
-        ensures { self.new ≡ with_transmit self.old queue (record (transmit_of self.old queue) { ring = ring_written (transmit_of self.old queue).ring register x }) }
+        ensures state { self.new ≡ with_transmit self.old queue (record (transmit_of self.old queue) { ring = ring_written (transmit_of self.old queue).ring register x }) }
+        ensures size { length self.new.memory ≡ length self.old.memory }
     {
         match queue {
             Queue::Q0 => self.transmit_0.ring.write(register, x),
@@ -213,7 +223,8 @@ impl<M: GuestMem> OpenVf<M> {
 
     // Writes TXDCTL.
     fn write_transmit_control(&mut self, queue: Queue, x: u32)
-        ensures { self.new ≡ with_transmit self.old queue (transmit_switched (length self.old.memory) (transmit_of self.old queue) x) }
+        ensures state { self.new ≡ with_transmit self.old queue (transmit_switched (length self.old.memory) (transmit_of self.old queue) x) }
+        ensures size { length self.new.memory ≡ length self.old.memory }
     {
         let memory_size = self.memory.size();
         match queue {
@@ -228,6 +239,7 @@ impl<M: GuestMem> OpenVf<M> {
         ensures state { self.new ≡ (delivered loopback frame.now self.old).state }
         ensures messages { result ≡ (delivered loopback frame.now self.old).messages }
         ensures below { result < 8 }
+        ensures size { length self.new.memory ≡ length self.old.memory }
     {
         let config = RxConfig {
             buffer_size: 1024 * (self.receive_0.buffers % 32) as usize,
@@ -262,6 +274,7 @@ impl<M: GuestMem> OpenVf<M> {
         ensures outcome { told result.outcome frame.new ≡ (service limit rule self.old queue).outcome }
         ensures frame { frame.new ≡ lent_after (service limit rule self.old queue).outcome frame.old }
         ensures below { result.messages < 8 }
+        ensures size { length self.new.memory ≡ length self.old.memory }
     {
         let served = self.fetch_from(queue, frame, rule, limit);
         let messages = if served.reported {
@@ -291,6 +304,7 @@ impl<M: GuestMem> OpenVf<M> {
         ensures reported { result.reported ≡ (service limit rule self.old queue).reported }
         ensures outcome { told result.outcome frame.new ≡ (service limit rule self.old queue).outcome }
         ensures frame { frame.new ≡ lent_after (service limit rule self.old queue).outcome frame.old }
+        ensures size { length self.new.memory ≡ length self.old.memory }
     {
         match queue {
             Queue::Q0 => fetch_into(
@@ -314,7 +328,8 @@ impl<M: GuestMem> OpenVf<M> {
 
     /// Counts one more frame sent, modulo 2^32.
     pub fn sent(&mut self)
-        ensures { self.new ≡ record self.old { frames_sent = (self.old.frames_sent + 1) % 2 ^ 32 } }
+        ensures state { self.new ≡ record self.old { frames_sent = (self.old.frames_sent + 1) % 2 ^ 32 } }
+        ensures size { length self.new.memory ≡ length self.old.memory }
     {
         self.frames_sent = self.frames_sent.wrapping_add(1);
     }
@@ -338,7 +353,8 @@ impl<M: GuestMem> OpenVf<M> {
     /// Writes bytes of the memory.
     pub fn mem_write(&mut self, at: u64, source: &[u8])
         requires { at + length source.now ≤ length self.old.memory }
-        ensures { self.new ≡ record self.old { memory = overwrite at source.now self.old.memory } }
+        ensures state { self.new ≡ record self.old { memory = overwrite at source.now self.old.memory } }
+        ensures size { length self.new.memory ≡ length self.old.memory }
     {
         write_bytes(&mut self.memory, at, source);
     }

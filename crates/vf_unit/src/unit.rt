@@ -55,7 +55,8 @@ impl<M: GuestMem> VfUnit<M> {
 
     /// Opens it: every register is initial and every byte of the memory zero, whatever it was.
     pub fn open(&mut self)
-        ensures { self.new ≡ opened self.old }
+        ensures function { self.new ≡ opened self.old }
+        ensures size { size_of self.new ≡ size_of self.old }
     {
         self.inner.reopen();
         self.is_open = true;
@@ -63,14 +64,16 @@ impl<M: GuestMem> VfUnit<M> {
 
     /// Closes it.
     pub fn end(&mut self)
-        ensures { self.new ≡ ended self.old }
+        ensures function { self.new ≡ ended self.old }
+        ensures size { size_of self.new ≡ size_of self.old }
     {
         self.is_open = false;
     }
 
     /// Makes every register initial (SR-IOV 1.1, function-level reset). The memory stays.
     pub fn reset(&mut self)
-        ensures { self.new ≡ reset self.old }
+        ensures function { self.new ≡ reset self.old }
+        ensures size { size_of self.new ≡ size_of self.old }
     {
         if self.is_open {
             self.inner.reset();
@@ -82,6 +85,7 @@ impl<M: GuestMem> VfUnit<M> {
     pub fn reg_read(&mut self, offset: u32) -> Option<u32>
         ensures value { result ≡ read_of self.old offset }
         ensures function { self.new ≡ after_read_of self.old offset }
+        ensures size { size_of self.new ≡ size_of self.old }
     {
         if self.is_open {
             Some(self.inner.reg_read(offset))
@@ -95,6 +99,7 @@ impl<M: GuestMem> VfUnit<M> {
         ensures function { self.new ≡ (written self.old offset x).function }
         ensures messages { result ≡ (if is_open self.old then Some (written self.old offset x).messages else None) }
         ensures below { IfSome result (λ messages. messages < 8) }
+        ensures size { size_of self.new ≡ size_of self.old }
     {
         if self.is_open {
             Some(self.inner.reg_write(offset, x))
@@ -108,6 +113,7 @@ impl<M: GuestMem> VfUnit<M> {
         ensures function { self.new ≡ (given loopback frame.now self.old).function }
         ensures messages { result ≡ (given loopback frame.now self.old).messages }
         ensures below { result < 8 }
+        ensures size { size_of self.new ≡ size_of self.old }
     {
         if self.is_open {
             self.inner.deliver(frame, loopback)
@@ -130,6 +136,7 @@ impl<M: GuestMem> VfUnit<M> {
         ensures frame { frame.new ≡ lent_to (service_outcome limit rule self.old queue) frame.old }
         ensures messages { option_map (λ s. s.messages) result ≡ (if is_open self.old then Some (serviced limit rule self.old queue).messages else None) }
         ensures below { IfSome result (λ s. s.messages < 8) }
+        ensures size { size_of self.new ≡ size_of self.old }
     {
         if self.is_open {
             Some(self.inner.serve(queue, frame, rule, limit))
@@ -140,7 +147,8 @@ impl<M: GuestMem> VfUnit<M> {
 
     /// Counts one more frame sent, modulo 2^32.
     pub fn sent(&mut self)
-        ensures { self.new ≡ one_more_sent self.old }
+        ensures function { self.new ≡ one_more_sent self.old }
+        ensures size { size_of self.new ≡ size_of self.old }
     {
         if self.is_open {
             self.inner.sent();
@@ -167,6 +175,7 @@ impl<M: GuestMem> VfUnit<M> {
     pub fn mem_write(&mut self, at: u64, source: &[u8]) -> bool
         ensures done { result ≡ has_range self.old at (length source.now) }
         ensures function { self.new ≡ memory_written self.old at source.now }
+        ensures size { size_of self.new ≡ size_of self.old }
     {
         let len = source.len() as u64;
         let size = self.inner.memory_size();

@@ -6,7 +6,7 @@ use wire_frame::{PoolId, Vid};
 /// the VLAN table is bit 4 of word 3; until that is set, no pool has it. Id 0 is as any id.
 #[test]
 fn entries_with_one_id_are_united(rt: HostRuntime) {
-    let mut table = VlanTable::new();
+    let mut table = VlanTable::default();
     let words = [
         (0xF100, 0x8000_0064),
         (0xF200, 0x2),

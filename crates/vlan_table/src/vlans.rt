@@ -25,6 +25,15 @@ impl Model for VlanTable {
     ghost view = { λ t. record { control = t.control; table = t.table; entries = t.entries; pools = t.pools } };
 }
 
+impl Default for VlanTable {
+    ghost is_default = { λ t. t ≡ initial_vlans };
+
+    /// Tables in which every word is 0.
+    fn default() -> VlanTable {
+        VlanTable::new()
+    }
+}
+
 impl VlanTable {
     /// Tables in which every word is 0: no entry is valid, no id is in the VLAN table, and VLANs are not filtered.
     #[tactic(auto, unfolding(crate::specs::Vlans::initial_vlans))]

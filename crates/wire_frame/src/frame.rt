@@ -1,5 +1,7 @@
 //! A frame, its addresses and its VLAN tag.
-ghost use Rattle.std.specs.Prelude.{◌≡◌, ℕ, ◌+◌, ◌*◌, ◌/◌, ◌%◌, ◌<◌, ◌≤◌, ◌↔◌, ◌++◌, ◌∷◌, [], take, drop, length, replicate, slice_index, slice_range, IsOk, IfOk, IfErr, IfSome, is_ok, is_some, max, nat_le, ◌&&◌, if◌then◌else◌};
+ghost use Rattle.std.specs.Prelude.{◌≡◌, ℕ, ◌+◌, ◌*◌, ◌/◌, ◌%◌, ◌<◌, ◌≤◌, ◌↔◌, ◌++◌, ◌∷◌, [], take, drop, length, replicate, slice_index, slice_range, bytes_eq, IsTrue, IsOk, IfOk, IfErr, IfSome, is_ok, is_some, max, nat_le, ◌&&◌, if◌then◌else◌};
+ghost use Rattle.std.specs.Cmp.{partial_equiv_from_equiv};
+ghost use Rattle.std.specs.Cmp.Lexicographic.{nat_list_eq_equiv};
 ghost use Rattle.wire_frame.specs.Frame.{IsFrame, is_frame, is_frame_tagged, is_tagged, destination, source, tag_of, tag_control, tag_bytes, untagged, with_tag};
 
 use crate::{Fault, Mac};
@@ -58,8 +60,17 @@ impl FrameLimit {
     }
 }
 
+impl Default for FrameLimit {
+    ghost is_default = { λ l. l ≡ 1518 };
+
+    /// The standard limit.
+    fn default() -> FrameLimit {
+        FrameLimit::standard()
+    }
+}
+
 /// A frame without FCS, of 14 to 9018 bytes; one with a VLAN tag has at least 18 (IEEE 802.3 and 802.1Q).
-#[derive(Drop)]
+#[derive(Debug, Drop)]
 pub struct FrameBuf {
     kept: FrameBytes,
 }
@@ -73,6 +84,24 @@ impl Model for FrameBuf {
     ghost view = { λ f. f.kept.items };
 
     ghost invariant = { λ f. IsFrame f.kept.items };
+}
+
+impl PartialEq for FrameBuf {
+    ghost eq = { bytes_eq };
+
+    ghost laws = { partial_equiv_from_equiv nat_list_eq_equiv };
+
+    /// Whether the frames have the same bytes.
+    fn eq(&self, other: &FrameBuf) -> bool
+        ensures value { result ≡ bytes_eq self.now other.now }
+        ensures same { IsTrue result ↔ (self.now ≡ other.now) }
+    {
+        self.bytes() == other.bytes()
+    }
+}
+
+impl Eq for FrameBuf {
+    ghost laws = { nat_list_eq_equiv };
 }
 
 impl FrameBuf {

@@ -40,10 +40,34 @@ fn reads_a_tagged_frame(rt: HostRuntime) -> Result<(), Fail> {
     assert_eq!(rt; frame.dst(), Mac([2, 0, 0, 0, 0, 3]));
     assert_eq!(rt; frame.src(), Mac([2, 0, 0, 0, 0, 0x99]));
     assert_eq!(rt; frame.tag(), Some(0xA064));
-    assert_eq!(rt; frame.copy().bytes(), TAGGED.as_slice());
+    assert_eq!(rt; frame.copy(), frame);
     let (tag, rest) = frame.stripped().ok_or("tagged")?;
     assert_eq!(rt; tag, 0xA064);
     assert_eq!(rt; rest.as_slice(), UNTAGGED.as_slice());
+    Ok(())
+}
+
+#[test]
+fn frames_are_equal_by_their_bytes(rt: HostRuntime) -> Result<(), Fail> {
+    let frame = FrameBuf::from_bytes(&UNTAGGED)?;
+    let mut other = frame.copy();
+    assert!(rt; frame == other);
+    // A byte more, another last byte, and the bytes again over a longer frame.
+    let limit = FrameLimit::standard();
+    let mut bytes = [0u8; 17];
+    bytes[..16].copy_from_slice(&UNTAGGED);
+    assert!(rt; other.refill(&bytes, limit));
+    assert!(rt; frame != other);
+    bytes[15] = 0xBC;
+    assert!(rt; other.refill(&bytes[..16], limit));
+    assert!(rt; frame != other);
+    assert!(rt; other.refill(&TAGGED, limit));
+    assert!(rt; other.refill(&UNTAGGED, limit));
+    assert!(rt; frame == other);
+    assert_eq!(rt;
+        format!(in rt.alloc(); "{:?}", FrameBuf::blank())?.as_str(),
+        "FrameBuf { kept: [0, 0, 0, 0, 0, 0, 0, 0, 0, 0, 0, 0, 0, 0] }"
+    );
     Ok(())
 }
 
@@ -119,6 +143,7 @@ fn bounds_are_in_the_types(rt: HostRuntime) {
     assert!(rt; Vid::new(4096).is_none());
     assert_eq!(rt; Vid::of_tag(0xA064).get(), 100);
     assert_eq!(rt; FrameLimit::standard().get(), 1518);
+    assert_eq!(rt; FrameLimit::default(), FrameLimit::standard());
     for (bytes, is_limit) in [(1517, false), (1518, true), (9018, true), (9019, false)] {
         assert_eq!(rt; FrameLimit::new(bytes).is_some(), is_limit, "{bytes} bytes");
     }

@@ -1,6 +1,9 @@
+pub mod Append
 pub mod Arrivals
+mod Inside
+pub mod Refusals
 mod Sizes
-pub mod Settings
+mod SizesStay
 pub mod Steps
 pub mod Shape
 pub mod Unwinding

@@ -1,38 +1,97 @@
--- What came of an event of a function's own, where the bytes that it reads are still in the memory.
-use Rattle.std.specs.Prelude.{◌≤◌, Bool, true, false, replicate}
+-- What came of an event, in few words: bytes that were read stand in the memory still, and the outcome says where.
+use Rattle.std.specs.Prelude.{◌≡◌, ℕ, Bool, true, false, List, replicate, Result, Ok, Err, Option, Some, None, if◌then◌else◌}
 use Rattle.wire_frame.specs.Fault.{number_of}
+use Rattle.wire_frame.specs.declared.fault.Fault.{Fault}
 use Rattle.vf_unit.specs.Unit.{Function, bytes_at}
+use Rattle.local_switch.specs.declared.ways.Source.TheVariants.{Pool}
+use Rattle.local_switch.specs.Switch.{leaves}
+use Rattle.device.specs.declared.event.Event.{Event}
+use Rattle.device.specs.declared.event.Event.TheVariants.{Serve}
 use Rattle.device.specs.declared.event.Reply.{Reply}
 use Rattle.device.specs.declared.event.Reply.TheVariants.{Done, Value, Bytes, Idle, More, Sent, Dropped, Faulted, Refused}
+use Rattle.device.specs.declared.event.Answer.{Answer}
 use Rattle.device.specs.declared.outcome.Outcome.{Outcome}
 use Rattle.device.specs.declared.outcome.Outcome.TheVariants.{Done, Value, Bytes, Idle, More, Sent, Dropped, Faulted, Refused}
+use Rattle.device.specs.declared.span.Span.{Span}
+use Rattle.device.specs.declared.taken.Taken.{Taken}
+use Rattle.device.specs.World.{World, function_of, sent_by, silently}
 
--- the reply that it stands for, by the function that it came of
+-- ---- what an outcome stands for
+
+-- the reply, where these are the bytes of a span
+abbrev pub reply_by : (Span → List ℕ) → Outcome → Reply
+reply_by bytes Done = Done
+reply_by bytes (Value x) = Value x
+reply_by bytes (Bytes span) = Bytes (bytes span)
+reply_by bytes Idle = Idle
+reply_by bytes More = More
+reply_by bytes Sent = Sent
+reply_by bytes Dropped = Dropped
+reply_by bytes Faulted = Faulted
+reply_by bytes (Refused fault) = Refused (number_of fault)
+
+-- the bytes of a span of a function's memory, zeros where it has none there
+abbrev pub bytes_in : Function → Span → List ℕ
+bytes_in f span = bytes_at f span.at (replicate span.count 0)
+
+-- the reply of a function by itself
 abbrev pub reply_of : Function → Outcome → Reply
-reply_of f Done = Done
-reply_of f (Value x) = Value x
-reply_of f (Bytes at count) = Bytes (bytes_at f at (replicate count 0))
-reply_of f Idle = Idle
-reply_of f More = More
-reply_of f Sent = Sent
-reply_of f Dropped = Dropped
-reply_of f Faulted = Faulted
-reply_of f (Refused fault) = Refused (number_of fault)
+reply_of f = reply_by (bytes_in f)
 
--- at most 2048 bytes are read
-abbrev pub IsShort : Outcome → Type 0
-IsShort (Bytes at count) = count ≤ 2048
-IsShort _ = Unit
+-- the reply of a device, by its world after the event
+abbrev pub reply_in : World → Outcome → Reply
+reply_in w = reply_by (λ span. bytes_in (function_of span.pool w) span)
+
+-- its answer
+abbrev pub answer_in : World → Taken → Answer
+answer_in w taken = record { reply = reply_in w taken.outcome; raised = taken.messages }
 
 abbrev pub went_out : Outcome → Bool
 went_out Sent = true
 went_out _ = false
 
-abbrev pub was_done : Outcome → Bool
-was_done Done = true
-was_done _ = false
-
--- the reply is bytes of the function's memory
+-- the reply is bytes of a memory
 abbrev pub reads : Outcome → Bool
-reads (Bytes at count) = true
+reads (Bytes span) = true
 reads _ = false
+
+-- bytes that it names are of function p
+abbrev pub IsOf : ℕ → Outcome → Type 0
+IsOf p (Bytes span) = span.pool ≡ p
+IsOf p _ = Unit
+
+-- ---- what a call by name answers
+
+abbrev pub done_or_refused : {X : Type 0} → Result X Fault → Reply
+done_or_refused (Ok _) = Done
+done_or_refused (Err fault) = Refused (number_of fault)
+
+-- the vectors whose messages it issued
+abbrev pub issued : Result ℕ Fault → ℕ
+issued (Ok messages) = messages
+issued (Err fault) = 0
+
+abbrev pub value_or_refused : Result ℕ Fault → Reply
+value_or_refused (Ok x) = Value x
+value_or_refused (Err fault) = Refused (number_of fault)
+
+abbrev pub bytes_or_refused : Result (Unit {0}) Fault → List ℕ → Reply
+bytes_or_refused (Ok _) bytes = Bytes bytes
+bytes_or_refused (Err fault) bytes = Refused (number_of fault)
+
+-- done, with these messages to the pools
+abbrev pub messages_or_refused : Result (List ℕ) Fault → Answer
+messages_or_refused (Ok messages) = record { reply = Done; raised = messages }
+messages_or_refused (Err fault) = silently (Refused (number_of fault))
+
+-- ---- frames that an event sends
+
+-- the frame leaves for the wire, where pool p sent it
+abbrev pub leaving : World → ℕ → Option (List ℕ) → Option (List ℕ)
+leaving w p None = None
+leaving w p (Some frame) = if leaves w.settings (Pool p) frame then Some frame else None
+
+-- the frame that an event sends to the wire, if any
+abbrev pub left_by : World → Event → Option (List ℕ)
+left_by w (Serve p q) = leaving w p (sent_by w (Serve p q))
+left_by w _ = None

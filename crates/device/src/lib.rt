@@ -1,32 +1,40 @@
 //! A device: the settings of the physical function, the virtual functions over their memories, and the frames that went to
 //! the wire.
 //!
-//! A [`Device`] takes one [`Event`] at a time and gives one [`Answer`], which is the event's reply and the messages that it
-//! issued to each pool. Its meaning is the world of `specs/`, and [`Device::run`] promises beside that, for every list of
-//! events from any device on, that each virtual function sees what a lone function would see that is given only its own
-//! events, its own settings and the frames that its filters accept. [`laws`] says the same of a device as it is made.
-//! [`act`] and [`serve_queue`] are what an event does to one function by itself; the device calls them, and so may whoever
-//! has a function without a device. The crate stands on `vf_unit`, `local_switch` and `anti_spoof`; no call takes memory but
-//! the makers and [`Device::run`], which takes it before its first step.
+//! A [`Device`] takes one [`Request`] at a time and tells in few words what came of it, or has a call by name for each kind.
+//! Its meaning is the world of `specs/`, over [`Event`]s and [`Answer`]s, and each event that it takes keeps the isolation
+//! law: each virtual function sees what a lone function would see that is given only its own events, its own settings and
+//! the frames that its filters accept. [`Device::run`] promises so of every list of events, and [`laws`] of a device as it
+//! is made. [`act`] and [`serve_queue`] are what an event does to one function by itself; the device does the same, and so
+//! may whoever has a function without a device. The crate stands on `vf_unit`, `local_switch` and `anti_spoof`; no call takes
+//! memory but the makers and [`Device::run`], which takes it before its first step.
 #![tactic(auto)]
 
-mod adapter;
 pub mod bytes;
+mod calls;
 pub mod device;
 pub mod event;
 pub mod laws;
 mod outcome;
-mod refusal;
+mod own_event;
+mod request;
 mod resets;
 mod service;
+mod span;
+mod switching;
+mod take;
+mod taken;
 mod wire_out;
 
-pub use bytes::MemBytes;
+pub use bytes::{MemBytes, MemSlice};
 pub use device::Device;
 pub use event::{Answer, Event, Reply};
-pub use outcome::{Outcome, reply};
-pub use refusal::act;
+pub use outcome::{Acted, Outcome};
+pub use own_event::{act, read_or_zero};
+pub use request::Request;
 pub use service::{SenderRules, serve_queue};
+pub use span::Span;
+pub use taken::Taken;
 pub use vf_unit::Queue;
 
 #[cfg(test)]

@@ -1,18 +1,17 @@
 //! The program between a reader and a writer.
 
 use crate::arena::MOST_BYTES;
-use crate::events::Slots;
+use crate::events::request;
 use crate::fault::Fault;
 use crate::mode::Mode;
 use crate::output::Output;
 use crate::script::Script;
 use device::Device;
 use guest_memory::{FlatMem, GuestMem};
-use lone::{Lone, Watch, follow};
+use lone::{Lone, Room, Watch, follow};
 use std::alloc::Global;
 use std::io::{Read, Write};
-use std::slice::from_ref;
-use wire_frame::PoolId;
+use wire_frame::{FrameBuf, PoolId};
 
 /// Reads a script, gives its events to a device, and writes the output of the mode.
 ///
@@ -58,12 +57,12 @@ fn run<M: GuestMem, W: Write>(
 ) -> Result<(), Fault> {
     let mut device = Device::with_limit(alloc, memories, script.shape().limit.get())?;
     let mut output = Output::new(alloc, writer)?;
-    let mut slots = Slots::new();
     let mut room = [0; MOST_BYTES];
+    let (mut frame, mut lent) = (FrameBuf::blank(), FrameBuf::blank());
     for (index, record) in script.records().iter().enumerate() {
-        let event = slots.event(script, *record, &mut room);
-        for answer in &device.run(alloc, from_ref(event))? {
-            output.answer(index + 1, answer)?;
+        if let Some(request) = request(script, *record, &mut room, &mut frame) {
+            let taken = device.take(request, &mut lent);
+            output.answer(index + 1, &device.answer(&taken))?;
         }
     }
     for index in 0..device.wire_len() {
@@ -85,13 +84,14 @@ fn keep<M: GuestMem, W: Write>(
     let device = Device::with_limit(alloc, memories, script.shape().limit.get())?;
     let mut watch = Watch::new(device, pool);
     let mut output = Output::new(alloc, writer)?;
-    let mut slots = Slots::new();
     let mut room = [0; MOST_BYTES];
+    let mut frame = FrameBuf::blank();
+    let mut given = Room::new();
     for (index, record) in script.records().iter().enumerate() {
-        let event = slots.event(script, *record, &mut room);
-        let kind = watch.step(event);
-        if let Some(item) = watch.item(kind, event) {
-            output.item(index + 1, &item)?;
+        if let Some(request) = request(script, *record, &mut room, &mut frame)
+            && let Some(item) = watch.step(request, &mut given)
+        {
+            output.item(index + 1, item)?;
         }
     }
     output.finish()
@@ -111,12 +111,14 @@ fn lone<M: GuestMem, W: Write>(
     let mut watch = Watch::new(device, pool);
     let mut lone = Lone::new(memory, limit);
     let mut output = Output::new(alloc, writer)?;
-    let mut slots = Slots::new();
     let mut room = [0; MOST_BYTES];
+    let mut frame = FrameBuf::blank();
+    let mut given = Room::new();
     for (index, record) in script.records().iter().enumerate() {
-        let event = slots.event(script, *record, &mut room);
-        if let Some(seen) = follow(&mut watch, &mut lone, event) {
-            output.seen(index + 1, pool, &seen)?;
+        if let Some(request) = request(script, *record, &mut room, &mut frame)
+            && let Some(seen) = follow(&mut watch, &mut lone, request, &mut given)
+        {
+            output.seen(index + 1, pool, &lone, seen)?;
         }
     }
     output.finish()

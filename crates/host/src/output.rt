@@ -1,8 +1,9 @@
 //! What the program writes.
 
 use crate::fault::Fault;
-use device::{Answer, Reply};
-use lone::{Given, Seen};
+use device::{Answer, Outcome, Reply};
+use guest_memory::GuestMem;
+use lone::{Given, Lone, Seen};
 use std::alloc::Global;
 use std::io::Write;
 use wire_frame::PoolId;
@@ -33,14 +34,14 @@ impl<'a, W: Write> Output<'a, W> {
     }
 
     /// The line of what an event leaves for a lone function.
-    pub fn item(&mut self, number: usize, item: &Given) -> Result<(), Fault> {
+    pub fn item(&mut self, number: usize, item: Given<'_>) -> Result<(), Fault> {
         self.decimal(number as u64)?;
         match item {
             Given::OwnEvent(_) => self.text(b" event")?,
             Given::NewSettings(_) => self.text(b" settings")?,
             Given::Gone => self.text(b" gone")?,
             Given::Offer(frame, looped) => {
-                self.text(if *looped { b" offer 1 " } else { b" offer 0 " })?;
+                self.text(if looped { b" offer 1 " } else { b" offer 0 " })?;
                 self.digits(frame.bytes())?;
             }
         }
@@ -49,17 +50,44 @@ impl<'a, W: Write> Output<'a, W> {
 
     /// The line of what is seen of a pool's lone function: the number of the event that it comes of, the reply where there
     /// is one, and the pool's mark where messages were issued.
-    pub fn seen(&mut self, number: usize, pool: PoolId, seen: &Seen) -> Result<(), Fault> {
+    pub fn seen<M: GuestMem>(
+        &mut self,
+        number: usize,
+        pool: PoolId,
+        lone: &Lone<M>,
+        seen: Seen,
+    ) -> Result<(), Fault> {
         self.decimal(number as u64)?;
-        let messages = match seen {
-            Seen::Replied(reply, messages) => {
-                self.reply(reply)?;
-                *messages
+        let vectors = match seen {
+            Seen::Replied(outcome, vectors) => {
+                self.outcome(lone, outcome)?;
+                vectors
             }
-            Seen::Interrupted(messages) => *messages,
+            Seen::Interrupted(vectors) => vectors,
         };
-        self.mark(u64::from(pool.get()), messages)?;
+        self.mark(u64::from(pool.get()), vectors.bits())?;
         self.end_line()
+    }
+
+    // The words of what came of a lone function's event.
+    fn outcome<M: GuestMem>(&mut self, lone: &Lone<M>, outcome: Outcome) -> Result<(), Fault> {
+        match outcome {
+            Outcome::Bytes(span) => {
+                let mut bytes = [0; 2048];
+                let count = span.count();
+                lone.read_span(span, &mut bytes[..count]);
+                self.text(b" bytes ")?;
+                self.bytes_or_none(&bytes[..count])
+            }
+            Outcome::Value(value) => self.reply(&Reply::Value(value)),
+            Outcome::Done => self.reply(&Reply::Done),
+            Outcome::Idle => self.reply(&Reply::Idle),
+            Outcome::More => self.reply(&Reply::More),
+            Outcome::Sent => self.reply(&Reply::Sent),
+            Outcome::Dropped => self.reply(&Reply::Dropped),
+            Outcome::Faulted => self.reply(&Reply::Faulted),
+            Outcome::Refused(fault) => self.reply(&Reply::Refused(fault.number())),
+        }
     }
 
     /// The line of a frame that went to the wire.

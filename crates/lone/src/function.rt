@@ -1,12 +1,15 @@
 //! One function and its own settings.
-ghost use Rattle.std.specs.Prelude.{◌≡◌, length, Some};
+ghost use Rattle.std.specs.Prelude.{◌≡◌, ℕ, length, replicate, Some};
 ghost use Rattle.std.specs.Option.{option_map};
-ghost use Rattle.device.specs.Lone.{alone, moved, shown, interrupted, OwnEvent, NewSettings, Gone, Offer};
+ghost use Rattle.vf_unit.specs.Unit.{bytes_at};
+ghost use Rattle.device.specs.Request.{event_of};
+ghost use Rattle.device.specs.Lone.{alone, moved, shown, OwnEvent, Offer};
 ghost use Rattle.lone.specs.Kept.{item_of, observation_of};
 
 use crate::item::{Given, Seen};
-use device::{Event, act, reply, serve_queue};
+use device::{Request, Span, act, read_or_zero, serve_queue};
 use guest_memory::GuestMem;
+use irq_causes::Vectors;
 use pool_filter::Own;
 use std::marker::Model;
 use vf_unit::VfUnit;
@@ -23,18 +26,17 @@ pub struct Lone<M: GuestMem> {
 }
 
 impl<M: GuestMem> Model for Lone<M> {
-    ghost use Rattle.lone.specs.Kept.{Limited};
+    ghost use Rattle.device.specs.Lone.{Lone};
 
-    ghost Value = { Limited };
+    ghost Value = { Lone };
 
-    ghost view = { λ l. record { limit = l.limit; lone = record { function = l.unit; settings = l.settings } } };
+    ghost view = { λ l. record { limit = l.limit; function = l.unit; settings = l.settings } };
 }
 
 impl<M: GuestMem> Lone<M> {
     /// A closed function over this memory that has no settings. Its frames have up to `limit` bytes.
     pub fn new(memory: M, limit: FrameLimit) -> Lone<M>
-        ensures lone { result.lone ≡ alone (length (M.bytes memory)) }
-        ensures limit { result.limit ≡ limit }
+        ensures { result ≡ alone limit (length (M.bytes memory)) }
     {
         Lone {
             limit,
@@ -45,13 +47,12 @@ impl<M: GuestMem> Lone<M> {
     }
 
     /// Takes what it is given, and tells what is seen of it.
-    pub fn take(&mut self, given: &Given) -> Option<Seen>
-        ensures lone { self.new.lone ≡ moved self.old.limit self.old.lone (item_of given.now) }
-        ensures limit { self.new.limit ≡ self.old.limit }
-        ensures seen { option_map observation_of result ≡ shown self.old.limit self.old.lone (item_of given.now) }
+    pub fn take(&mut self, given: Given<'_>) -> Option<Seen>
+        ensures lone { self.new ≡ moved self.old (item_of given.entry) }
+        ensures seen { option_map (observation_of self.new.function) result ≡ shown self.old (item_of given.entry) }
     {
         match given {
-            Given::OwnEvent(event) => Some(self.own_event(event)),
+            Given::OwnEvent(request) => Some(self.own_event(request)),
             Given::NewSettings(settings) => {
                 self.settings.refill(settings);
                 None
@@ -61,43 +62,47 @@ impl<M: GuestMem> Lone<M> {
                 self.settings.clear();
                 None
             }
-            Given::Offer(frame, looped) => self.offer(frame, *looped),
+            Given::Offer(frame, looped) => self.offer(frame, looped),
         }
     }
 
-    // An event of its own.
-    fn own_event(&mut self, event: &Event) -> Seen
-        ensures lone { self.new.lone ≡ moved self.old.limit self.old.lone (OwnEvent event.now) }
-        ensures limit { self.new.limit ≡ self.old.limit }
-        ensures seen { Some (observation_of result) ≡ shown self.old.limit self.old.lone (OwnEvent event.now) }
+    /// Fills `out` with the bytes of its memory from a span's address on. Where it is closed it has zeros, and so are bytes
+    /// past the end of the memory.
+    pub fn read_span(&self, span: Span, out: &mut [u8])
+        ensures { out.new ≡ bytes_at self.now.function span.at (replicate {A = ℕ} (length out.old) 0) }
     {
-        let mut messages = 0;
-        let outcome = match event {
-            Event::Serve(_, queue) => serve_queue(
+        read_or_zero(&self.unit, span.at(), out);
+    }
+
+    // An event of its own.
+    fn own_event(&mut self, request: Request<'_>) -> Seen
+        ensures lone { self.new ≡ moved self.old (OwnEvent (event_of request.entry)) }
+        ensures seen { Some (observation_of self.new.function result) ≡ shown self.old (OwnEvent (event_of request.entry)) }
+    {
+        let acted = match request {
+            Request::Serve(_, queue) => serve_queue(
                 &self.settings,
                 self.limit,
                 &mut self.unit,
-                *queue,
+                queue,
                 &mut self.frame,
-                &mut messages,
             ),
-            _ => act(&mut self.unit, event, &mut messages),
+            _ => act(&mut self.unit, request),
         };
-        Seen::Replied(reply(&self.unit, outcome), messages)
+        Seen::Replied(acted.outcome, acted.vectors)
     }
 
     // A frame, which comes in where the settings say that the function may receive.
     fn offer(&mut self, frame: &FrameBuf, looped: bool) -> Option<Seen>
-        ensures lone { self.new.lone ≡ moved self.old.limit self.old.lone (Offer frame.now looped) }
-        ensures limit { self.new.limit ≡ self.old.limit }
-        ensures seen { option_map observation_of result ≡ shown self.old.limit self.old.lone (Offer frame.now looped) }
+        ensures lone { self.new ≡ moved self.old (Offer frame.now looped) }
+        ensures seen { option_map (observation_of self.new.function) result ≡ shown self.old (Offer frame.now looped) }
     {
         if !self.settings.may_receive() {
             return None;
         }
         match self.unit.deliver(frame, looped) {
             0 => None,
-            messages => Some(Seen::Interrupted(messages)),
+            messages => Some(Seen::Interrupted(Vectors::from_bits(messages))),
         }
     }
 }

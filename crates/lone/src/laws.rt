@@ -2,12 +2,12 @@
 ghost use Rattle.std.specs.Prelude.{ℕ, ◌<◌, List, length, slice_index};
 ghost use Rattle.device.specs.World.{fresh};
 ghost use Rattle.device.specs.Lone.{alone};
-ghost use Rattle.lone.specs.Kept.{Limited, Watched, IsPartOf};
+ghost use Rattle.lone.specs.Kept.{Watched, IsPartOf};
 
 /// A closed function without settings is as the pool's part of a device as it is made, where it has a memory of the same
 /// size and the same limit on frames. So a device and a function that [`follow`](crate::follow) takes along from there show
 /// the same, event by event.
 pub fn part_at_first()
-    ensures { (p limit : ℕ) (sizes sent : List ℕ) → p < length sizes →
-        IsPartOf (record { limit = limit; lone = alone (slice_index sizes p) }) (record { world = fresh limit sizes; pool = p; sent = sent }) }
+    ensures { (p limit : ℕ) (sizes : List ℕ) → p < length sizes →
+        IsPartOf (alone limit (slice_index sizes p)) (record { world = fresh limit sizes; pool = p }) }
 {}

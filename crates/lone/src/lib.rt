@@ -1,6 +1,6 @@
 //! A virtual function alone: what a device keeps for it, and the function by itself that is given no more than that.
 //!
-//! A [`Watch`] steps a device and tells after each event what it leaves for one pool: an event of the pool's own, own
+//! A [`Watch`] steps a device and gives at once what each event leaves for one pool: an event of the pool's own, own
 //! settings that a write changed, that the device was reset, or a frame that the pool's filters accept or that falls to it.
 //! A [`Lone`] function is one unit with own settings: no other pool, no table, no switch. It takes these items and tells
 //! what is seen of it. That a run shows the pool the same is what `device` promises of its runs; here it is promised that
@@ -14,7 +14,7 @@ pub mod together;
 pub mod watch;
 
 pub use function::Lone;
-pub use item::{Given, Kind, Seen};
+pub use item::{Given, Room, Seen};
 pub use together::follow;
 pub use watch::Watch;
 

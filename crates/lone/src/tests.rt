@@ -1,6 +1,6 @@
 //! Values from outside: what events leave for a pool, and what a function by itself makes of it.
-use crate::{Given, Kind, Lone, Seen, Watch, follow};
-use device::{Device, Event, MemBytes, Queue, Reply};
+use crate::{Given, Lone, Room, Seen, Watch, follow};
+use device::{Device, MemSlice, Outcome, Queue, Request};
 use guest_memory::FlatMem;
 use pool_filter::{Own, Tables};
 use std::alloc::Global;
@@ -21,18 +21,8 @@ const SETTINGS: [(u32, u32); 9] = [
     (0xA20C, 0x8000_1100),
     (0xA608, 0x2),
 ];
-// What each of these writes leaves for pool 0.
-const LEFT: [Kind; 9] = [
-    Kind::NewSettings,
-    Kind::NewSettings,
-    Kind::Nothing,
-    Kind::Nothing,
-    Kind::Nothing,
-    Kind::NewSettings,
-    Kind::Nothing,
-    Kind::Nothing,
-    Kind::Nothing,
-];
+// Whether each of these writes leaves own settings for pool 0.
+const LEFT: [bool; 9] = [true, true, false, false, false, true, false, false, false];
 // Registers of a function, and what they are written: one receive descriptor in a ring at 0x1000, a transmit ring of eight
 // descriptors at 0x2000, and a message for either.
 const RINGS: [(u32, u32); 10] = [
@@ -47,6 +37,9 @@ const RINGS: [(u32, u32); 10] = [
     (0x120, 0x8180),
     (0x108, 7),
 ];
+
+// A transmit descriptor of 60 bytes at 0x6000, the last of its frame, which reports its status.
+const DESCRIPTOR: [u8; 16] = [0, 0x60, 0, 0, 0, 0, 0, 0, 0x3C, 0, 0x30, 0x29, 0, 0, 0, 0];
 
 // A frame of 60 bytes to an address that ends with `to`.
 fn frame_to(to: u8) -> Result<FrameBuf, Fault> {
@@ -75,34 +68,58 @@ fn alone(alloc: Global) -> Result<Lone<FlatMem>, Fail> {
     Ok(Lone::new(memory, FrameLimit::standard()))
 }
 
+// What kind of item an event leaves.
+#[derive(Clone, Copy, Debug, PartialEq, Eq)]
+enum Kind {
+    Nothing,
+    OwnEvent,
+    NewSettings,
+    Gone,
+    Offer(bool),
+}
+
+fn kind_of(given: Option<Given<'_>>) -> Kind {
+    match given {
+        None => Kind::Nothing,
+        Some(Given::OwnEvent(_)) => Kind::OwnEvent,
+        Some(Given::NewSettings(_)) => Kind::NewSettings,
+        Some(Given::Gone) => Kind::Gone,
+        Some(Given::Offer(_, looped)) => Kind::Offer(looped),
+    }
+}
+
 // The messages that are seen, with the reply or alone; None where nothing is seen or the event was not done or sent.
-fn messages(seen: &Option<Seen>) -> Option<u8> {
+fn messages(seen: Option<Seen>) -> Option<u8> {
     match seen {
-        Some(Seen::Replied(reply, messages)) if reply.is_done() || reply.is_sent() => {
-            Some(*messages)
-        }
-        Some(Seen::Interrupted(messages)) => Some(*messages),
+        Some(Seen::Replied(Outcome::Done | Outcome::Sent, vectors)) => Some(vectors.bits()),
+        Some(Seen::Interrupted(vectors)) => Some(vectors.bits()),
         _ => None,
     }
 }
 
 // An event of the function's own that is done, without messages.
-fn does<R: Abort>(rt: &R, lone: &mut Lone<FlatMem>, event: &Event) {
-    assert_eq!(rt; messages(&lone.take(&Given::OwnEvent(event))), Some(0));
+fn does<R: Abort>(rt: &R, lone: &mut Lone<FlatMem>, request: Request<'_>) {
+    assert_eq!(rt; messages(lone.take(Given::OwnEvent(request))), Some(0));
 }
 
 // The function is open, has its rings, and a descriptor that sends a frame of 60 bytes.
 fn set_up<R: Abort>(rt: &R, lone: &mut Lone<FlatMem>) -> Result<(), Fail> {
-    does(rt, lone, &Event::Open(0));
+    does(rt, lone, Request::Open(0));
     for (offset, value) in RINGS {
-        does(rt, lone, &Event::VfWrite(0, offset, value));
+        does(rt, lone, Request::VfWrite(0, offset, value));
     }
-    let frame = MemBytes::from_bytes(frame_to(0x11)?.bytes())?;
-    does(rt, lone, &Event::MemWrite(0, 0x6000, frame));
-    let descriptor = [0, 0x60, 0, 0, 0, 0, 0, 0, 0x3C, 0, 0x30, 0x29, 0, 0, 0, 0];
-    let descriptor = MemBytes::from_bytes(&descriptor)?;
-    does(rt, lone, &Event::MemWrite(0, 0x2000, descriptor));
-    does(rt, lone, &Event::VfWrite(0, 0x2018, 1));
+    let frame = frame_to(0x11)?;
+    does(
+        rt,
+        lone,
+        Request::MemWrite(0, 0x6000, MemSlice::new(frame.bytes())?),
+    );
+    does(
+        rt,
+        lone,
+        Request::MemWrite(0, 0x2000, MemSlice::new(&DESCRIPTOR)?),
+    );
+    does(rt, lone, Request::VfWrite(0, 0x2018, 1));
     Ok(())
 }
 
@@ -119,17 +136,48 @@ fn both_ways(own: &mut Own) -> Result<(), Fail> {
 #[test]
 fn settings_that_differ_are_left(rt: HostRuntime) -> Result<(), Fail> {
     let mut watch = watch_pair(rt.alloc())?;
-    for ((offset, value), kind) in SETTINGS.into_iter().zip(LEFT) {
-        let event = Event::PfWrite(offset, value);
-        assert_eq!(rt; watch.step(&event), kind, "{offset}");
-        assert!(rt; watch.item(kind, &event).is_some() == (kind != Kind::Nothing));
-        assert_eq!(rt; watch.step(&event), Kind::Nothing, "{offset} again");
+    let mut room = Room::new();
+    for ((offset, value), left) in SETTINGS.into_iter().zip(LEFT) {
+        let request = Request::PfWrite(offset, value);
+        let want = if left {
+            Kind::NewSettings
+        } else {
+            Kind::Nothing
+        };
+        assert_eq!(rt; kind_of(watch.step(request, &mut room)), want, "{offset}");
+        assert_eq!(rt;
+            kind_of(watch.step(request, &mut room)),
+            Kind::Nothing,
+            "{offset} again"
+        );
     }
-    // a bad offset, and a read
-    assert_eq!(rt; watch.step(&Event::PfWrite(0x51E1, 0)), Kind::Nothing);
-    assert_eq!(rt; watch.step(&Event::PfRead(0x51E0)), Kind::Nothing);
-    assert_eq!(rt; watch.step(&Event::PfReset), Kind::Gone);
-    assert_eq!(rt; watch.step(&Event::PfReset), Kind::Gone);
+    for (request, kind) in [
+        (Request::PfWrite(0x51E1, 0), Kind::Nothing),
+        (Request::PfRead(0x51E0), Kind::Nothing),
+        (Request::PfReset, Kind::Gone),
+        (Request::PfReset, Kind::Gone),
+    ] {
+        assert_eq!(rt; kind_of(watch.step(request, &mut room)), kind);
+    }
+    Ok(())
+}
+
+/// The settings that a write leaves are those after it.
+#[test]
+fn settings_are_those_after_the_write(rt: HostRuntime) -> Result<(), Fail> {
+    let mut watch = watch_pair(rt.alloc())?;
+    let mut room = Room::new();
+    match watch.step(Request::PfWrite(0x8110, 1), &mut room) {
+        Some(Given::NewSettings(own)) => {
+            assert!(rt; own.may_transmit());
+            assert!(rt; !own.may_receive());
+        }
+        _ => assert!(rt; false),
+    }
+    match watch.step(Request::PfWrite(0x8110, 2), &mut room) {
+        Some(Given::NewSettings(own)) => assert!(rt; !own.may_transmit()),
+        _ => assert!(rt; false),
+    }
     Ok(())
 }
 
@@ -137,28 +185,28 @@ fn settings_that_differ_are_left(rt: HostRuntime) -> Result<(), Fail> {
 #[test]
 fn own_events_and_frames_are_left(rt: HostRuntime) -> Result<(), Fail> {
     let mut watch = watch_pair(rt.alloc())?;
+    let mut room = Room::new();
     for (offset, value) in SETTINGS {
-        watch.step(&Event::PfWrite(offset, value));
+        watch.step(Request::PfWrite(offset, value), &mut room);
     }
-    for (event, kind) in [
-        (Event::Flr(0), Kind::OwnEvent),
-        (Event::Open(0), Kind::OwnEvent),
-        (Event::Serve(0, Queue::Q1), Kind::OwnEvent),
-        (Event::Open(1), Kind::Nothing),
-        (Event::Open(64), Kind::Nothing),
-        (Event::Serve(1, Queue::Q0), Kind::Nothing),
-        (Event::Wire(frame_to(0x10)?), Kind::Offer(false)),
-        (Event::Wire(frame_to(0x11)?), Kind::Nothing),
-        (Event::Wire(frame_to(0x12)?), Kind::Nothing),
+    let (mine, others, nobodys) = (frame_to(0x10)?, frame_to(0x11)?, frame_to(0x12)?);
+    for (request, kind) in [
+        (Request::Flr(0), Kind::OwnEvent),
+        (Request::Open(0), Kind::OwnEvent),
+        (Request::Serve(0, Queue::Q1), Kind::OwnEvent),
+        (Request::Open(1), Kind::Nothing),
+        (Request::Open(64), Kind::Nothing),
+        (Request::Serve(1, Queue::Q0), Kind::Nothing),
+        (Request::Wire(&mine), Kind::Offer(false)),
+        (Request::Wire(&others), Kind::Nothing),
+        (Request::Wire(&nobodys), Kind::Nothing),
+        // and as default pool it gets the last of them
+        (Request::PfWrite(0x51B0, 0), Kind::Nothing),
     ] {
-        assert_eq!(rt; watch.step(&event), kind);
+        assert_eq!(rt; kind_of(watch.step(request, &mut room)), kind);
     }
-    // and as default pool it gets the last of them
-    assert_eq!(rt; watch.step(&Event::PfWrite(0x51B0, 0)), Kind::Nothing);
-    let event = Event::Wire(frame_to(0x12)?);
-    assert_eq!(rt; watch.step(&event), Kind::Offer(false));
-    match watch.item(Kind::Offer(false), &event) {
-        Some(Given::Offer(frame, false)) => assert_eq!(rt; frame.bytes(), frame_to(0x12)?.bytes()),
+    match watch.step(Request::Wire(&nobodys), &mut room) {
+        Some(Given::Offer(frame, false)) => assert_eq!(rt; frame.bytes(), nobodys.bytes()),
         _ => assert!(rt; false),
     }
     Ok(())
@@ -170,28 +218,34 @@ fn a_function_by_itself(rt: HostRuntime) -> Result<(), Fail> {
     let mut lone = alone(rt.alloc())?;
     let mut own = Own::none();
     both_ways(&mut own)?;
-    let serve = Event::Serve(0, Queue::Q0);
+    let serve = Given::OwnEvent(Request::Serve(0, Queue::Q0));
     let frame = frame_to(0x10)?;
-    assert_eq!(rt; messages(&lone.take(&Given::OwnEvent(&serve))), None);
+    assert_eq!(rt; messages(lone.take(serve)), None);
     set_up(&rt, &mut lone)?;
     // without settings it may neither send nor receive
-    assert_eq!(rt; messages(&lone.take(&Given::OwnEvent(&serve))), None);
-    assert!(rt; lone.take(&Given::Offer(&frame, false)).is_none());
-    assert!(rt; lone.take(&Given::NewSettings(&own)).is_none());
-    assert_eq!(rt; messages(&lone.take(&Given::OwnEvent(&serve))), Some(2));
-    assert_eq!(rt; messages(&lone.take(&Given::Offer(&frame, true))), Some(1));
+    assert_eq!(rt; messages(lone.take(serve)), None);
+    assert!(rt; lone.take(Given::Offer(&frame, false)).is_none());
+    assert!(rt; lone.take(Given::NewSettings(&own)).is_none());
+    assert_eq!(rt; messages(lone.take(serve)), Some(2));
+    assert_eq!(rt; messages(lone.take(Given::Offer(&frame, true))), Some(1));
     // there is one buffer, so a second frame has no room
-    assert!(rt; lone.take(&Given::Offer(&frame, true)).is_none());
-    assert!(rt; lone.take(&Given::Gone).is_none());
+    assert!(rt; lone.take(Given::Offer(&frame, true)).is_none());
+    assert!(rt; lone.take(Given::Gone).is_none());
     set_up(&rt, &mut lone)?;
-    assert_eq!(rt; messages(&lone.take(&Given::OwnEvent(&serve))), None);
-    assert!(rt; lone.take(&Given::Offer(&frame, false)).is_none());
+    assert_eq!(rt; messages(lone.take(serve)), None);
+    assert!(rt; lone.take(Given::Offer(&frame, false)).is_none());
     Ok(())
 }
 
 // An event of function 1 on the device: nothing is seen of function 0.
-fn unseen<R: Abort>(rt: &R, watch: &mut Watch<FlatMem>, lone: &mut Lone<FlatMem>, event: &Event) {
-    assert!(rt; follow(watch, lone, event).is_none());
+fn unseen<R: Abort>(
+    rt: &R,
+    watch: &mut Watch<FlatMem>,
+    lone: &mut Lone<FlatMem>,
+    request: Request<'_>,
+    room: &mut Room,
+) {
+    assert!(rt; follow(watch, lone, request, room).is_none());
 }
 
 /// A frame of function 1 reaches the function by itself, which reads the write-back with the loopback bit.
@@ -199,48 +253,75 @@ fn unseen<R: Abort>(rt: &R, watch: &mut Watch<FlatMem>, lone: &mut Lone<FlatMem>
 fn a_frame_of_another_function(rt: HostRuntime) -> Result<(), Fail> {
     let mut watch = watch_pair(rt.alloc())?;
     let mut lone = alone(rt.alloc())?;
+    let mut room = Room::default();
     for (offset, value) in SETTINGS {
-        unseen(&rt, &mut watch, &mut lone, &Event::PfWrite(offset, value));
+        unseen(
+            &rt,
+            &mut watch,
+            &mut lone,
+            Request::PfWrite(offset, value),
+            &mut room,
+        );
     }
-    unseen(&rt, &mut watch, &mut lone, &Event::Open(1));
+    unseen(&rt, &mut watch, &mut lone, Request::Open(1), &mut room);
     for (offset, value) in RINGS {
         unseen(
             &rt,
             &mut watch,
             &mut lone,
-            &Event::VfWrite(1, offset, value),
+            Request::VfWrite(1, offset, value),
+            &mut room,
         );
     }
-    let seen = follow(&mut watch, &mut lone, &Event::Open(0));
-    assert_eq!(rt; messages(&seen), Some(0));
+    let seen = follow(&mut watch, &mut lone, Request::Open(0), &mut room);
+    assert_eq!(rt; messages(seen), Some(0));
     for (offset, value) in RINGS {
-        let seen = follow(&mut watch, &mut lone, &Event::VfWrite(0, offset, value));
-        assert_eq!(rt; messages(&seen), Some(0), "{offset}");
+        let seen = follow(
+            &mut watch,
+            &mut lone,
+            Request::VfWrite(0, offset, value),
+            &mut room,
+        );
+        assert_eq!(rt; messages(seen), Some(0), "{offset}");
     }
-    let frame = MemBytes::from_bytes(frame_to(0x10)?.bytes())?;
+    let frame = frame_to(0x10)?;
+    for (at, bytes) in [(0x6000, frame.bytes()), (0x2000, DESCRIPTOR.as_slice())] {
+        let written = MemSlice::new(bytes)?;
+        unseen(
+            &rt,
+            &mut watch,
+            &mut lone,
+            Request::MemWrite(1, at, written),
+            &mut room,
+        );
+    }
     unseen(
         &rt,
         &mut watch,
         &mut lone,
-        &Event::MemWrite(1, 0x6000, frame),
+        Request::VfWrite(1, 0x2018, 1),
+        &mut room,
     );
-    let descriptor = [0, 0x60, 0, 0, 0, 0, 0, 0, 0x3C, 0, 0x30, 0x29, 0, 0, 0, 0];
-    let descriptor = MemBytes::from_bytes(&descriptor)?;
-    unseen(
-        &rt,
+    let seen = follow(
         &mut watch,
         &mut lone,
-        &Event::MemWrite(1, 0x2000, descriptor),
+        Request::Serve(1, Queue::Q0),
+        &mut room,
     );
-    unseen(&rt, &mut watch, &mut lone, &Event::VfWrite(1, 0x2018, 1));
-    let seen = follow(&mut watch, &mut lone, &Event::Serve(1, Queue::Q0));
-    assert_eq!(rt; messages(&seen), Some(1));
+    assert_eq!(rt; messages(seen), Some(1));
     let written_back = [0, 0, 0, 0, 0, 0, 0, 0, 3, 0, 4, 0, 60, 0, 0, 0];
-    match follow(&mut watch, &mut lone, &Event::MemRead(0, 0x1000, 16)) {
-        Some(Seen::Replied(Reply::Bytes(bytes), 0)) => assert_eq!(rt;
-            bytes.bytes(),
-            written_back.as_slice()
-        ),
+    match follow(
+        &mut watch,
+        &mut lone,
+        Request::MemRead(0, 0x1000, 16),
+        &mut room,
+    ) {
+        Some(Seen::Replied(Outcome::Bytes(span), vectors)) => {
+            assert!(rt; vectors.is_empty());
+            let mut bytes = [9; 16];
+            lone.read_span(span, &mut bytes);
+            assert_eq!(rt; bytes, written_back);
+        }
         _ => assert!(rt; false),
     }
     Ok(())

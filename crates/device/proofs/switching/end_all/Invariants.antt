@@ -1,0 +1,6 @@
+use Rattle.std.proofs.Common.{◌≡◌, ◌++◌, map, take, drop}
+use Rattle.vf_unit.specs.Unit.{ended}
+use Rattle.device.proofs.switching.end_all.Given as goal
+
+abbrev pub invariant-loop-unit : goal.invariant-loop-unit
+invariant-loop-unit g l = l.units ≡ map ended (take l.unit-index l.initial.units) ++ drop l.unit-index l.initial.units

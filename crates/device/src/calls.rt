@@ -1,0 +1,316 @@
+//! The calls by name, one for each kind of event, for who embeds a device.
+ghost use Rattle.std.specs.Prelude.{◌≡◌, ◌<◌, ℕ, List, length, replicate, slice_set, option_copied, Some, None, OnErr, if◌then◌else◌};
+ghost use Rattle.irq_causes.specs.Messages.{no_messages};
+ghost use Rattle.vf_unit.specs.Unit.{bytes_at};
+ghost use Rattle.device.specs.declared.event.Event.{Event};
+ghost use Rattle.device.specs.declared.event.Reply.{Reply};
+ghost use Rattle.device.specs.declared.span.Span.{Span};
+ghost use Rattle.device.specs.World.{silently, function_of, with_function, service, step, sent_by, sizes_of};
+ghost use Rattle.device.specs.Outcome.{reply_by, went_out, done_or_refused, value_or_refused, bytes_or_refused, messages_or_refused, reply_in, answer_in, left_by};
+
+use crate::bytes::MemSlice;
+use crate::device::Device;
+use crate::outcome::{Acted, Outcome};
+use crate::own_event;
+use crate::own_event::{PF_SPACE, is_bad_offset};
+use crate::resets::{clear_resets, read_resets};
+use crate::service::{PoolRules, serve_queue};
+use crate::span::Span;
+use crate::switching::end_all;
+use crate::taken::Taken;
+use guest_memory::GuestMem;
+use irq_causes::{Messages, Vectors};
+use local_switch::Source;
+use vf_unit::Queue;
+use wire_frame::{Fault, FrameBuf, PoolId};
+
+#[tactic(auto, using(crate::proofs::Arrivals::told_nothing, crate::proofs::SizesStay::size_set))]
+impl<M: GuestMem> Device<M> {
+    /// Opens a virtual function: its registers become initial, and its memory zero, whatever it was.
+    ///
+    /// [`Fault::NoSuchVf`], then [`Fault::AlreadyOpen`].
+    pub fn open(&mut self, pool: u8) -> Result<(), Fault>
+        ensures world { self.new ≡ (step self.old (Event.Open pool)).world }
+        ensures answer { silently (done_or_refused result) ≡ (step self.old (Event.Open pool)).answer }
+        ensures sizes { sizes_of self.new ≡ sizes_of self.old }
+    {
+        let index = usize::from(pool);
+        if index >= self.units.len() {
+            return Err(Fault::NoSuchVf);
+        }
+        own_event::open(&mut self.units[index])
+    }
+
+    /// Closes a virtual function.
+    ///
+    /// [`Fault::NoSuchVf`], then [`Fault::NotOpen`].
+    pub fn end(&mut self, pool: u8) -> Result<(), Fault>
+        ensures world { self.new ≡ (step self.old (Event.End pool)).world }
+        ensures answer { silently (done_or_refused result) ≡ (step self.old (Event.End pool)).answer }
+        ensures sizes { sizes_of self.new ≡ sizes_of self.old }
+    {
+        let index = usize::from(pool);
+        if index >= self.units.len() {
+            return Err(Fault::NoSuchVf);
+        }
+        own_event::end(&mut self.units[index])
+    }
+
+    /// Resets a virtual function (SR-IOV 1.1, function-level reset): its registers become initial. Its memory stays, and
+    /// PFVFLRE shows it.
+    ///
+    /// [`Fault::NoSuchVf`], then [`Fault::NotOpen`].
+    pub fn flr(&mut self, pool: u8) -> Result<(), Fault>
+        ensures world { self.new ≡ (step self.old (Event.Flr pool)).world }
+        ensures answer { silently (done_or_refused result) ≡ (step self.old (Event.Flr pool)).answer }
+        ensures sizes { sizes_of self.new ≡ sizes_of self.old }
+    {
+        let index = usize::from(pool);
+        if index >= self.units.len() {
+            return Err(Fault::NoSuchVf);
+        }
+        let done = own_event::reset(&mut self.units[index]);
+        if done.is_ok() {
+            self.resets |= 1 << pool;
+        }
+        done
+    }
+
+    /// Reads the register of a virtual function at an offset in bytes. An offset that no register has reads 0.
+    ///
+    /// [`Fault::NoSuchVf`], then [`Fault::NotOpen`], then [`Fault::BadOffset`] where the offset is no multiple of 4 or not
+    /// below 0x4000.
+    #[inline]
+    pub fn vf_read(&mut self, pool: u8, offset: u32) -> Result<u32, Fault>
+        ensures world { self.new ≡ (step self.old (Event.VfRead pool offset)).world }
+        ensures answer { silently (value_or_refused result) ≡ (step self.old (Event.VfRead pool offset)).answer }
+        ensures sizes { sizes_of self.new ≡ sizes_of self.old }
+    {
+        let index = usize::from(pool);
+        if index >= self.units.len() {
+            return Err(Fault::NoSuchVf);
+        }
+        own_event::vf_read(&mut self.units[index], offset)
+    }
+
+    /// Writes the register of a virtual function at an offset in bytes, and answers with the messages that this issues. A
+    /// write to an offset that no register has does nothing.
+    ///
+    /// Refused as [`vf_read`](Device::vf_read) is.
+    #[inline]
+    pub fn vf_write(&mut self, pool: u8, offset: u32, value: u32) -> Result<Messages, Fault>
+        ensures world { self.new ≡ (step self.old (Event.VfWrite pool offset value)).world }
+        ensures answer { messages_or_refused result ≡ (step self.old (Event.VfWrite pool offset value)).answer }
+        ensures sizes { sizes_of self.new ≡ sizes_of self.old }
+    {
+        let index = usize::from(pool);
+        if index >= self.units.len() {
+            return Err(Fault::NoSuchVf);
+        }
+        match own_event::vf_write(&mut self.units[index], offset, value) {
+            Ok(vectors) => Ok(messages_to(pool, vectors)),
+            Err(fault) => Err(fault),
+        }
+    }
+
+    /// Fills `out` with the bytes of a guest's memory from an address on; where it is refused, `out` stays.
+    ///
+    /// [`Fault::NoSuchVf`], then [`Fault::NotOpen`], then [`Fault::TooLong`] for more than 2048 bytes, then
+    /// [`Fault::BadRange`] where they pass the end of the memory.
+    #[inline]
+    pub fn mem_read(&self, pool: u8, at: u64, out: &mut [u8]) -> Result<(), Fault>
+        ensures world { self.now ≡ (step self.now (Event.MemRead pool at (length out.old))).world }
+        ensures answer { silently (bytes_or_refused result out.new) ≡ (step self.now (Event.MemRead pool at (length out.old))).answer }
+        ensures unchanged { OnErr result (out.new ≡ out.old) }
+    {
+        let index = usize::from(pool);
+        if index >= self.units.len() {
+            return Err(Fault::NoSuchVf);
+        }
+        own_event::mem_read(&self.units[index], at, out)
+    }
+
+    /// Writes bytes of a guest's memory from an address on.
+    ///
+    /// [`Fault::NoSuchVf`], then [`Fault::NotOpen`], then [`Fault::BadRange`] where they pass the end of the memory.
+    #[inline]
+    pub fn mem_write(&mut self, pool: u8, at: u64, written: MemSlice<'_>) -> Result<(), Fault>
+        ensures world { self.new ≡ (step self.old (Event.MemWrite pool at written.entry.bytes.now)).world }
+        ensures answer { silently (done_or_refused result) ≡ (step self.old (Event.MemWrite pool at written.entry.bytes.now)).answer }
+        ensures sizes { sizes_of self.new ≡ sizes_of self.old }
+    {
+        let index = usize::from(pool);
+        if index >= self.units.len() {
+            return Err(Fault::NoSuchVf);
+        }
+        own_event::mem_write(&mut self.units[index], at, written)
+    }
+
+    // Finds the bytes of a guest's memory that an event reads.
+    #[inline]
+    pub(crate) fn find(&self, pool: u8, at: u64, count: u16) -> Outcome
+        ensures world { self.now ≡ (step self.now (Event.MemRead pool at count)).world }
+        ensures answer { silently (reply_in self.now result) ≡ (step self.now (Event.MemRead pool at count)).answer }
+    {
+        let index = usize::from(pool);
+        if index >= self.units.len() {
+            return Outcome::Refused(Fault::NoSuchVf);
+        }
+        own_event::find(&self.units[index], pool, at, count)
+    }
+
+    /// Fills `out` with the bytes from a span's address on. What a closed or a missing function has there is zeros, and so
+    /// are bytes past the end of the memory.
+    #[inline]
+    #[tactic(auto, using(crate::proofs::Inside::read_missing))]
+    pub fn read_span(&self, span: Span, out: &mut [u8])
+        ensures { out.new ≡ bytes_at (function_of span.pool self.now) span.at (replicate {A = ℕ} (length out.old) 0) }
+    {
+        let index = usize::from(span.pool());
+        if index < self.units.len() {
+            own_event::read_or_zero(&self.units[index], span.at(), out);
+        } else {
+            out.fill(0);
+        }
+    }
+
+    /// Takes the descriptor at the head of a transmit queue (82599 datasheet, transmit descriptors). A frame that this sends
+    /// is put together in `frame`, and handed out from there; it is switched to the pools that accept it, and to the wire.
+    ///
+    /// The outcome is refused for [`Fault::NoSuchVf`], then for [`Fault::NotOpen`]; else it is idle, more, sent, dropped or
+    /// faulted.
+    pub fn serve<'f>(&mut self, pool: u8, queue: Queue, frame: &'f mut FrameBuf) -> Taken<'f>
+        ensures world { self.new ≡ (step self.old (Event.Serve pool queue)).world }
+        ensures answer { answer_in self.new result ≡ (step self.old (Event.Serve pool queue)).answer }
+        ensures sizes { sizes_of self.new ≡ sizes_of self.old }
+        ensures sent { option_copied result.sent ≡ sent_by self.old (Event.Serve pool queue) }
+        ensures left { option_copied result.left ≡ left_by self.old (Event.Serve pool queue) }
+    {
+        let index = usize::from(pool);
+        if index >= self.units.len() {
+            return Taken::silent(Outcome::Refused(Fault::NoSuchVf));
+        }
+        match PoolId::new(pool) {
+            Some(sender) => self.serve_pool(sender, queue, frame),
+            None => unreachable!(),
+        }
+    }
+
+    // The service of a queue of a function that is there.
+    fn serve_pool<'f>(&mut self, pool: PoolId, queue: Queue, frame: &'f mut FrameBuf) -> Taken<'f>
+        requires there { pool < length self.old.functions }
+        ensures world { self.new ≡ (step self.old (Event.Serve pool queue)).world }
+        ensures answer { answer_in self.new result ≡ (step self.old (Event.Serve pool queue)).answer }
+        ensures sizes { sizes_of self.new ≡ sizes_of self.old }
+        ensures sent { option_copied result.sent ≡ sent_by self.old (Event.Serve pool queue) }
+        ensures left { option_copied result.left ≡ left_by self.old (Event.Serve pool queue) }
+    {
+        let acted = self.transmit(pool, queue, frame);
+        if !acted.outcome.is_sent() {
+            return Taken {
+                outcome: acted.outcome,
+                messages: Messages::of(pool, acted.vectors),
+                sent: None,
+                left: None,
+            };
+        }
+        let frame: &'f FrameBuf = frame;
+        let switched = self.switch(Source::Pool(pool), frame);
+        let mut messages = switched.messages;
+        messages.set(pool, acted.vectors);
+        Taken {
+            outcome: acted.outcome,
+            messages,
+            sent: Some(frame),
+            left: if switched.left { Some(frame) } else { None },
+        }
+    }
+
+    // The service of a queue of a function that is there, but for the switching of a frame that is sent.
+    fn transmit(&mut self, pool: PoolId, queue: Queue, frame: &mut FrameBuf) -> Acted
+        requires there { pool < length self.old.functions }
+        ensures world { self.new ≡ with_function self.old pool (service self.old pool queue).function }
+        ensures sizes { sizes_of self.new ≡ sizes_of self.old }
+        ensures reply { (bytes : Span → List ℕ) → reply_by bytes result.outcome ≡ (service self.old pool queue).reply }
+        ensures messages { result.vectors ≡ (service self.old pool queue).messages }
+        ensures sent { (service self.old pool queue).sent ≡ (if went_out result.outcome then Some frame.new else None) }
+    {
+        let rules = PoolRules {
+            tables: &self.tables,
+            pool,
+        };
+        let index = usize::from(pool.get());
+        serve_queue(&rules, self.limit, &mut self.units[index], queue, frame)
+    }
+
+    /// Reads the register of the physical function at an offset in bytes. An offset that no register has reads 0.
+    ///
+    /// [`Fault::BadOffset`] where the offset is no multiple of 4 or not below 0x20000.
+    pub fn pf_read(&self, offset: u32) -> Result<u32, Fault>
+        ensures world { self.now ≡ (step self.now (Event.PfRead offset)).world }
+        ensures answer { silently (value_or_refused result) ≡ (step self.now (Event.PfRead offset)).answer }
+    {
+        if is_bad_offset(PF_SPACE, offset) {
+            return Err(Fault::BadOffset);
+        }
+        Ok(match read_resets(self.resets, offset) {
+            Some(word) => word,
+            None => self.tables.read(offset),
+        })
+    }
+
+    /// Writes the register of the physical function at an offset in bytes. A write to an offset that no register has does
+    /// nothing.
+    ///
+    /// Refused as [`pf_read`](Device::pf_read) is.
+    pub fn pf_write(&mut self, offset: u32, value: u32) -> Result<(), Fault>
+        ensures world { self.new ≡ (step self.old (Event.PfWrite offset value)).world }
+        ensures answer { silently (done_or_refused result) ≡ (step self.old (Event.PfWrite offset value)).answer }
+        ensures sizes { sizes_of self.new ≡ sizes_of self.old }
+    {
+        if is_bad_offset(PF_SPACE, offset) {
+            return Err(Fault::BadOffset);
+        }
+        self.tables.write(offset, value);
+        self.resets = clear_resets(self.resets, offset, value);
+        Ok(())
+    }
+
+    /// Resets the device: every virtual function is closed and every setting initial. The frames that went out stay.
+    pub fn reset(&mut self)
+        ensures world { self.new ≡ (step self.old Event.PfReset).world }
+        ensures answer { silently Reply.Done ≡ (step self.old Event.PfReset).answer }
+        ensures sizes { sizes_of self.new ≡ sizes_of self.old }
+    {
+        end_all(&mut self.units);
+        self.tables.clear();
+        self.resets = 0;
+    }
+
+    /// Takes a frame from the wire, which goes to each pool that accepts it, and else to the default pool; answers with the
+    /// messages that this issues.
+    ///
+    /// [`Fault::BadFrame`] where the frame is longer than the device takes.
+    pub fn wire(&mut self, frame: &FrameBuf) -> Result<Messages, Fault>
+        ensures world { self.new ≡ (step self.old (Event.Wire frame.now)).world }
+        ensures answer { messages_or_refused result ≡ (step self.old (Event.Wire frame.now)).answer }
+        ensures sizes { sizes_of self.new ≡ sizes_of self.old }
+    {
+        if frame.bytes().len() > usize::from(self.limit.get()) {
+            return Err(Fault::BadFrame);
+        }
+        Ok(self.switch(Source::Wire, frame).messages)
+    }
+}
+
+// Messages to one function that is there.
+#[inline]
+fn messages_to(pool: u8, vectors: Vectors) -> Messages
+    requires { pool < 64 }
+    ensures { result ≡ slice_set no_messages pool vectors }
+{
+    match PoolId::new(pool) {
+        Some(pool) => Messages::of(pool, vectors),
+        None => unreachable!(),
+    }
+}

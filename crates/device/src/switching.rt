@@ -1,0 +1,94 @@
+//! Frames that are switched: to each function that receives them, and to the wire.
+ghost use Rattle.std.specs.Prelude.{◌≡◌, ℕ, ◌<◌, ◌≤◌, length, map, slice_index, slice_index_or, slice_set};
+ghost use Rattle.wire_frame.specs.Bits.{has_bit};
+ghost use Rattle.vf_unit.specs.Unit.{Closed, size_of, ended};
+ghost use Rattle.local_switch.specs.Switch.{leaves};
+ghost use Rattle.device.specs.World.{is_looped, offered, told, switched, sizes_of};
+
+use crate::device::Device;
+use guest_memory::GuestMem;
+use irq_causes::{Messages, Vectors};
+use local_switch::{Source, route};
+use vf_unit::VfUnit;
+use wire_frame::{FrameBuf, PoolId, has_bit};
+
+/// What the switching of a frame issued, and whether the frame left for the wire.
+#[derive(Clone, Copy)]
+pub struct Switched {
+    pub messages: Messages,
+    pub left: bool,
+}
+
+// Whether a frame comes from a pool.
+fn is_looped(from: &Source) -> bool
+    ensures { result ≡ is_looped from.now }
+{
+    matches!(from, Source::Pool(_))
+}
+
+// Delivers a frame to each function in a set of pools; the messages that each pool got.
+fn deliver_to_all<M: GuestMem>(
+    units: &mut [VfUnit<M>],
+    pools: u64,
+    loopback: bool,
+    frame: &FrameBuf,
+) -> Messages
+    requires { length units.old ≤ 64 }
+    ensures functions { (r : ℕ) → r < length units.old →
+        slice_index_or units.new r (Closed 0) ≡ (offered (has_bit pools r) loopback frame.now (slice_index_or units.old r (Closed 0))).function }
+    ensures same_length { length units.new ≡ length units.old }
+    ensures sizes { map size_of units.new ≡ map size_of units.old }
+    ensures pools { length result ≡ 64 }
+    ensures messages { (r : ℕ) → r < 64 →
+        slice_index result r ≡ (offered (has_bit pools r) loopback frame.now (slice_index_or units.old r (Closed 0))).messages }
+{
+    let mut raised = Messages::none();
+    for i in 0..units.len() {
+        if has_bit(pools, i as u32) {
+            let messages = units[i].deliver(frame, loopback);
+            note(&mut raised, i, messages);
+        }
+    }
+    raised
+}
+
+// Sets the messages to one pool.
+#[inline]
+fn note(raised: &mut Messages, pool: usize, messages: u8)
+    requires pool { pool < 64 }
+    requires vectors { messages < 8 }
+    ensures { raised.new ≡ slice_set raised.old pool messages }
+{
+    match PoolId::new(pool as u8) {
+        Some(pool) => raised.set(pool, Vectors::from_bits(messages)),
+        None => unreachable!(),
+    }
+}
+
+// Closes every function.
+pub fn end_all<M: GuestMem>(units: &mut [VfUnit<M>])
+    ensures ended { units.new ≡ map ended units.old }
+    ensures sizes { map size_of units.new ≡ map size_of units.old }
+{
+    for unit in units.iter_mut() {
+        unit.end();
+    }
+}
+
+impl<M: GuestMem> Device<M> {
+    // Switches a frame.
+    pub(crate) fn switch(&mut self, from: Source, frame: &FrameBuf) -> Switched
+        ensures world { self.new ≡ switched self.old from frame.now }
+        ensures messages { result.messages ≡ told self.old.settings self.old.functions from frame.now }
+        ensures left { result.left ≡ leaves self.old.settings from frame.now }
+        ensures sizes { sizes_of self.new ≡ sizes_of self.old }
+    {
+        let loopback = is_looped(&from);
+        let route = route(&self.tables, from, frame);
+        self.wire.push_where(route.wire, frame);
+        Switched {
+            messages: deliver_to_all(&mut self.units, route.local, loopback, frame),
+            left: route.wire,
+        }
+    }
+}

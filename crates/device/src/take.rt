@@ -1,0 +1,184 @@
+//! The events that a device takes, one at a time and in a list.
+ghost use Rattle.std.specs.Prelude.{◌≡◌, ℕ, List, false, ◌+◌, ◌<◌, [], ◌∷◌, ◌++◌, length, option_copied, vec_len, vec_capacity, IfOk, IfErr, OnOk, OnErr};
+ghost use Rattle.device.specs.declared.span.Span.{Span};
+ghost use Rattle.device.specs.World.{step, sent_by, sizes_of, answers, world_after};
+ghost use Rattle.device.specs.Lone.{keep, lone_of, lone_seen, lone_after, seen_by};
+ghost use Rattle.device.specs.Outcome.{reads, bytes_in, reply_by, answer_in, left_by};
+ghost use Rattle.device.specs.Request.{event_of};
+
+use crate::bytes::MemBytes;
+use crate::device::Device;
+use crate::event::{Answer, Event, Reply};
+use crate::outcome::Outcome;
+use crate::request::Request;
+use crate::span::Span;
+use crate::taken::Taken;
+use guest_memory::GuestMem;
+use std::alloc::Global;
+use wire_frame::{Fault, FrameBuf, PoolId};
+
+impl<M: GuestMem> Device<M> {
+    /// Takes the event that a request stands for, and tells in few words what came of it.
+    ///
+    /// A frame that a service sends is put together in `frame`, and handed out from there. Bytes that are read stand in the
+    /// memory still: the outcome says where, and [`read_span`](Device::read_span) copies them.
+    #[inline]
+    pub fn take<'f>(&mut self, request: Request<'_>, frame: &'f mut FrameBuf) -> Taken<'f>
+        ensures world { self.new ≡ (step self.old (event_of request.entry)).world }
+        ensures answer { answer_in self.new result ≡ (step self.old (event_of request.entry)).answer }
+        ensures sent { option_copied result.sent ≡ sent_by self.old (event_of request.entry) }
+        ensures left { option_copied result.left ≡ left_by self.old (event_of request.entry) }
+        ensures sizes { sizes_of self.new ≡ sizes_of self.old }
+        // to each function the event is as if it were alone
+        ensures isolated { (p : ℕ) → p < length self.old.functions →
+            seen_by p (event_of request.entry ∷ []) (answer_in self.new result ∷ [])
+            ≡ lone_seen (lone_of p self.old) (keep p self.old (event_of request.entry ∷ [])) }
+        ensures isolated_state { (p : ℕ) → p < length self.old.functions →
+            lone_of p self.new ≡ lone_after (lone_of p self.old) (keep p self.old (event_of request.entry ∷ [])) }
+    {
+        let count = self.functions();
+        prove!(count <= usize::from(PoolId::COUNT));
+        self.take_any(request, frame)
+    }
+
+    // The same, but for what each function sees of it.
+    #[inline]
+    fn take_any<'f>(&mut self, request: Request<'_>, frame: &'f mut FrameBuf) -> Taken<'f>
+        ensures world { self.new ≡ (step self.old (event_of request.entry)).world }
+        ensures answer { answer_in self.new result ≡ (step self.old (event_of request.entry)).answer }
+        ensures sent { option_copied result.sent ≡ sent_by self.old (event_of request.entry) }
+        ensures left { option_copied result.left ≡ left_by self.old (event_of request.entry) }
+        ensures sizes { sizes_of self.new ≡ sizes_of self.old }
+    {
+        match request {
+            Request::VfRead(pool, offset) => Taken::value(self.vf_read(pool, offset)),
+            Request::VfWrite(pool, offset, value) => Taken::issued(self.vf_write(
+                pool, offset, value,
+            )),
+            Request::MemRead(pool, at, count) => Taken::silent(self.find(pool, at, count)),
+            Request::MemWrite(pool, at, written) => Taken::done(self.mem_write(pool, at, written)),
+            Request::Serve(pool, queue) => self.serve(pool, queue, frame),
+            Request::Wire(frame) => Taken::issued(self.wire(frame)),
+            Request::Open(pool) => Taken::done(self.open(pool)),
+            Request::End(pool) => Taken::done(self.end(pool)),
+            Request::Flr(pool) => Taken::done(self.flr(pool)),
+            Request::PfRead(offset) => Taken::value(self.pf_read(offset)),
+            Request::PfWrite(offset, value) => Taken::done(self.pf_write(offset, value)),
+            Request::PfReset => {
+                self.reset();
+                Taken::silent(Outcome::Done)
+            }
+        }
+    }
+
+    /// The answer that a [`Taken`] stands for, right after it. It is inlined, so that no answer is made for who looks at
+    /// none.
+    #[inline(always)]
+    pub fn answer(&self, taken: &Taken<'_>) -> Answer
+        ensures { result ≡ answer_in self.now taken.now }
+    {
+        match taken.outcome {
+            Outcome::Bytes(span) => Answer {
+                reply: Reply::Bytes(MemBytes::read(self, span)),
+                raised: taken.messages.to_masks(),
+            },
+            outcome => Answer {
+                reply: plain_reply(outcome),
+                raised: taken.messages.to_masks(),
+            },
+        }
+    }
+
+    /// Takes one event.
+    pub fn step(&mut self, event: &Event) -> Answer
+        ensures world { self.new ≡ (step self.old event.now).world }
+        ensures answer { result ≡ (step self.old event.now).answer }
+    {
+        let mut frame = FrameBuf::blank();
+        let taken = self.take(event.as_request(), &mut frame);
+        self.answer(&taken)
+    }
+
+    /// Takes one event, and gives the frame beside, where it sent one.
+    pub fn step_sent(&mut self, event: &Event) -> (Answer, Option<FrameBuf>)
+        ensures world { self.new ≡ (step self.old event.now).world }
+        ensures answer { result.0 ≡ (step self.old event.now).answer }
+        ensures sent { result.1 ≡ sent_by self.old event.now }
+    {
+        let mut frame = FrameBuf::blank();
+        let taken = self.take(event.as_request(), &mut frame);
+        let sent = match taken.sent {
+            Some(frame) => Some(frame.copy()),
+            None => None,
+        };
+        (self.answer(&taken), sent)
+    }
+
+    /// Takes events in turn, and answers each. [`Fault::NoMemory`] comes before the first step, and leaves the device as it
+    /// was. To each virtual function the run is as if it were alone.
+    pub fn run(&mut self, alloc: Global, events: &[Event]) -> Result<Vec<Answer>, Fault>
+        ensures answers { IfOk result (λ given. given.items ≡ answers self.old events.now) }
+        ensures world { OnOk result (self.new ≡ world_after self.old events.now) }
+        ensures no_memory { IfErr result (λ e. e ≡ Fault.NoMemory) }
+        ensures unchanged { OnErr result (self.new ≡ self.old) }
+        // each function sees what it would see alone
+        ensures isolated { IfOk result (λ given. (p : ℕ) → p < length self.old.functions →
+            seen_by p events.now given.items ≡ lone_seen (lone_of p self.old) (keep p self.old events.now)) }
+        // and is left as it would be left alone
+        ensures isolated_state { OnOk result ((p : ℕ) → p < length self.old.functions →
+            lone_of p self.new ≡ lone_after (lone_of p self.old) (keep p self.old events.now)) }
+    {
+        let count = self.functions();
+        prove!(count <= usize::from(PoolId::COUNT));
+        let Ok(mut given) = Vec::with_capacity(alloc, events.len()) else {
+            return Err(Fault::NoMemory);
+        };
+        let mut frame = FrameBuf::blank();
+        for event in events {
+            self.step_onto(event, &mut frame, &mut given);
+        }
+        Ok(given)
+    }
+
+    // Takes one event, and adds its answer, for which there is room. An answer is large, and each arm makes it where it is to
+    // stand: one made before the arms meet would be copied.
+    #[inline]
+    fn step_onto(&mut self, event: &Event, frame: &mut FrameBuf, given: &mut Vec<Answer>)
+        requires { vec_len given.old < vec_capacity given.old }
+        ensures world { self.new ≡ (step self.old event.now).world }
+        ensures answer { given.new.items ≡ given.old.items ++ (step self.old event.now).answer ∷ [] }
+        ensures len { vec_len given.new ≡ vec_len given.old + 1 }
+        ensures capacity { vec_capacity given.new ≡ vec_capacity given.old }
+    {
+        let taken = self.take(event.as_request(), frame);
+        match taken.outcome {
+            Outcome::Bytes(span) => given.push_reserved(Answer {
+                reply: Reply::Bytes(MemBytes::read(self, span)),
+                raised: taken.messages.to_masks(),
+            }),
+            outcome => given.push_reserved(Answer {
+                reply: plain_reply(outcome),
+                raised: taken.messages.to_masks(),
+            }),
+        }
+    }
+}
+
+// The reply that an outcome stands for, where no bytes are read.
+#[inline]
+fn plain_reply(outcome: Outcome) -> Reply
+    requires { reads outcome ≡ false }
+    ensures { (bytes : Span → List ℕ) → result ≡ reply_by bytes outcome }
+{
+    match outcome {
+        Outcome::Done => Reply::Done,
+        Outcome::Value(value) => Reply::Value(value),
+        Outcome::Bytes(_) => unreachable!(),
+        Outcome::Idle => Reply::Idle,
+        Outcome::More => Reply::More,
+        Outcome::Sent => Reply::Sent,
+        Outcome::Dropped => Reply::Dropped,
+        Outcome::Faulted => Reply::Faulted,
+        Outcome::Refused(fault) => Reply::Refused(fault.number()),
+    }
+}

@@ -1,0 +1,85 @@
+//! What came of an event, with its messages and the frame that it sent.
+ghost use Rattle.std.specs.Prelude.{◌≡◌, None};
+ghost use Rattle.irq_causes.specs.Messages.{no_messages};
+ghost use Rattle.device.specs.World.{World, silently};
+ghost use Rattle.device.specs.Outcome.{answer_in, done_or_refused, value_or_refused, messages_or_refused};
+
+use crate::outcome::Outcome;
+use irq_causes::Messages;
+use wire_frame::{Fault, FrameBuf};
+
+/// What came of an event, with the messages and the frame that it sent. It has a few words: the frame stands where the
+/// caller lent room for it.
+#[derive(Clone, Copy)]
+pub struct Taken<'f> {
+    /// What came of the event.
+    pub outcome: Outcome,
+    /// The interrupt messages that it issued, to each pool.
+    pub messages: Messages,
+    /// The frame that a service sent, wherever it went.
+    pub sent: Option<&'f FrameBuf>,
+    /// That frame, where it left for the wire.
+    pub left: Option<&'f FrameBuf>,
+}
+
+impl<'f> Taken<'f> {
+    // An outcome without messages, of an event that sent no frame.
+    #[inline]
+    pub(crate) fn silent(outcome: Outcome) -> Taken<'f>
+        ensures outcome { result.outcome ≡ outcome }
+        ensures messages { result.messages ≡ no_messages }
+        ensures sent { result.sent ≡ None }
+        ensures left { result.left ≡ None }
+    {
+        Taken {
+            outcome,
+            messages: Messages::none(),
+            sent: None,
+            left: None,
+        }
+    }
+
+    // What was done, or refused.
+    #[inline]
+    pub(crate) fn done(done: Result<(), Fault>) -> Taken<'f>
+        ensures answer { (w : World) → answer_in w result ≡ silently (done_or_refused done) }
+        ensures sent { result.sent ≡ None }
+        ensures left { result.left ≡ None }
+    {
+        match done {
+            Ok(()) => Taken::silent(Outcome::Done),
+            Err(fault) => Taken::silent(Outcome::Refused(fault)),
+        }
+    }
+
+    // A value, or a refusal.
+    #[inline]
+    pub(crate) fn value(value: Result<u32, Fault>) -> Taken<'f>
+        ensures answer { (w : World) → answer_in w result ≡ silently (value_or_refused value) }
+        ensures sent { result.sent ≡ None }
+        ensures left { result.left ≡ None }
+    {
+        match value {
+            Ok(value) => Taken::silent(Outcome::Value(value)),
+            Err(fault) => Taken::silent(Outcome::Refused(fault)),
+        }
+    }
+
+    // What was done with these messages, or refused.
+    #[inline]
+    pub(crate) fn issued(messages: Result<Messages, Fault>) -> Taken<'f>
+        ensures answer { (w : World) → answer_in w result ≡ messages_or_refused messages }
+        ensures sent { result.sent ≡ None }
+        ensures left { result.left ≡ None }
+    {
+        match messages {
+            Ok(messages) => Taken {
+                outcome: Outcome::Done,
+                messages,
+                sent: None,
+                left: None,
+            },
+            Err(fault) => Taken::silent(Outcome::Refused(fault)),
+        }
+    }
+}

@@ -1,0 +1,3 @@
+mod Keeps
+mod Places
+mod Word

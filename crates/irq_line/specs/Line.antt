@@ -1,0 +1,134 @@
+-- The interrupt line: for each of 64 pools a word, whose bit v is 1 while a message of vector v stands for the pool's guest.
+-- The device raises messages and the guest takes them. What a seat did itself is its view, and the rule ties the words to
+-- the views.
+use Rattle.std.specs.Prelude.{◌≡◌, ℕ, ◌+◌, ◌-◌, ◌<◌, ◌≤◌, ◌==◌, if◌then◌else◌, List, [], ◌∷◌, ◌++◌, map, length, slice_index, slice_index_or, bit_or}
+use Rattle.std.specs.Int.{bit_at}
+use Rattle.std.specs.List.{sum_by}
+use Rattle.atomic_table.specs.Table.{State, Me, Step}
+use Rattle.atomic_table.specs.Seated.{TableId}
+use Rattle.irq_line.specs.declared.views.Raise.{Raise}
+use Rattle.irq_line.specs.declared.views.GuestView.{GuestView}
+use Rattle.irq_line.specs.declared.views.View.{View}
+use Rattle.irq_line.specs.declared.views.View.TheVariants.{Device, Guest}
+
+-- ---- what the views tell, for each pool and vector
+
+-- a raise of a mask's vectors for a pool, and the word that it found
+abbrev pub raise_of : ℕ → ℕ → ℕ → Raise
+raise_of pool mask found = record { pool = pool; mask = mask; found = found }
+
+-- 1 where the vector is in a mask that is raised for that very pool, else 0
+abbrev pub bit_for : ℕ → ℕ → ℕ → ℕ → ℕ
+bit_for pool vector raised_for mask = if raised_for == pool then bit_at mask vector else 0
+
+-- how many raises of the vector for the pool were made
+abbrev pub raised : ℕ → ℕ → List Raise → ℕ
+raised pool vector raises = sum_by (λ r. bit_for pool vector r.pool r.mask) raises
+
+-- how many of them landed: they found the bit clear
+abbrev pub landed : ℕ → ℕ → List Raise → ℕ
+landed pool vector raises = sum_by (λ r. bit_for pool vector r.pool r.mask - bit_at r.found vector) raises
+
+-- how many takes answered the vector
+abbrev pub answered : ℕ → List ℕ → ℕ
+answered vector takes = sum_by (λ answer. bit_at answer vector) takes
+
+-- each bit of the first number stands in the second
+abbrev pub StandsIn : ℕ → ℕ → Type 0
+StandsIn bits word = (vector : ℕ) → bit_at bits vector ≤ bit_at word vector
+
+-- ---- the rule
+
+-- the word of a pool
+pub record IsWord (pool word : ℕ) (raises : List Raise) (guest : GuestView) : Type 0 where
+  pub below : word < 8
+  -- each raise that landed was answered by a take of its own, but for the one whose bit stands
+  pub balance : (v : ℕ) → landed pool v raises ≡ bit_at word v + answered v guest.takes
+  pub at_most : (v : ℕ) → landed pool v raises ≤ raised pool v raises
+  -- of the raises that were made, one landed at least
+  pub at_least : (v : ℕ) → 0 < raised pool v raises → 0 < landed pool v raises
+  -- what was peeked stands
+  pub peeked : StandsIn guest.peeked word
+
+-- a guest that has done nothing
+abbrev pub new_guest : ℕ → GuestView
+new_guest pool = record { pool = pool; takes = []; peeked = 0 }
+
+-- the view of the guest of a pool, which has done nothing while it has no seat
+abbrev pub guest_of : List GuestView → ℕ → GuestView
+guest_of guests pool = slice_index_or guests pool (new_guest pool)
+
+-- the words, and the views in the order of the seats
+abbrev pub LineState : Type 0
+LineState = State (Unit {0}) View
+
+-- the line between any two steps: the device has the first seat and the guests have the others, in the order of their pools,
+-- and each of the 64 words fits the device's raises and the view of the pool's guest
+pub record IsLine (line : LineState) : Type 0 where
+  pub raises : List Raise
+  pub guests : List GuestView
+  pub seats : line.views ≡ Device raises (length guests) ∷ map Guest guests
+  pub pools : (p : ℕ) → (guest_of guests p).pool ≡ p
+  pub size : length line.words ≡ 64
+  pub words : (p : ℕ) → p < 64 → IsWord p (slice_index line.words p) raises (guest_of guests p)
+
+-- ---- the kinds of step, each by the word that it finds and by what it makes of the view of its seat
+
+-- a seat's view, beside the slots that it holds, which a line has none of
+abbrev pub SeatState : Type 0
+SeatState = Me (Unit {0}) View
+
+-- what the view of the device's seat has; that of another seat has nothing of it
+abbrev pub raises_of : View → List Raise
+raises_of (Device raises seated) = raises
+raises_of (Guest guest) = []
+
+abbrev pub seated_of : View → ℕ
+seated_of (Device raises seated) = seated
+seated_of (Guest guest) = 0
+
+-- what the view of a guest's seat has; that of the device's seat is no pool's
+abbrev pub guest_in : View → GuestView
+guest_in (Device raises seated) = new_guest 64
+guest_in (Guest guest) = guest
+
+-- a raise (`fetch_or` of a mask): the view has one raise more
+abbrev pub IsRaise : Step (Unit {0}) → SeatState → ℕ → SeatState → Type 0
+IsRaise step before found after =
+    (found < 8)
+    × (after ≡ (Device (raises_of before.0 ++ raise_of step.word step.first found ∷ []) (seated_of before.0), before.1))
+
+-- a take (`swap` with 0): the view has one take more, which answered the word, and nothing is peeked any more
+abbrev pub after_take : GuestView → ℕ → GuestView
+after_take guest answer = record guest { takes = guest.takes ++ answer ∷ []; peeked = 0 }
+
+abbrev pub IsTake : Step (Unit {0}) → SeatState → ℕ → SeatState → Type 0
+IsTake step before found after =
+    (found < 8) × StandsIn (guest_in before.0).peeked found
+    × (after ≡ (Guest (after_take (guest_in before.0) found), before.1))
+
+-- a peek (`load`): the bits of the word join the peeked ones
+abbrev pub after_peek : GuestView → ℕ → GuestView
+after_peek guest answer = record guest { peeked = bit_or guest.peeked answer }
+
+abbrev pub IsPeek : Step (Unit {0}) → SeatState → ℕ → SeatState → Type 0
+IsPeek step before found after =
+    (found < 8) × StandsIn (guest_in before.0).peeked found
+    × (after ≡ (Guest (after_peek (guest_in before.0) found), before.1))
+
+-- while the line is made, the seat of the next pool is handed out, which touches no word
+abbrev pub one_more_seated : View → View
+one_more_seated view = Device (raises_of view) (seated_of view + 1)
+
+abbrev pub next_guest : View → View
+next_guest view = Guest (new_guest (seated_of view))
+
+-- ---- what contracts see of a seat: which line it is of, and its raises or its view
+
+pub record DeviceEnd : Type 0 where
+  pub line : TableId
+  pub raises : List Raise
+
+pub record GuestEnd : Type 0 where
+  pub line : TableId
+  pub view : GuestView

@@ -29,6 +29,7 @@ impl<M: GuestMem> Device<M> {
     /// Opens a virtual function: its registers become initial, and its memory zero, whatever it was.
     ///
     /// [`Fault::NoSuchVf`], then [`Fault::AlreadyOpen`].
+    #[inline(never)]
     pub fn open(&mut self, pool: u8) -> Result<(), Fault>
         ensures world { self.new ≡ (step self.old (Event.Open pool)).world }
         ensures answer { silently (done_or_refused result) ≡ (step self.old (Event.Open pool)).answer }
@@ -44,6 +45,7 @@ impl<M: GuestMem> Device<M> {
     /// Closes a virtual function.
     ///
     /// [`Fault::NoSuchVf`], then [`Fault::NotOpen`].
+    #[inline(never)]
     pub fn end(&mut self, pool: u8) -> Result<(), Fault>
         ensures world { self.new ≡ (step self.old (Event.End pool)).world }
         ensures answer { silently (done_or_refused result) ≡ (step self.old (Event.End pool)).answer }
@@ -60,6 +62,7 @@ impl<M: GuestMem> Device<M> {
     /// PFVFLRE shows it.
     ///
     /// [`Fault::NoSuchVf`], then [`Fault::NotOpen`].
+    #[inline(never)]
     pub fn flr(&mut self, pool: u8) -> Result<(), Fault>
         ensures world { self.new ≡ (step self.old (Event.Flr pool)).world }
         ensures answer { silently (done_or_refused result) ≡ (step self.old (Event.Flr pool)).answer }
@@ -179,6 +182,7 @@ impl<M: GuestMem> Device<M> {
     ///
     /// The outcome is refused for [`Fault::NoSuchVf`], then for [`Fault::NotOpen`]; else it is idle, more, sent, dropped or
     /// faulted.
+    #[inline(never)]
     pub fn serve<'f>(&mut self, pool: u8, queue: Queue, frame: &'f mut FrameBuf) -> Taken<'f>
         ensures world { self.new ≡ (step self.old (Event.Serve pool queue)).world }
         ensures answer { answer_in self.new result ≡ (step self.old (Event.Serve pool queue)).answer }
@@ -246,6 +250,7 @@ impl<M: GuestMem> Device<M> {
     /// Reads the register of the physical function at an offset in bytes. An offset that no register has reads 0.
     ///
     /// [`Fault::BadOffset`] where the offset is no multiple of 4 or not below 0x20000.
+    #[inline(never)]
     pub fn pf_read(&self, offset: u32) -> Result<u32, Fault>
         ensures world { self.now ≡ (step self.now (Event.PfRead offset)).world }
         ensures answer { silently (value_or_refused result) ≡ (step self.now (Event.PfRead offset)).answer }
@@ -263,6 +268,7 @@ impl<M: GuestMem> Device<M> {
     /// nothing.
     ///
     /// Refused as [`pf_read`](Device::pf_read) is.
+    #[inline(never)]
     pub fn pf_write(&mut self, offset: u32, value: u32) -> Result<(), Fault>
         ensures world { self.new ≡ (step self.old (Event.PfWrite offset value)).world }
         ensures answer { silently (done_or_refused result) ≡ (step self.old (Event.PfWrite offset value)).answer }
@@ -277,6 +283,7 @@ impl<M: GuestMem> Device<M> {
     }
 
     /// Resets the device: every virtual function is closed and every setting initial. The frames that went out stay.
+    #[inline(never)]
     pub fn reset(&mut self)
         ensures world { self.new ≡ (step self.old Event.PfReset).world }
         ensures answer { silently Reply.Done ≡ (step self.old Event.PfReset).answer }
@@ -291,6 +298,7 @@ impl<M: GuestMem> Device<M> {
     /// messages that this issues.
     ///
     /// [`Fault::BadFrame`] where the frame is longer than the device takes.
+    #[inline]
     pub fn wire(&mut self, frame: &FrameBuf) -> Result<Messages, Fault>
         ensures world { self.new ≡ (step self.old (Event.Wire frame.now)).world }
         ensures answer { messages_or_refused result ≡ (step self.old (Event.Wire frame.now)).answer }

@@ -6,9 +6,9 @@ use crate::bytes::MOST_BYTES;
 /// So many bytes, at most 2048, of the memory of a virtual function, from an address on.
 #[derive(Clone, Copy, Debug, PartialEq, Eq)]
 pub struct Span {
-    pool: u8,
     at: u64,
     count: u16,
+    pool: u8,
     ghost short: { count ≤ 2048 },
 }
 

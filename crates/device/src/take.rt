@@ -1,12 +1,13 @@
 //! The events that a device takes, one at a time and in a list.
-ghost use Rattle.std.specs.Prelude.{◌≡◌, ℕ, List, false, ◌+◌, ◌<◌, [], ◌∷◌, ◌++◌, length, option_copied, vec_len, vec_capacity, IfOk, IfErr, OnOk, OnErr};
+ghost use Rattle.std.specs.Prelude.{◌≡◌, ℕ, List, false, ◌+◌, ◌<◌, [], ◌∷◌, ◌++◌, length, option_copied, vec_len, vec_capacity, IfOk, IfErr, OnOk, OnErr, None};
+ghost use Rattle.device.specs.declared.event.Event.{Event};
 ghost use Rattle.device.specs.declared.span.Span.{Span};
 ghost use Rattle.device.specs.World.{step, sent_by, sizes_of, answers, world_after};
 ghost use Rattle.device.specs.Lone.{keep, lone_of, lone_seen, lone_after, seen_by};
 ghost use Rattle.device.specs.Outcome.{reads, bytes_in, reply_by, answer_in, left_by};
 ghost use Rattle.device.specs.Request.{event_of};
 
-use crate::bytes::MemBytes;
+use crate::bytes::{MemBytes, MemSlice};
 use crate::device::Device;
 use crate::event::{Answer, Event, Reply};
 use crate::outcome::Outcome;
@@ -14,6 +15,7 @@ use crate::request::Request;
 use crate::span::Span;
 use crate::taken::Taken;
 use guest_memory::GuestMem;
+use irq_causes::Messages;
 use std::alloc::Global;
 use wire_frame::{Fault, FrameBuf, PoolId};
 
@@ -51,24 +53,152 @@ impl<M: GuestMem> Device<M> {
         ensures sizes { sizes_of self.new ≡ sizes_of self.old }
     {
         match request {
-            Request::VfRead(pool, offset) => Taken::value(self.vf_read(pool, offset)),
-            Request::VfWrite(pool, offset, value) => Taken::issued(self.vf_write(
-                pool, offset, value,
-            )),
-            Request::MemRead(pool, at, count) => Taken::silent(self.find(pool, at, count)),
-            Request::MemWrite(pool, at, written) => Taken::done(self.mem_write(pool, at, written)),
+            Request::VfRead(pool, offset) => self.take_vf_read(pool, offset),
+            Request::VfWrite(pool, offset, value) => self.take_vf_write(pool, offset, value),
+            Request::MemRead(pool, at, count) => self.take_mem_read(pool, at, count),
+            Request::MemWrite(pool, at, written) => self.take_mem_write(pool, at, written),
             Request::Serve(pool, queue) => self.serve(pool, queue, frame),
-            Request::Wire(frame) => Taken::issued(self.wire(frame)),
-            Request::Open(pool) => Taken::done(self.open(pool)),
-            Request::End(pool) => Taken::done(self.end(pool)),
-            Request::Flr(pool) => Taken::done(self.flr(pool)),
-            Request::PfRead(offset) => Taken::value(self.pf_read(offset)),
-            Request::PfWrite(offset, value) => Taken::done(self.pf_write(offset, value)),
-            Request::PfReset => {
-                self.reset();
-                Taken::silent(Outcome::Done)
-            }
+            Request::Wire(frame) => self.take_wire(frame),
+            Request::PfRead(offset) => self.take_pf_read(offset),
+            Request::PfWrite(offset, value) => self.take_pf_write(offset, value),
+            Request::Open(pool) => self.take_open(pool),
+            Request::End(pool) => self.take_end(pool),
+            Request::Flr(pool) => self.take_flr(pool),
+            Request::PfReset => self.take_pf_reset(),
         }
+    }
+
+    // The arms of `take_any`, each a call of its own: what an arm keeps for itself is cleared on its own path alone.
+
+    // A read of a function's register.
+    #[inline]
+    fn take_vf_read<'f>(&mut self, pool: u8, offset: u32) -> Taken<'f>
+        ensures world { self.new ≡ (step self.old (Event.VfRead pool offset)).world }
+        ensures answer { answer_in self.new result ≡ (step self.old (Event.VfRead pool offset)).answer }
+        ensures sizes { sizes_of self.new ≡ sizes_of self.old }
+        ensures sent { result.sent ≡ None }
+        ensures left { result.left ≡ None }
+    {
+        Taken::value(self.vf_read(pool, offset))
+    }
+
+    // A write of a function's register.
+    #[inline]
+    fn take_vf_write<'f>(&mut self, pool: u8, offset: u32, value: u32) -> Taken<'f>
+        ensures world { self.new ≡ (step self.old (Event.VfWrite pool offset value)).world }
+        ensures answer { answer_in self.new result ≡ (step self.old (Event.VfWrite pool offset value)).answer }
+        ensures sizes { sizes_of self.new ≡ sizes_of self.old }
+        ensures sent { result.sent ≡ None }
+        ensures left { result.left ≡ None }
+    {
+        Taken::issued(self.vf_write(pool, offset, value))
+    }
+
+    // A read of a function's memory.
+    #[inline]
+    fn take_mem_read<'f>(&self, pool: u8, at: u64, count: u16) -> Taken<'f>
+        ensures world { self.now ≡ (step self.now (Event.MemRead pool at count)).world }
+        ensures answer { answer_in self.now result ≡ (step self.now (Event.MemRead pool at count)).answer }
+        ensures sent { result.sent ≡ None }
+        ensures left { result.left ≡ None }
+    {
+        Taken::silent(self.find(pool, at, count))
+    }
+
+    // A write of a function's memory.
+    #[inline]
+    fn take_mem_write<'f>(&mut self, pool: u8, at: u64, written: MemSlice<'_>) -> Taken<'f>
+        ensures world { self.new ≡ (step self.old (Event.MemWrite pool at written.entry.bytes.now)).world }
+        ensures answer { answer_in self.new result ≡ (step self.old (Event.MemWrite pool at written.entry.bytes.now)).answer }
+        ensures sizes { sizes_of self.new ≡ sizes_of self.old }
+        ensures sent { result.sent ≡ None }
+        ensures left { result.left ≡ None }
+    {
+        Taken::done(self.mem_write(pool, at, written))
+    }
+
+    // A frame from the wire.
+    #[inline]
+    fn take_wire<'f>(&mut self, frame: &FrameBuf) -> Taken<'f>
+        ensures world { self.new ≡ (step self.old (Event.Wire frame.now)).world }
+        ensures answer { answer_in self.new result ≡ (step self.old (Event.Wire frame.now)).answer }
+        ensures sizes { sizes_of self.new ≡ sizes_of self.old }
+        ensures sent { result.sent ≡ None }
+        ensures left { result.left ≡ None }
+    {
+        Taken::issued(self.wire(frame))
+    }
+
+    // A read of a register of the physical function.
+    #[inline]
+    fn take_pf_read<'f>(&self, offset: u32) -> Taken<'f>
+        ensures world { self.now ≡ (step self.now (Event.PfRead offset)).world }
+        ensures answer { answer_in self.now result ≡ (step self.now (Event.PfRead offset)).answer }
+        ensures sent { result.sent ≡ None }
+        ensures left { result.left ≡ None }
+    {
+        Taken::value(self.pf_read(offset))
+    }
+
+    // A write of a register of the physical function.
+    #[inline]
+    fn take_pf_write<'f>(&mut self, offset: u32, value: u32) -> Taken<'f>
+        ensures world { self.new ≡ (step self.old (Event.PfWrite offset value)).world }
+        ensures answer { answer_in self.new result ≡ (step self.old (Event.PfWrite offset value)).answer }
+        ensures sizes { sizes_of self.new ≡ sizes_of self.old }
+        ensures sent { result.sent ≡ None }
+        ensures left { result.left ≡ None }
+    {
+        Taken::done(self.pf_write(offset, value))
+    }
+
+    // A function is opened.
+    #[inline]
+    fn take_open<'f>(&mut self, pool: u8) -> Taken<'f>
+        ensures world { self.new ≡ (step self.old (Event.Open pool)).world }
+        ensures answer { answer_in self.new result ≡ (step self.old (Event.Open pool)).answer }
+        ensures sizes { sizes_of self.new ≡ sizes_of self.old }
+        ensures sent { result.sent ≡ None }
+        ensures left { result.left ≡ None }
+    {
+        Taken::done(self.open(pool))
+    }
+
+    // A function is closed.
+    #[inline]
+    fn take_end<'f>(&mut self, pool: u8) -> Taken<'f>
+        ensures world { self.new ≡ (step self.old (Event.End pool)).world }
+        ensures answer { answer_in self.new result ≡ (step self.old (Event.End pool)).answer }
+        ensures sizes { sizes_of self.new ≡ sizes_of self.old }
+        ensures sent { result.sent ≡ None }
+        ensures left { result.left ≡ None }
+    {
+        Taken::done(self.end(pool))
+    }
+
+    // A function is reset.
+    #[inline]
+    fn take_flr<'f>(&mut self, pool: u8) -> Taken<'f>
+        ensures world { self.new ≡ (step self.old (Event.Flr pool)).world }
+        ensures answer { answer_in self.new result ≡ (step self.old (Event.Flr pool)).answer }
+        ensures sizes { sizes_of self.new ≡ sizes_of self.old }
+        ensures sent { result.sent ≡ None }
+        ensures left { result.left ≡ None }
+    {
+        Taken::done(self.flr(pool))
+    }
+
+    // The device is reset.
+    #[inline]
+    fn take_pf_reset<'f>(&mut self) -> Taken<'f>
+        ensures world { self.new ≡ (step self.old Event.PfReset).world }
+        ensures answer { answer_in self.new result ≡ (step self.old Event.PfReset).answer }
+        ensures sizes { sizes_of self.new ≡ sizes_of self.old }
+        ensures sent { result.sent ≡ None }
+        ensures left { result.left ≡ None }
+    {
+        self.reset();
+        Taken::done_with(Messages::none())
     }
 
     /// The answer that a [`Taken`] stands for, right after it. It is inlined, so that no answer is made for who looks at

@@ -1,6 +1,7 @@
 //! What came of an event, with its messages and the frame that it sent.
 ghost use Rattle.std.specs.Prelude.{◌≡◌, None};
 ghost use Rattle.irq_causes.specs.Messages.{no_messages};
+ghost use Rattle.device.specs.declared.outcome.Outcome.{Outcome};
 ghost use Rattle.device.specs.World.{World, silently};
 ghost use Rattle.device.specs.Outcome.{answer_in, done_or_refused, value_or_refused, messages_or_refused};
 
@@ -39,6 +40,55 @@ impl<'f> Taken<'f> {
         }
     }
 
+    // An event that was done, with messages. They are taken by words: as one piece they would be moved with what stands
+    // beside them, and who reads a word would wait for the whole move.
+    #[inline]
+    pub(crate) fn done_with(messages: Messages) -> Taken<'f>
+        ensures outcome { result.outcome ≡ Outcome.Done }
+        ensures messages { result.messages ≡ messages }
+        ensures sent { result.sent ≡ None }
+        ensures left { result.left ≡ None }
+    {
+        Taken {
+            outcome: Outcome::Done,
+            messages: Messages::from_words(messages.words()),
+            sent: None,
+            left: None,
+        }
+    }
+
+    // A register that was read.
+    #[inline]
+    fn read(value: u32) -> Taken<'f>
+        ensures outcome { result.outcome ≡ Outcome.Value value }
+        ensures messages { result.messages ≡ no_messages }
+        ensures sent { result.sent ≡ None }
+        ensures left { result.left ≡ None }
+    {
+        Taken {
+            outcome: Outcome::Value(value),
+            messages: Messages::none(),
+            sent: None,
+            left: None,
+        }
+    }
+
+    // An event that was refused.
+    #[inline]
+    fn refused(fault: Fault) -> Taken<'f>
+        ensures outcome { result.outcome ≡ Outcome.Refused fault }
+        ensures messages { result.messages ≡ no_messages }
+        ensures sent { result.sent ≡ None }
+        ensures left { result.left ≡ None }
+    {
+        Taken {
+            outcome: Outcome::Refused(fault),
+            messages: Messages::none(),
+            sent: None,
+            left: None,
+        }
+    }
+
     // What was done, or refused.
     #[inline]
     pub(crate) fn done(done: Result<(), Fault>) -> Taken<'f>
@@ -47,8 +97,8 @@ impl<'f> Taken<'f> {
         ensures left { result.left ≡ None }
     {
         match done {
-            Ok(()) => Taken::silent(Outcome::Done),
-            Err(fault) => Taken::silent(Outcome::Refused(fault)),
+            Ok(()) => Taken::done_with(Messages::none()),
+            Err(fault) => Taken::refused(fault),
         }
     }
 
@@ -60,8 +110,8 @@ impl<'f> Taken<'f> {
         ensures left { result.left ≡ None }
     {
         match value {
-            Ok(value) => Taken::silent(Outcome::Value(value)),
-            Err(fault) => Taken::silent(Outcome::Refused(fault)),
+            Ok(value) => Taken::read(value),
+            Err(fault) => Taken::refused(fault),
         }
     }
 
@@ -73,13 +123,8 @@ impl<'f> Taken<'f> {
         ensures left { result.left ≡ None }
     {
         match messages {
-            Ok(messages) => Taken {
-                outcome: Outcome::Done,
-                messages,
-                sent: None,
-                left: None,
-            },
-            Err(fault) => Taken::silent(Outcome::Refused(fault)),
+            Ok(messages) => Taken::done_with(messages),
+            Err(fault) => Taken::refused(fault),
         }
     }
 }

@@ -1,0 +1,197 @@
+//! The two ways of an event: [`Device::take`], and the call by its name.
+use device::{Device, MemSlice, Outcome, Queue, Request};
+use guest_memory::GuestMem;
+use wire_frame::FrameBuf;
+
+/// Room for what an event gives out.
+#[derive(Drop)]
+pub struct Room {
+    /// For a frame that is sent.
+    pub frame: FrameBuf,
+    /// For bytes that are read.
+    pub bytes: [u8; 2048],
+}
+
+/// An event, and what is to come of it.
+pub trait Call<M: GuestMem> {
+    /// Takes the event; whether that came of it.
+    fn call(&self, device: &mut Device<M>, room: &mut Room) -> bool;
+}
+
+/// Any event, by [`Device::take`].
+#[derive(Clone, Copy)]
+pub struct Take<'a> {
+    /// The event.
+    pub request: Request<'a>,
+    /// The value that it is to read, if it reads a register.
+    pub value: u32,
+    /// The pools that are to get messages: bit p is pool p.
+    pub pools: u64,
+}
+
+impl<'a, M: GuestMem> Call<M> for Take<'a> {
+    #[inline]
+    fn call(&self, device: &mut Device<M>, room: &mut Room) -> bool {
+        let taken = device.take(self.request, &mut room.frame);
+        let is_right = match taken.outcome {
+            Outcome::Done | Outcome::Sent => true,
+            Outcome::Value(value) => value == self.value,
+            Outcome::Bytes(span) => {
+                let bytes = &mut room.bytes[..];
+                device.read_span(span, &mut bytes[..span.count()]);
+                true
+            }
+            _ => false,
+        };
+        is_right && taken.messages.pools() == self.pools
+    }
+}
+
+/// [`Device::vf_read`].
+#[derive(Clone, Copy)]
+pub struct VfRead {
+    /// The function.
+    pub pool: u8,
+    /// The offset of the register, in bytes.
+    pub offset: u32,
+    /// The value that it is to read.
+    pub value: u32,
+}
+
+impl<M: GuestMem> Call<M> for VfRead {
+    #[inline]
+    fn call(&self, device: &mut Device<M>, _room: &mut Room) -> bool {
+        match device.vf_read(self.pool, self.offset) {
+            Ok(value) => value == self.value,
+            Err(_) => false,
+        }
+    }
+}
+
+/// [`Device::vf_write`].
+#[derive(Clone, Copy)]
+pub struct VfWrite {
+    /// The function.
+    pub pool: u8,
+    /// The offset of the register, in bytes.
+    pub offset: u32,
+    /// What is written.
+    pub value: u32,
+}
+
+impl<M: GuestMem> Call<M> for VfWrite {
+    #[inline]
+    fn call(&self, device: &mut Device<M>, _room: &mut Room) -> bool {
+        match device.vf_write(self.pool, self.offset, self.value) {
+            Ok(messages) => messages.pools() == 0,
+            Err(_) => false,
+        }
+    }
+}
+
+/// [`Device::pf_read`].
+#[derive(Clone, Copy)]
+pub struct PfRead {
+    /// The offset of the register, in bytes.
+    pub offset: u32,
+    /// The value that it is to read.
+    pub value: u32,
+}
+
+impl<M: GuestMem> Call<M> for PfRead {
+    #[inline]
+    fn call(&self, device: &mut Device<M>, _room: &mut Room) -> bool {
+        match device.pf_read(self.offset) {
+            Ok(value) => value == self.value,
+            Err(_) => false,
+        }
+    }
+}
+
+/// [`Device::pf_write`].
+#[derive(Clone, Copy)]
+pub struct PfWrite {
+    /// The offset of the register, in bytes.
+    pub offset: u32,
+    /// What is written.
+    pub value: u32,
+}
+
+impl<M: GuestMem> Call<M> for PfWrite {
+    #[inline]
+    fn call(&self, device: &mut Device<M>, _room: &mut Room) -> bool {
+        device.pf_write(self.offset, self.value).is_ok()
+    }
+}
+
+/// [`Device::mem_read`].
+#[derive(Clone, Copy)]
+pub struct MemRead {
+    /// The function.
+    pub pool: u8,
+    /// The address of the first byte.
+    pub at: u64,
+}
+
+impl<M: GuestMem> Call<M> for MemRead {
+    #[inline]
+    fn call(&self, device: &mut Device<M>, room: &mut Room) -> bool {
+        device.mem_read(self.pool, self.at, &mut room.bytes).is_ok()
+    }
+}
+
+/// [`Device::mem_write`].
+#[derive(Clone, Copy)]
+pub struct MemWrite<'a> {
+    /// The function.
+    pub pool: u8,
+    /// The address of the first byte.
+    pub at: u64,
+    /// The bytes.
+    pub written: MemSlice<'a>,
+}
+
+impl<'a, M: GuestMem> Call<M> for MemWrite<'a> {
+    #[inline]
+    fn call(&self, device: &mut Device<M>, _room: &mut Room) -> bool {
+        device.mem_write(self.pool, self.at, self.written).is_ok()
+    }
+}
+
+/// [`Device::wire`].
+#[derive(Clone, Copy)]
+pub struct Wire<'a> {
+    /// The frame.
+    pub frame: &'a FrameBuf,
+    /// The pools that are to get messages: bit p is pool p.
+    pub pools: u64,
+}
+
+impl<'a, M: GuestMem> Call<M> for Wire<'a> {
+    #[inline]
+    fn call(&self, device: &mut Device<M>, _room: &mut Room) -> bool {
+        match device.wire(self.frame) {
+            Ok(messages) => messages.pools() == self.pools,
+            Err(_) => false,
+        }
+    }
+}
+
+/// [`Device::serve`].
+#[derive(Clone, Copy)]
+pub struct Serve {
+    /// The function.
+    pub pool: u8,
+    /// The queue.
+    pub queue: Queue,
+    /// The pools that are to get messages: bit p is pool p.
+    pub pools: u64,
+}
+
+impl<M: GuestMem> Call<M> for Serve {
+    #[inline]
+    fn call(&self, device: &mut Device<M>, room: &mut Room) -> bool {
+        let taken = device.serve(self.pool, self.queue, &mut room.frame);
+        taken.outcome.is_sent() && taken.messages.pools() == self.pools
+    }
+}

@@ -47,6 +47,7 @@ impl<M: GuestMem> Device<M> {
     }
 
     /// The same, that takes frames of up to `limit` bytes. [`Fault::BadMake`] comes also where that is not 1518 to 9018.
+    #[inline(never)]
     pub fn with_limit(alloc: Global, memories: Vec<M>, limit: u16) -> Result<Device<M>, Fault>
         ensures ok { IfOk result (λ d. d ≡ fresh limit (map (λ m. length (M.bytes m)) memories.items)) }
         ensures bad_make { (is_frame_limit limit && is_makeable (map (λ m. length (M.bytes m)) memories.items)) ≡ false → result ≡ Err Fault.BadMake }
@@ -59,6 +60,7 @@ impl<M: GuestMem> Device<M> {
     }
 
     // A device that takes frames up to the limit.
+    #[inline(never)]
     fn make(alloc: Global, memories: Vec<M>, limit: FrameLimit) -> Result<Device<M>, Fault>
         ensures ok { IfOk result (λ d. d ≡ fresh limit (map (λ m. length (M.bytes m)) memories.items)) }
         ensures bad_make { is_makeable (map (λ m. length (M.bytes m)) memories.items) ≡ false → result ≡ Err Fault.BadMake }

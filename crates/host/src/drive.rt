@@ -1,17 +1,20 @@
 //! The program between a reader and a writer.
+ghost use Rattle.std.specs.Prelude.{◌≡◌, ◌⊎◌, ◌++◌, true, false, IfOk, IfErr, OnOk, OnErr};
+ghost use Rattle.std.specs.Io.KnownBytes.{Appends};
+ghost use Rattle.transcript.specs.Known.{Began, Sent};
+ghost use Rattle.host.specs.Faults.{is_early};
+ghost use Rattle.host.specs.Program.{text_of, Wrote, BeganToWrite};
 
-use crate::arena::MOST_BYTES;
-use crate::events::request;
+use crate::alone::lone_function;
 use crate::fault::Fault;
-use crate::mode::Mode;
-use crate::output::Output;
-use crate::script::Script;
-use device::Device;
+use crate::keep::keep;
+use crate::mode::{Mode, Task};
+use crate::run::run;
 use guest_memory::{FlatMem, GuestMem};
-use lone::{Lone, Room, Watch, follow};
+use script::{Script, Shape};
 use std::alloc::Global;
 use std::io::{Read, Write};
-use wire_frame::{FrameBuf, PoolId};
+use transcript::Output;
 
 /// Reads a script, gives its events to a device, and writes the output of the mode.
 ///
@@ -23,10 +26,67 @@ pub fn drive<R: Read, W: Write>(
     mode: Mode,
     reader: &mut R,
     writer: &mut W,
-) -> Result<(), Fault> {
+) -> Result<(), Fault>
+    ensures ok { OnOk result (Wrote mode (W.contents writer.old) (W.contents writer.new)) }
+    ensures err { OnErr result ((writer.new ≡ writer.old) ⊎ BeganToWrite mode (W.contents writer.old) (W.contents writer.new)) }
+    ensures early { IfErr result (λ e. is_early e ≡ true → writer.new ≡ writer.old) }
+{
+    read_and_play(alloc, mode, reader, writer)?
+}
+
+// The same in two steps. Outside, why the first event was not reached: a fault of reading, or no such pool; then the writer
+// is as it was. Inside, what came of the events.
+fn read_and_play<R: Read, W: Write>(
+    alloc: Global,
+    mode: Mode,
+    reader: &mut R,
+    writer: &mut W,
+) -> Result<Result<(), Fault>, Fault>
+    ensures unread { OnErr result (writer.new ≡ writer.old) }
+    ensures ok { IfOk result (λ played. OnOk played (Wrote mode (W.contents writer.old) (W.contents writer.new))) }
+    ensures err { IfOk result (λ played. OnErr played (BeganToWrite mode (W.contents writer.old) (W.contents writer.new))) }
+    ensures late { IfOk result (λ played. IfErr played (λ e. is_early e ≡ false)) }
+{
     let script = Script::read(alloc, reader)?;
     let shape = script.shape();
-    let pool = mode.pool(shape.functions)?;
+    let task = mode.task(shape.functions)?;
+    Ok(play(alloc, task, &script, shape, writer))
+}
+
+/// Gives a script's events to a device of its shape, and writes what the task asks for. Where writing fails, the writer has
+/// a beginning of that.
+#[tactic(auto, using(transcript::proofs::Known::nothing_began))]
+pub fn play<W: Write>(
+    alloc: Global,
+    task: Task,
+    script: &Script,
+    shape: Shape,
+    writer: &mut W,
+) -> Result<(), Fault>
+    ensures ok { OnOk result (Appends (W.contents writer.old) (W.contents writer.new) (text_of task shape script.now)) }
+    ensures err { OnErr result (Began (W.contents writer.old) (W.contents writer.new) (text_of task shape script.now)) }
+    ensures late { IfErr result (λ e. is_early e ≡ false) }
+{
+    let mut output = Output::new(alloc)?;
+    tell(alloc, task, script, shape, &mut output, writer)?;
+    output.finish(writer)?;
+    Ok(())
+}
+
+// Makes the memories, and gives the lines of what the task asks for to the output.
+#[tactic(auto, using(transcript::proofs::Known::nothing_began))]
+fn tell<W: Write>(
+    alloc: Global,
+    task: Task,
+    script: &Script,
+    shape: Shape,
+    output: &mut Output,
+    writer: &mut W,
+) -> Result<(), Fault>
+    ensures ok { OnOk result (Sent (W.contents writer.old) (W.contents writer.new) (output.old ++ text_of task shape script.now) output.new) }
+    ensures err { OnErr result (Began (W.contents writer.old) (W.contents writer.new) (output.old ++ text_of task shape script.now)) }
+    ensures late { IfErr result (λ e. is_early e ≡ false) }
+{
     let mut memories = Vec::with_capacity(alloc, usize::from(shape.functions))?;
     for _ in 0..shape.functions {
         let memory: Box<dyn GuestMem + Send> = Box::new(
@@ -35,91 +95,15 @@ pub fn drive<R: Read, W: Write>(
         )?;
         memories.push(memory)?;
     }
-    match (mode, pool) {
-        (Mode::Keep(_), Some(pool)) => keep(alloc, &script, pool, memories, writer),
-        (Mode::Lone(_), Some(pool)) => {
+    match task {
+        Task::Run => run(alloc, script, shape, memories, output, writer),
+        Task::Keep(pool) => keep(alloc, script, shape, pool, memories, output, writer),
+        Task::Lone(pool) => {
             let memory: Box<dyn GuestMem + Send> = Box::new(
                 alloc,
                 FlatMem::new(alloc, shape.memory_size)?,
             )?;
-            lone(alloc, &script, pool, memories, memory, writer)
-        }
-        _ => run(alloc, &script, memories, writer),
-    }
-}
-
-// Gives all events to a device over these memories, and writes its answers and the frames that went to the wire.
-fn run<M: GuestMem, W: Write>(
-    alloc: Global,
-    script: &Script,
-    memories: Vec<M>,
-    writer: &mut W,
-) -> Result<(), Fault> {
-    let mut device = Device::with_limit(alloc, memories, script.shape().limit.get())?;
-    let mut output = Output::new(alloc, writer)?;
-    let mut room = [0; MOST_BYTES];
-    let (mut frame, mut lent) = (FrameBuf::blank(), FrameBuf::blank());
-    for (index, record) in script.records().iter().enumerate() {
-        if let Some(request) = request(script, *record, &mut room, &mut frame) {
-            let taken = device.take(request, &mut lent);
-            output.answer(index + 1, &device.answer(&taken))?;
+            lone_function(alloc, script, shape, pool, memories, memory, output, writer)
         }
     }
-    for index in 0..device.wire_len() {
-        if let Some(frame) = device.wire_at(index) {
-            output.frame(frame.bytes())?;
-        }
-    }
-    output.finish()
-}
-
-// Gives all events to a device over these memories, and writes what they leave for the pool's lone function.
-fn keep<M: GuestMem, W: Write>(
-    alloc: Global,
-    script: &Script,
-    pool: PoolId,
-    memories: Vec<M>,
-    writer: &mut W,
-) -> Result<(), Fault> {
-    let device = Device::with_limit(alloc, memories, script.shape().limit.get())?;
-    let mut watch = Watch::new(device, pool);
-    let mut output = Output::new(alloc, writer)?;
-    let mut room = [0; MOST_BYTES];
-    let mut frame = FrameBuf::blank();
-    let mut given = Room::new();
-    for (index, record) in script.records().iter().enumerate() {
-        if let Some(request) = request(script, *record, &mut room, &mut frame)
-            && let Some(item) = watch.step(request, &mut given)
-        {
-            output.item(index + 1, item)?;
-        }
-    }
-    output.finish()
-}
-
-// Gives the pool's lone function, over its memory, what is kept for it, and writes what is seen of it.
-fn lone<M: GuestMem, W: Write>(
-    alloc: Global,
-    script: &Script,
-    pool: PoolId,
-    memories: Vec<M>,
-    memory: M,
-    writer: &mut W,
-) -> Result<(), Fault> {
-    let limit = script.shape().limit;
-    let device = Device::with_limit(alloc, memories, limit.get())?;
-    let mut watch = Watch::new(device, pool);
-    let mut lone = Lone::new(memory, limit);
-    let mut output = Output::new(alloc, writer)?;
-    let mut room = [0; MOST_BYTES];
-    let mut frame = FrameBuf::blank();
-    let mut given = Room::new();
-    for (index, record) in script.records().iter().enumerate() {
-        if let Some(request) = request(script, *record, &mut room, &mut frame)
-            && let Some(seen) = follow(&mut watch, &mut lone, request, &mut given)
-        {
-            output.seen(index + 1, pool, &lone, seen)?;
-        }
-    }
-    output.finish()
 }

@@ -45,21 +45,60 @@ impl Fault {
     }
 }
 
-impl From<wire_frame::Fault> for Fault {
-    // The makers of memories and devices are given what a script may ask for, so only memory can be refused.
-    fn from(_fault: wire_frame::Fault) -> Fault {
-        Fault::NoMemory
+impl From<script::Fault> for Fault {
+    fn from(fault: script::Fault) -> Fault {
+        match fault {
+            script::Fault::BadScript(line) => Fault::BadScript(line),
+            script::Fault::Io => Fault::Io,
+            script::Fault::NoMemory => Fault::NoMemory,
+        }
+    }
+}
+
+impl From<transcript::Fault> for Fault {
+    ghost use Rattle.std.specs.Prelude.{◌≡◌, false};
+    ghost use Rattle.host.specs.Faults.{is_early};
+
+    ghost from_gives = { λ _ e. is_early e ≡ false };
+
+    fn from(fault: transcript::Fault) -> Fault {
+        match fault {
+            transcript::Fault::Io => Fault::Io,
+            transcript::Fault::NoMemory => Fault::NoMemory,
+        }
     }
 }
 
 impl From<AllocError> for Fault {
+    ghost use Rattle.std.specs.Prelude.{◌≡◌, false};
+    ghost use Rattle.host.specs.Faults.{is_early};
+
+    ghost from_gives = { λ _ e. is_early e ≡ false };
+
     fn from(_error: AllocError) -> Fault {
         Fault::NoMemory
     }
 }
 
 impl<T: Drop> From<AllocFailed<T>> for Fault {
+    ghost use Rattle.std.specs.Prelude.{◌≡◌, false};
+    ghost use Rattle.host.specs.Faults.{is_early};
+
+    ghost from_gives = { λ _ e. is_early e ≡ false };
+
     fn from(_error: AllocFailed<T>) -> Fault {
+        Fault::NoMemory
+    }
+}
+
+impl From<wire_frame::Fault> for Fault {
+    ghost use Rattle.std.specs.Prelude.{◌≡◌, false};
+    ghost use Rattle.host.specs.Faults.{is_early};
+
+    ghost from_gives = { λ _ e. is_early e ≡ false };
+
+    // The makers of memories and devices are given what a script may ask for, so only memory can be refused.
+    fn from(_fault: wire_frame::Fault) -> Fault {
         Fault::NoMemory
     }
 }

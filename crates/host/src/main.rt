@@ -6,22 +6,16 @@
 //! a line on standard error and a status.
 #![tactic(auto)]
 
-mod arena;
-mod builder;
+mod alone;
 mod drive;
-mod events;
 mod fault;
+mod keep;
+mod making;
 mod mode;
-mod nibbles;
-mod number;
-mod output;
-mod record;
-mod script;
+mod run;
 mod status;
 #[cfg(test)]
 mod tests;
-mod text;
-mod words;
 
 use crate::drive::drive;
 use crate::fault::Fault;
@@ -32,7 +26,7 @@ use std::io::ErrorKind;
 use std::process::ExitCode;
 
 // Does what the words of the command line ask for.
-fn run(rt: &HostRuntime) -> Result<(), Fault> {
+fn execute(rt: &HostRuntime) -> Result<(), Fault> {
     let words = match env::args(rt) {
         Ok(words) => words.skip(1).collect::<Vec<String>>(rt.alloc())?,
         Err(e) if e.kind() == ErrorKind::OutOfMemory => return Err(Fault::NoMemory),
@@ -43,7 +37,7 @@ fn run(rt: &HostRuntime) -> Result<(), Fault> {
 }
 
 fn main(rt: HostRuntime) -> ExitCode {
-    match run(&rt) {
+    match execute(&rt) {
         Ok(()) => ExitCode::SUCCESS,
         Err(fault) => {
             let _ = eprintln!(rt; "{fault}");

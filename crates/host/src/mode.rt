@@ -1,6 +1,9 @@
 //! What the command line asks for.
+ghost use Rattle.std.specs.Prelude.{◌≡◌, ◌<◌, ◌≤◌, IfOk, IfErr};
+ghost use Rattle.host.specs.Program.{task_of, NamesBelow};
+
 use crate::fault::Fault;
-use crate::number::number;
+use script::number;
 use wire_frame::PoolId;
 
 /// What the command line asks for.
@@ -12,6 +15,17 @@ pub enum Mode {
     Keep(u64),
     /// Run one function on that, and print what it observes.
     Lone(u64),
+}
+
+/// The same, of a pool that has a function.
+#[derive(Clone, Copy, Debug, PartialEq, Eq)]
+pub enum Task {
+    /// Print every answer.
+    Run,
+    /// Print what this pool's lone function is given.
+    Keep(PoolId),
+    /// Run one function on that, and print what it observes.
+    Lone(PoolId),
 }
 
 impl Mode {
@@ -32,17 +46,31 @@ impl Mode {
         }
     }
 
-    /// The pool of the virtual function that the mode names, if it names one. One that isn't below the number of functions
-    /// is [`Fault::NoSuchVf`].
-    pub fn pool(self, functions: u8) -> Result<Option<PoolId>, Fault> {
+    /// The mode's task on a device of so many functions, at most 64. A pool that isn't below that is [`Fault::NoSuchVf`].
+    pub fn task(self, functions: u8) -> Result<Task, Fault>
+        requires { functions ≤ 64 }
+        ensures ok { IfOk result (λ task. (task ≡ task_of self) × NamesBelow functions task) }
+        ensures err { IfErr result (λ e. e ≡ Fault.NoSuchVf) }
+    {
         match self {
-            Mode::Run => Ok(None),
-            Mode::Keep(pool) | Mode::Lone(pool) => {
-                if pool >= u64::from(functions) {
-                    return Err(Fault::NoSuchVf);
-                }
-                Ok(PoolId::new(pool as u8))
-            }
+            Mode::Run => Ok(Task::Run),
+            Mode::Keep(pool) => Ok(Task::Keep(pool_below(pool, functions)?)),
+            Mode::Lone(pool) => Ok(Task::Lone(pool_below(pool, functions)?)),
         }
+    }
+}
+
+// The pool of that number, where it is below `functions`.
+fn pool_below(pool: u64, functions: u8) -> Result<PoolId, Fault>
+    requires { functions ≤ 64 }
+    ensures ok { IfOk result (λ p. (p ≡ pool) × (p < functions)) }
+    ensures err { IfErr result (λ e. e ≡ Fault.NoSuchVf) }
+{
+    if pool >= u64::from(functions) {
+        return Err(Fault::NoSuchVf);
+    }
+    match PoolId::new(pool as u8) {
+        Some(pool) => Ok(pool),
+        None => unreachable!(),
     }
 }

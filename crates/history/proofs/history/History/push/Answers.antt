@@ -1,0 +1,44 @@
+-- The bytes that are added are those of the new entry.
+use Rattle.std.proofs.Common.{rules, ◌≡◌, ◌<◌, ◌≤◌, ◌+◌, ◌*◌, ◌++◌, ◌∷◌, [], ℕ, List, length, vec_len, vec_capacity, ap, ◌∙◌, sym, arith, refl}
+use Rattle.device.specs.Request.{event_of}
+use Rattle.history.specs.Heads.{packed}
+use Rattle.history.proofs.PoolLemmas.{Adds, entries_added, heads_stand, room_left}
+use Rattle.history.proofs.history.History.push.Goals as goal
+use Rattle.history.proofs.history.History.push.Given as given
+
+adds : (g : given.Over) (c : goal.After-push_reserved g)
+    → Adds c.args.device.now (event_of c.args.request) c.args.taken.now.outcome c.args.taken.now.messages c.self.inside.pool.items c.append_words-vectors.new.pool.items
+    (record { asked = c.asked_of.result; told = c.told_of.result; start = c.len-start.result; count = c.append_moved-count.result; caller = c.args.caller; vectors = c.append_words-vectors.result })
+adds g c =
+    let moved = c.append_moved-count.ensures in
+    let words = c.append_words-vectors.ensures in
+    record {
+      words = packed c.words.result;
+      grown = words.items ∙ ap (λ (xs : List ℕ). xs ++ packed c.words.result) moved.items;
+      asked = c.asked_of.ensures;
+      told = c.told_of.ensures;
+      start = search rules;
+      count = moved.count;
+      words_count = words.count;
+      messages_back = words.kept ∙ c.words.ensures;
+      alone = c.requires.one;
+    }
+
+pub invariant_of-self : goal.invariant_of-self
+invariant_of-self g c =
+    let old = c.self.invariant in
+    let moved = c.append_moved-count.ensures in
+    let words = c.append_words-vectors.ensures in
+    let head = c.push_reserved.ensures in
+    record {
+      stand = heads_stand _ _ _ _ _ _ _ _ _ (adds g c) head.items moved.sound old.stand;
+      short = let less : vec_len c.self.inside.heads < c.self.inside.cap = room_left _ _ _ _ _ c.self.view_is c.requires.room (search rules) in let l = head.len in omega arith;
+      few = old.few;
+      room = let k = head.capacity in let r = old.room in omega arith;
+      bytes = let l = head.len in let a = moved.len in let m = moved.most in let b = words.len in let n = words.most in let o = old.bytes in omega arith;
+      bytes_room = let a = moved.capacity in let b = words.capacity in let o = old.bytes_room in omega arith;
+    }
+
+pub returns-clause-entries : goal.returns-clause-entries
+returns-clause-entries g c =
+    rw (← c.self.view_is) (entries_added _ _ _ _ _ _ _ _ _ (adds g c) c.push_reserved.ensures.items c.self.invariant.stand)

@@ -1,0 +1,149 @@
+-- The entry that a head stands for, by the bytes behind it in the pool of bytes: first those that the call brought or read, and then
+-- the words of its messages.
+use Rattle.std.specs.Prelude.{◌≤◌, ◌+◌, ◌*◌, ◌++◌, ◌==◌, ℕ, Bool, List, [], length, take, drop, slice_index, if◌then◌else◌}
+use Rattle.std.specs.Int.{bit_at}
+use Rattle.byteorder.specs.Endian.{little_number, little_bytes}
+use Rattle.wire_frame.specs.Bits.{has_bit}
+use Rattle.wire_frame.specs.Fault.{number_of}
+use Rattle.wire_frame.specs.Frame.{IsFrame}
+use Rattle.irq_causes.specs.Messages.{masks}
+use Rattle.device.specs.declared.event.Event.{Event}
+use Rattle.device.specs.declared.event.Event.TheVariants.{Open, End, VfRead, VfWrite, MemRead, MemWrite, Serve, Flr, PfRead, PfWrite, PfReset, Wire}
+use Rattle.device.specs.declared.event.Reply.{Reply}
+use Rattle.device.specs.declared.event.Reply.TheVariants.{Done, Value, Bytes, Idle, More, Sent, Dropped, Faulted, Refused}
+use Rattle.device.specs.declared.outcome.Outcome.{Outcome}
+use Rattle.device.specs.declared.outcome.Outcome.TheVariants.{Done, Value, Bytes, Idle, More, Sent, Dropped, Faulted, Refused}
+use Rattle.device.specs.World.{World, function_of}
+use Rattle.device.specs.Outcome.{reads, bytes_in}
+use Rattle.history.specs.declared.head.Asked.{Asked}
+use Rattle.history.specs.declared.head.Asked.TheVariants.{Open, End, VfRead, VfWrite, MemRead, MemWrite, Serve, Flr, PfRead, PfWrite, PfReset, Wire}
+use Rattle.history.specs.declared.head.Told.{Told}
+use Rattle.history.specs.declared.head.Told.TheVariants.{Done, Value, Bytes, Idle, More, Sent, Dropped, Faulted, Refused}
+use Rattle.history.specs.declared.head.Head.{Head}
+use Rattle.history.specs.Entries.{Entry, entry}
+
+-- ---- events and replies without their bytes
+
+abbrev pub asked_of : Event → Asked
+asked_of (Open p) = Open p
+asked_of (End p) = End p
+asked_of (VfRead p offset) = VfRead p offset
+asked_of (VfWrite p offset x) = VfWrite p offset x
+asked_of (MemRead p at count) = MemRead p count at
+asked_of (MemWrite p at bytes) = MemWrite p at
+asked_of (Serve p q) = Serve p q
+asked_of (Flr p) = Flr p
+asked_of (PfRead offset) = PfRead offset
+asked_of (PfWrite offset x) = PfWrite offset x
+asked_of PfReset = PfReset
+asked_of (Wire frame) = Wire
+
+-- the event, where these are the bytes that it brings
+abbrev pub event_with : List ℕ → Asked → Event
+event_with bytes (Open p) = Open p
+event_with bytes (End p) = End p
+event_with bytes (VfRead p offset) = VfRead p offset
+event_with bytes (VfWrite p offset x) = VfWrite p offset x
+event_with bytes (MemRead p count at) = MemRead p at count
+event_with bytes (MemWrite p at) = MemWrite p at bytes
+event_with bytes (Serve p q) = Serve p q
+event_with bytes (Flr p) = Flr p
+event_with bytes (PfRead offset) = PfRead offset
+event_with bytes (PfWrite offset x) = PfWrite offset x
+event_with bytes PfReset = PfReset
+event_with bytes Wire = Wire bytes
+
+abbrev pub told_of : Outcome → Told
+told_of Done = Done
+told_of (Value x) = Value x
+told_of (Bytes span) = Bytes
+told_of Idle = Idle
+told_of More = More
+told_of Sent = Sent
+told_of Dropped = Dropped
+told_of Faulted = Faulted
+told_of (Refused fault) = Refused (number_of fault)
+
+-- the reply, where these are the bytes that it gives
+abbrev pub reply_with : List ℕ → Told → Reply
+reply_with bytes Done = Done
+reply_with bytes (Value x) = Value x
+reply_with bytes Bytes = Bytes bytes
+reply_with bytes Idle = Idle
+reply_with bytes More = More
+reply_with bytes Sent = Sent
+reply_with bytes Dropped = Dropped
+reply_with bytes Faulted = Faulted
+reply_with bytes (Refused n) = Refused n
+
+-- ---- the bytes of a call
+
+-- those that an event brings
+abbrev pub brought : Event → List ℕ
+brought (MemWrite p at bytes) = bytes
+brought (Wire frame) = frame
+brought _ = []
+
+-- they are as many as the event's type has
+abbrev pub IsSound : Event → Type 0
+IsSound (MemWrite p at bytes) = length bytes ≤ 2048
+IsSound (Wire frame) = IsFrame frame
+IsSound _ = Unit
+
+-- those that were read, which stand in the memory still
+abbrev pub read_in : World → Outcome → List ℕ
+read_in w (Bytes span) = bytes_in (function_of span.pool w) span
+read_in w _ = []
+
+-- a call brings bytes or reads some, never both
+abbrev pub moved : World → Event → Outcome → List ℕ
+moved w e o = if reads o then read_in w o else brought e
+
+-- ---- the messages of an answer, of which the words that are not 0 are kept
+
+-- the bytes of a word
+unfoldable pub word_bytes : ℕ → List ℕ
+word_bytes word = if word == 0 then [] else little_bytes 8 word
+
+-- the first word of these bytes, where one is kept, and the bytes after it
+unfoldable pub word_of : Bool → List ℕ → ℕ
+word_of kept bytes = if kept then little_number 8 bytes else 0
+
+unfoldable pub rest_of : Bool → List ℕ → List ℕ
+rest_of kept bytes = if kept then drop 8 bytes else bytes
+
+-- how many bytes the words of these vectors take
+abbrev pub words_len : ℕ → ℕ
+words_len vectors = 8 * (bit_at vectors 0 + bit_at vectors 1 + bit_at vectors 2)
+
+-- the bytes of the three words of messages
+abbrev pub packed : List ℕ → List ℕ
+packed words = word_bytes (slice_index words 0) ++ (word_bytes (slice_index words 1) ++ word_bytes (slice_index words 2))
+
+-- the messages, of which the words of these vectors are kept
+unfoldable pub messages_with : ℕ → List ℕ → List ℕ
+messages_with vectors bytes =
+    masks (word_of (has_bit vectors 0) bytes)
+    (word_of (has_bit vectors 1) (rest_of (has_bit vectors 0) bytes))
+    (word_of (has_bit vectors 2) (rest_of (has_bit vectors 1) (rest_of (has_bit vectors 0) bytes)))
+
+-- ---- an entry
+
+-- so many bytes from a place on
+abbrev pub part : List ℕ → ℕ → ℕ → List ℕ
+part pool start count = take count (drop start pool)
+
+abbrev pub moved_of : List ℕ → Head → List ℕ
+moved_of pool h = part pool h.start h.count
+
+abbrev pub words_of : List ℕ → Head → List ℕ
+words_of pool h = part pool (h.start + h.count) (words_len h.vectors)
+
+abbrev pub entry_of : List ℕ → Head → Entry
+entry_of pool h = entry h.caller (event_with (moved_of pool h) h.asked)
+    (record { reply = reply_with (moved_of pool h) h.told; raised = messages_with h.vectors (words_of pool h) })
+
+-- the head's bytes stand in the pool
+pub record Stands (pool : List ℕ) (h : Head) : Type 0 where
+  pub inside : h.start + h.count + words_len h.vectors ≤ length pool
+  pub sound : IsSound (event_with (moved_of pool h) h.asked)

@@ -1,0 +1,217 @@
+//! The history.
+ghost use Rattle.std.specs.Prelude.{◌≡◌, ◌≤◌, ◌<◌, ◌++◌, ◌∷◌, [], length, true, false, IsTrue, ◌↔◌, IfOk, IfErr};
+ghost use Rattle.device.specs.Outcome.{reads, answer_in};
+ghost use Rattle.device.specs.Request.{event_of};
+ghost use Rattle.wire_frame.specs.Frame.{IsFrame};
+ghost use Rattle.history.specs.Entries.{entry, entry_at, is_cap, brings};
+
+use crate::bytes::{append_moved, part};
+use crate::head::{Asked, Head, asked_of, told_of};
+use crate::replay::is_reply;
+use crate::words::{append_words, are_messages, words_len};
+use device::{Device, MemSlice, Request, Taken};
+use guest_memory::GuestMem;
+use std::alloc::Global;
+use std::marker::Model;
+use wire_frame::{Fault, FrameBuf, FrameLimit};
+
+/// How many entries a history may have at most.
+pub const MOST_CALLS: usize = 65_536;
+
+// How many bytes of the pool one entry takes at most: those of the longest frame, which is longer than any access to a
+// memory, and a word of messages for each of three vectors.
+const MOST_BYTES: usize = 9018 + 3 * 8;
+
+/// The calls of a device, the oldest first.
+#[derive(Drop)]
+pub struct History {
+    heads: Vec<Head>,
+    pool: Vec<u8>,
+    cap: usize,
+}
+
+impl Model for History {
+    ghost use Rattle.history.specs.Entries.{Kept};
+
+    ghost Value = { Kept };
+
+    ghost use Rattle.history.specs.Inside.{kept_of, IsKept};
+
+    ghost view = { kept_of };
+
+    ghost invariant = { IsKept };
+}
+
+impl History {
+    /// A history without entries, with room for `cap` of any bytes, 1 to 65,536. [`Fault::BadMake`] comes exactly where it is
+    /// none of these numbers; [`Fault::NoMemory`] only where the host refused the room.
+    pub fn new(alloc: Global, cap: usize) -> Result<History, Fault>
+        ensures empty { IfOk result (λ h. h.entries ≡ []) }
+        ensures cap { IfOk result (λ h. h.cap ≡ cap) }
+        ensures bad_make { is_cap cap ≡ false → result ≡ Err Fault.BadMake }
+        ensures no_memory { IfErr result (λ e. is_cap cap ≡ true → e ≡ Fault.NoMemory) }
+    {
+        if cap < 1 || cap > MOST_CALLS {
+            return Err(Fault::BadMake);
+        }
+        let Ok(heads) = Vec::with_capacity(alloc, cap) else {
+            return Err(Fault::NoMemory);
+        };
+        let Ok(pool) = Vec::with_capacity(alloc, cap * MOST_BYTES) else {
+            return Err(Fault::NoMemory);
+        };
+        Ok(History { heads, pool, cap })
+    }
+
+    /// How many entries there are.
+    #[inline]
+    pub fn len(&self) -> usize
+        ensures len { result ≡ length self.now.entries }
+        ensures most { result ≤ self.now.cap }
+    {
+        self.heads.len()
+    }
+
+    /// Whether there are no entries.
+    #[inline]
+    pub fn is_empty(&self) -> bool
+        ensures { IsTrue result ↔ (self.now.entries ≡ []) }
+    {
+        self.heads.is_empty()
+    }
+
+    /// How many entries there may be, 1 to 65,536.
+    #[inline]
+    pub fn cap(&self) -> usize
+        ensures { result ≡ self.now.cap }
+    {
+        self.cap
+    }
+
+    /// Whether there is no room for one more.
+    #[inline]
+    pub fn is_full(&self) -> bool
+        ensures full { IsTrue result ↔ (length self.now.entries ≡ self.now.cap) }
+        ensures most { length self.now.entries ≤ self.now.cap }
+    {
+        self.heads.len() == self.cap
+    }
+
+    /// One more entry, for which there is room: who called, what was asked of the device, and what came of it. The device is
+    /// as right after the event, and bytes that were read are copied from its memory.
+    #[inline]
+    pub fn push<M: GuestMem>(
+        &mut self,
+        caller: u8,
+        request: Request<'_>,
+        device: &Device<M>,
+        taken: &Taken<'_>,
+    )
+        requires room { length self.old.entries < self.old.cap }
+        requires one { reads taken.now.outcome ≡ true → brings (event_of request) ≡ false }
+        ensures entries { self.new.entries ≡ self.old.entries
+            ++ entry caller (event_of request.entry) (answer_in device.now taken.now) ∷ [] }
+        ensures cap { self.new.cap ≡ self.old.cap }
+    {
+        let start = self.pool.len() as u32;
+        let count = append_moved(&mut self.pool, request, device, taken.outcome);
+        let vectors = append_words(&mut self.pool, taken.messages.words());
+        self.heads.push_reserved(Head {
+            asked: asked_of(request),
+            told: told_of(taken.outcome),
+            start,
+            count,
+            caller,
+            vectors,
+        });
+    }
+
+    /// No entries. The room stays.
+    pub fn clear(&mut self)
+        ensures entries { self.new.entries ≡ [] }
+        ensures cap { self.new.cap ≡ self.old.cap }
+    {
+        self.heads.clear();
+        self.pool.clear();
+    }
+
+    /// Who made a call, counted from the oldest.
+    #[inline]
+    pub fn caller(&self, index: usize) -> u8
+        requires { index < length self.now.entries }
+        ensures { result ≡ (entry_at self.now index).caller }
+    {
+        self.heads[index].caller
+    }
+
+    /// What was asked in a call, counted from the oldest. Its frame, where it has one, is laid into `frame`.
+    #[inline]
+    pub fn request<'a>(&'a self, index: usize, frame: &'a mut FrameBuf) -> Request<'a>
+        requires { index < length self.now.entries }
+        ensures { event_of result ≡ (entry_at self.now index).event }
+    {
+        let head = self.heads[index];
+        let start = head.start as usize;
+        let bytes = part(self.pool.as_slice(), start, usize::from(head.count));
+        match head.asked {
+            Asked::Open(pool) => Request::Open(pool),
+            Asked::End(pool) => Request::End(pool),
+            Asked::VfRead(pool, offset) => Request::VfRead(pool, offset),
+            Asked::VfWrite(pool, offset, value) => Request::VfWrite(pool, offset, value),
+            Asked::MemRead(pool, count, at) => Request::MemRead(pool, at, count),
+            Asked::MemWrite(pool, at) => Request::MemWrite(pool, at, written(bytes)),
+            Asked::Serve(pool, queue) => Request::Serve(pool, queue),
+            Asked::Flr(pool) => Request::Flr(pool),
+            Asked::PfRead(offset) => Request::PfRead(offset),
+            Asked::PfWrite(offset, value) => Request::PfWrite(offset, value),
+            Asked::PfReset => Request::PfReset,
+            Asked::Wire => Request::Wire(laid(bytes, frame)),
+        }
+    }
+
+    // Whether a call, counted from the oldest, was answered so by a device right after the event.
+    #[inline]
+    pub(crate) fn is_answer<M: GuestMem>(
+        &self,
+        index: usize,
+        device: &Device<M>,
+        taken: &Taken<'_>,
+        room: &mut [u8; 2048],
+    ) -> bool
+        requires { index < length self.now.entries }
+        ensures { IsTrue result ↔ (answer_in device.now taken.now ≡ (entry_at self.now index).answer) }
+    {
+        let head = self.heads[index];
+        let pool = self.pool.as_slice();
+        let (start, count) = (head.start as usize, usize::from(head.count));
+        let bytes = part(pool, start, count);
+        let words = part(pool, start + count, words_len(head.vectors));
+        let same_reply = is_reply(head.told, bytes, device, taken.outcome, room);
+        let same_messages = are_messages(taken.messages, head.vectors, words);
+        same_reply && same_messages
+    }
+}
+
+// The bytes of a frame as a frame.
+#[inline]
+fn laid<'a>(bytes: &[u8], frame: &'a mut FrameBuf) -> &'a FrameBuf
+    requires { IsFrame bytes.now }
+    ensures { result.now ≡ bytes.now }
+{
+    if let Some(limit) = FrameLimit::new(9018) {
+        frame.refill(bytes, limit);
+    }
+    frame
+}
+
+// At most 2048 bytes as those of one access.
+#[inline]
+fn written(bytes: &[u8]) -> MemSlice<'_>
+    requires { length bytes.now ≤ 2048 }
+    ensures { result.bytes.now ≡ bytes.now }
+{
+    match MemSlice::new(bytes) {
+        Ok(written) => written,
+        Err(_) => unreachable!(),
+    }
+}

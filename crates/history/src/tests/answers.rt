@@ -1,0 +1,215 @@
+use super::*;
+
+// All functions open, each with one receive descriptor, whose message is that of the vector.
+fn open_all<R: Abort, M: GuestMem>(
+    rt: &R,
+    history: &mut History,
+    device: &mut Device<M>,
+    vector: u32,
+) -> Result<(), Fail> {
+    let mut frame = FrameBuf::blank();
+    // both words of the receive enables
+    for offset in [0x51E0, 0x51E4] {
+        let enable = Request::PfWrite(offset, 0xFFFF_FFFF);
+        keep(rt, history, device, 64, enable, &mut frame);
+    }
+    let descriptor = MemSlice::new(&[0, 4])?;
+    for pool in 0..64u8 {
+        keep(rt, history, device, 66, Request::Open(pool), &mut frame);
+        let write = Request::MemWrite(pool, 0, descriptor);
+        keep(rt, history, device, pool, write, &mut frame);
+        for (offset, value) in RECEIVE {
+            let value = if offset == 0x120 {
+                0x80 | vector
+            } else {
+                value
+            };
+            let write = Request::VfWrite(pool, offset, value);
+            keep(rt, history, device, pool, write, &mut frame);
+        }
+    }
+    Ok(())
+}
+
+// Makes the pools accept broadcast frames.
+fn accept_broadcast<R: Abort, M: GuestMem>(
+    rt: &R,
+    history: &mut History,
+    device: &mut Device<M>,
+    pools: &[u8],
+) {
+    let mut frame = FrameBuf::blank();
+    for pool in pools {
+        let accept = Request::PfWrite(0xF000 + 4 * u32::from(*pool), 0x0800_0000);
+        keep(rt, history, device, 64, accept, &mut frame);
+    }
+}
+
+#[test]
+fn a_twin_gives_messages_to_any_pools(rt: HostRuntime) -> Result<(), Fail> {
+    let mut all = [0; 64];
+    for pool in 0..64 {
+        all[pool] = pool as u8;
+    }
+    let broadcast = FrameBuf::from_bytes(&[0xFF; 60])?;
+    let mut room = Room::new();
+    let mut frame = FrameBuf::blank();
+    let pools: [&[u8]; 4] = [&[], &[0], &[5, 63], &all];
+    for (vector, pools) in [
+        (0, pools[0]),
+        (0, pools[1]),
+        (1, pools[2]),
+        (2, pools[2]),
+        (0, pools[3]),
+        (2, pools[3]),
+    ] {
+        let mut device = device_of_64(rt.alloc())?;
+        let mut history = History::new(rt.alloc(), 1000)?;
+        open_all(&rt, &mut history, &mut device, vector)?;
+        accept_broadcast(&rt, &mut history, &mut device, pools);
+        let wire = Request::Wire(&broadcast);
+        let told = keep(&rt, &mut history, &mut device, 65, wire, &mut frame).messages;
+        assert_eq!(rt;
+            told.pools_with(vector as u8).count_ones() as usize,
+            pools.len()
+        );
+        assert_eq!(rt; told.pools(), told.pools_with(vector as u8));
+        // all three vectors of one pool
+        let set = Request::VfWrite(7, 0x104, 7);
+        let told = keep(&rt, &mut history, &mut device, 7, set, &mut frame).messages;
+        assert_eq!(rt; told.pools(), 1 << 7);
+        let mut twin = device_of_64(rt.alloc())?;
+        assert_eq!(rt; first_other(&history, &mut twin, &mut room), None);
+    }
+    Ok(())
+}
+
+#[test]
+fn a_device_whose_function_is_open_gives_another_answer(rt: HostRuntime) -> Result<(), Fail> {
+    let mut device = device_of_64(rt.alloc())?;
+    let mut history = History::new(rt.alloc(), 4)?;
+    let mut frame = FrameBuf::blank();
+    for request in [
+        Request::PfRead(0),
+        Request::Open(0),
+        Request::VfRead(0, 0x10),
+    ] {
+        keep(&rt, &mut history, &mut device, 66, request, &mut frame);
+    }
+    let mut room = Room::new();
+    let mut other = device_of_64(rt.alloc())?;
+    assert_eq!(rt; other.open(0), Ok(()));
+    assert_eq!(rt; first_other(&history, &mut other, &mut room), Some(1));
+    // and one without that function too
+    let mut smaller = Device::new(rt.alloc(), memories(rt.alloc(), 1)?)?;
+    assert_eq!(rt; first_other(&history, &mut smaller, &mut room), None);
+    assert_eq!(rt; smaller.end(0), Ok(()));
+    assert!(rt; 2 < history.len());
+    assert!(rt; !history.gives(2, &mut smaller, &mut room));
+    history.step(1, &mut smaller, &mut room);
+    assert!(rt; history.gives(2, &mut smaller, &mut room));
+    Ok(())
+}
+
+// The messages of a set of vectors to a pool.
+fn to(pool: u8, bits: u8) -> Messages {
+    match (PoolId::new(pool), Vectors::new(bits)) {
+        (Some(pool), Some(vectors)) => Messages::of(pool, vectors),
+        _ => Messages::none(),
+    }
+}
+
+#[test]
+fn messages_alone_make_another_answer(rt: HostRuntime) -> Result<(), Fail> {
+    let mut room = Room::new();
+    let mut frame = FrameBuf::blank();
+    let every = Messages::from_words([u64::MAX; 3]);
+    for (messages, same) in [
+        (to(3, 4), true),
+        (Messages::none(), false),
+        (to(2, 4), false),
+        (to(3, 2), false),
+        (to(3, 6), false),
+        (every, false),
+    ] {
+        let mut device = device_of_64(rt.alloc())?;
+        let mut history = History::new(rt.alloc(), 4)?;
+        keep(
+            &rt,
+            &mut history,
+            &mut device,
+            66,
+            Request::Open(3),
+            &mut frame,
+        );
+        let mask = Request::VfWrite(3, 0x108, 7);
+        keep(&rt, &mut history, &mut device, 3, mask, &mut frame);
+        // the cause of vector 2 is set
+        let set = Request::VfWrite(3, 0x104, 4);
+        let taken = device.take(set, &mut frame);
+        let kept = Taken {
+            outcome: taken.outcome,
+            messages,
+            sent: None,
+            left: None,
+        };
+        assert!(rt; !history.is_full());
+        history.push(3, set, &device, &kept);
+        let mut twin = device_of_64(rt.alloc())?;
+        let other = first_other(&history, &mut twin, &mut room);
+        assert_eq!(rt; other, if same { None } else { Some(2) });
+    }
+    Ok(())
+}
+
+#[test]
+fn one_byte_alone_makes_another_answer(rt: HostRuntime) -> Result<(), Fail> {
+    let mut device = device_of_64(rt.alloc())?;
+    let mut history = History::new(rt.alloc(), 3)?;
+    let mut frame = FrameBuf::blank();
+    let mut room = Room::new();
+    let written = MemSlice::new(&[7; 2048])?;
+    for request in [
+        Request::Open(0),
+        Request::MemWrite(0, 100, written),
+        Request::MemRead(0, 100, 2048),
+    ] {
+        keep(&rt, &mut history, &mut device, 0, request, &mut frame);
+    }
+    assert!(rt; 2 < history.len());
+    assert!(rt; history.gives(2, &mut device, &mut room));
+    for (at, same) in [
+        (99, true),
+        (100, false),
+        (1123, false),
+        (2147, false),
+        (2148, true),
+    ] {
+        let mut twin = device_of_64(rt.alloc())?;
+        history.step(0, &mut twin, &mut room);
+        history.step(1, &mut twin, &mut room);
+        assert_eq!(rt; twin.mem_write(0, at, MemSlice::new(&[6])?), Ok(()));
+        assert_eq!(rt; history.gives(2, &mut twin, &mut room), same, "at {at}");
+    }
+    Ok(())
+}
+
+#[test]
+fn a_value_alone_makes_another_answer(rt: HostRuntime) -> Result<(), Fail> {
+    let mut device = device_of_64(rt.alloc())?;
+    let mut history = History::new(rt.alloc(), 1)?;
+    let mut room = Room::new();
+    keep(
+        &rt,
+        &mut history,
+        &mut device,
+        64,
+        Request::PfRead(0x51E0),
+        &mut FrameBuf::blank(),
+    );
+    assert!(rt; 0 < history.len());
+    assert!(rt; history.gives(0, &mut device, &mut room));
+    assert_eq!(rt; device.pf_write(0x51E0, 1), Ok(()));
+    assert!(rt; !history.gives(0, &mut device, &mut room));
+    Ok(())
+}

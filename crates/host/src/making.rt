@@ -1,0 +1,51 @@
+//! The device that a script asks for.
+ghost use Rattle.std.specs.Prelude.{◌≡◌, true, length, map, replicate, IfOk, IfErr};
+ghost use Rattle.host.specs.Program.{device_of};
+
+use crate::fault::Fault;
+use device::Device;
+use guest_memory::GuestMem;
+use script::Shape;
+use std::alloc::Global;
+
+/// The device of a script's shape, over these memories. They have to be as many and as large as the shape says, which is
+/// tested: what is in a box is not known from outside. [`Fault::NoMemory`] where they are not, or the host refused the room.
+#[inline(never)]
+pub fn make_device<M: GuestMem>(
+    alloc: Global,
+    shape: Shape,
+    memories: Vec<M>,
+) -> Result<Device<M>, Fault>
+    ensures ok { IfOk result (λ d. d ≡ device_of shape) }
+    ensures err { IfErr result (λ e. e ≡ Fault.NoMemory) }
+{
+    if !are_of_size(memories.as_slice(), shape.functions, shape.memory_size) {
+        return Err(Fault::NoMemory);
+    }
+    match Device::with_limit(alloc, memories, shape.limit.get()) {
+        Ok(device) => Ok(device),
+        Err(_) => Err(Fault::NoMemory),
+    }
+}
+
+// Whether there are so many memories, and each has that size.
+fn are_of_size<M: GuestMem>(memories: &[M], count: u8, size: u64) -> bool
+    ensures { result ≡ true → map (λ m. length (M.bytes m)) memories.now ≡ replicate count size }
+{
+    if memories.len() != usize::from(count) {
+        return false;
+    }
+    for memory in memories {
+        if !is_of_size(memory, size) {
+            return false;
+        }
+    }
+    true
+}
+
+/// Whether a memory has that size, in bytes.
+pub fn is_of_size<M: GuestMem>(memory: &M, size: u64) -> bool
+    ensures { result ≡ true → length (M.bytes memory.now) ≡ size }
+{
+    memory.size() == size
+}

@@ -1,0 +1,6 @@
+pub mod BlockLemmas
+pub mod Cuts
+pub mod LineLemmas
+pub mod Pairs
+pub mod RecordLemmas
+pub mod RunLemmas

@@ -1,0 +1,6 @@
+-- Reads that were broken off took nothing.
+use Rattle.std.specs.Io.KnownBytes.{Keeps}
+use Rattle.script.proofs.script.read_some.Given as goal
+
+abbrev pub invariant-loop : goal.invariant-loop
+invariant-loop g l = Keeps (g.R.Read.remaining l.initial.reader) (g.R.Read.remaining l.reader)

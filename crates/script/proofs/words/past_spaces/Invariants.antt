@@ -1,0 +1,10 @@
+-- What is left has the same words, and each space leaves a shorter text.
+use Rattle.std.proofs.Common.{◌≡◌, length}
+use Rattle.script.specs.Words.{words_of}
+use Rattle.script.proofs.words.past_spaces.Given as goal
+
+abbrev pub invariant-loop-rest : goal.invariant-loop-rest
+invariant-loop-rest l = words_of l.rest ≡ words_of l.text
+
+abbrev pub decreases-loop-rest : goal.decreases-loop-rest
+decreases-loop-rest l = length l.rest

@@ -1,0 +1,11 @@
+pub mod Bytes
+pub mod Inside
+pub mod Kinds
+pub mod Lines
+pub mod Numbers
+pub mod Reading
+pub mod Records
+pub mod Runs
+pub mod Shapes
+pub mod Text
+pub mod Words

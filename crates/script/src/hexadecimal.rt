@@ -1,0 +1,55 @@
+//! Hexadecimal digits, read.
+ghost use Rattle.std.specs.Prelude.{◌≡◌, ◌*◌, ℕ, List, Option, Some, None, length, if◌then◌else◌};
+ghost use Rattle.script.specs.Numbers.{digit_value};
+ghost use Rattle.script.specs.Bytes.{byte_of, pairs_of};
+
+// What stands for a byte that is no digit.
+const NO_DIGIT: u8 = 0xFF;
+
+/// The value of a hexadecimal digit of either case, and 255 where the byte is none.
+#[inline]
+#[tactic(auto, unfolding(crate::specs::Numbers::digit_value))]
+pub fn digit(byte: u8) -> u8
+    ensures { result ≡ digit_value byte }
+{
+    // Two choices without a table: in this form a loop does it for many digits at once.
+    let upper = if byte < b'a' { byte } else { byte - 32 };
+    let (decimal, letter) = (byte.wrapping_sub(b'0'), upper.wrapping_sub(b'A'));
+    if decimal < 10 {
+        decimal
+    } else if letter < 6 {
+        letter + 10
+    } else {
+        NO_DIGIT
+    }
+}
+
+/// The byte that two digits write, the high one first.
+#[inline]
+#[tactic(auto, unfolding(crate::specs::Bytes::byte_of))]
+pub fn byte(high: u8, low: u8) -> Option<u8>
+    ensures { result ≡ byte_of high low }
+{
+    let (high, low) = (digit(high), digit(low));
+    if high < 16 && low < 16 {
+        Some(high * 16 + low)
+    } else {
+        None
+    }
+}
+
+/// Writes the bytes that pairs of digits write, and tells whether all of them are digits. Where one is none, it is left
+/// open what is written.
+pub fn decode(digits: &[u8], out: &mut [u8]) -> bool
+    requires { length digits.now ≡ 2 * length out.old }
+    ensures { (if result then Some out.new else None) ≡ pairs_of digits.now }
+{
+    // There is no exit from the loop, for the same reason.
+    let mut greatest = 0;
+    for i in 0..out.len() {
+        let (high, low) = (digit(digits[2 * i]), digit(digits[2 * i + 1]));
+        greatest = greatest.max(high).max(low);
+        out[i] = high % 16 * 16 + low % 16;
+    }
+    greatest < 16
+}

@@ -1,0 +1,93 @@
+-- Marks of the pools that a word has, from the lowest on.
+use Rattle.std.proofs.Common.{arith, ◌≡◌, ◌≢◌, ℕ, zero, suc, ◌+◌, ◌*◌, ◌%◌, ◌^◌, ◌<◌, ◌≤◌, false, eqb, ltb, List, [], ◌∷◌, ◌++◌, length, get_or, bit_and, refl, sym, ap, ◌∙◌}
+use Rattle.std.specs.Int.{bit_at, bit_not, trailing_zeros, w64}
+use Rattle.std.proofs.lemmas.Bool.Decides.{nat_tests}
+use Rattle.std.proofs.lemmas.Nat.Bits.{bit_at-lt, bit_at-zero, bit_at_clear_same, bit_at_clear_other, bit_at-trailing_zeros}
+use Rattle.wire_frame.specs.Bits.{has_bit}
+use Rattle.transcript.specs.Text.{mark_text, marks_text}
+
+-- a text where a bit is set
+abbrev pub where_set : ℕ → List ℕ → List ℕ
+where_set zero text = []
+where_set (suc n) text = text
+
+-- the marks of the pools from one on that a word has
+abbrev pub marks_of : ℕ → ℕ → List ℕ → List ℕ
+marks_of word pool [] = []
+marks_of word pool (mask ∷ masks) = where_set (bit_at word pool) (mark_text pool mask) ++ marks_of word (suc pool) masks
+
+-- ---- a word of all pools that got any
+
+got : (mask : ℕ) → false ≡ ltb 0 (suc mask) → ⊥
+got mask same = grind (arith, nat_tests)
+
+marked : (bit pool mask : ℕ) → bit < 2 → eqb bit 1 ≡ ltb 0 mask → where_set bit (mark_text pool mask) ≡ mark_text pool mask
+unfolding mark_text
+marked zero pool zero small same = refl
+marked zero pool (suc mask) small same = absurd (got mask same)
+marked (suc bit) pool mask small same = refl
+
+whole_from : (word pool : ℕ) (masks : List ℕ) → ((k : ℕ) → k < length masks → has_bit word (pool + k) ≡ ltb 0 (get_or masks k 0))
+    → marks_of word pool masks ≡ marks_text pool masks
+unfolding has_bit
+whole_from word pool [] same = refl
+whole_from word pool (mask ∷ masks) same =
+    let here : pool + 0 ≡ pool = omega arith in
+    let first = marked (bit_at word pool) pool mask (bit_at-lt word pool) (ap (λ p. eqb (bit_at word p) 1) (sym here) ∙ same 0 (omega arith)) in
+    let rest = whole_from word (suc pool) masks (λ k below.
+    let there : suc pool + k ≡ pool + suc k = omega arith in
+    ap (λ p. eqb (bit_at word p) 1) there ∙ same (suc k) (omega arith)) in
+    λ i. first i ++ rest i
+
+pub marks_whole : (word : ℕ) (masks : List ℕ) → length masks ≡ 64 → ((p : ℕ) → p < 64 → has_bit word p ≡ ltb 0 (get_or masks p 0))
+    → marks_of word 0 masks ≡ marks_text 0 masks
+marks_whole word masks all same =
+    whole_from word 0 masks (λ k below. let there : 0 + k ≡ k = omega arith in ap (has_bit word) there ∙ same k (omega arith))
+
+-- ---- a word of none
+
+none_from : (pool : ℕ) (masks : List ℕ) → marks_of 0 pool masks ≡ []
+none_from pool [] = refl
+none_from pool (mask ∷ masks) = λ i. where_set (bit_at-zero pool i) (mark_text pool mask) ++ none_from (suc pool) masks i
+
+pub marks_none : (masks : List ℕ) → marks_of 0 0 masks ≡ []
+marks_none masks = none_from 0 masks
+
+-- ---- the lowest pool leaves the word
+
+same_from : (a b pool : ℕ) (masks : List ℕ) → ((p : ℕ) → pool ≤ p → p < pool + length masks → bit_at a p ≡ bit_at b p)
+    → marks_of a pool masks ≡ marks_of b pool masks
+same_from a b pool [] same = refl
+same_from a b pool (mask ∷ masks) same =
+    let rest = same_from a b (suc pool) masks (λ p from below. same p (omega arith) (omega arith)) in
+    λ i. where_set (same pool (omega arith) (omega arith) i) (mark_text pool mask) ++ rest i
+
+-- a word and the same without pool p, of which it has none that is lower
+lowest_from : (a b p pool k : ℕ) (masks : List ℕ) → p ≡ pool + k → k < length masks
+    → ((q : ℕ) → q < p → bit_at a q ≡ 0) → bit_at a p ≡ 1 → bit_at b p ≡ 0
+    → ((q : ℕ) → q < pool + length masks → q ≢ p → bit_at b q ≡ bit_at a q)
+    → marks_of a pool masks ≡ mark_text p (get_or masks k 0) ++ marks_of b pool masks
+lowest_from a b p pool k [] there below none some gone others = absurd (omega arith)
+lowest_from a b p pool zero (mask ∷ masks) there below none some gone others =
+    let here : p ≡ pool = omega arith in
+    let rest = same_from a b (suc pool) masks (λ q from less. sym (others q (omega arith) (omega arith))) in
+    let own : bit_at a pool ≡ 1 = ap (bit_at a) (sym here) ∙ some in
+    let left : bit_at b pool ≡ 0 = ap (bit_at b) (sym here) ∙ gone in
+    (λ i. where_set (own i) (mark_text pool mask) ++ rest i)
+    ∙ (λ i. mark_text (sym here i) mask ++ (where_set (sym left i) (mark_text pool mask) ++ marks_of b (suc pool) masks))
+lowest_from a b p pool (suc k) (mask ∷ masks) there below none some gone others =
+    let rest = lowest_from a b p (suc pool) k masks (omega arith) (omega arith) none some gone (λ q less other. others q (omega arith) other) in
+    let not_a : bit_at a pool ≡ 0 = none pool (omega arith) in
+    let not_b : bit_at b pool ≡ 0 = others pool (omega arith) (omega arith) ∙ not_a in
+    (λ i. where_set (not_a i) (mark_text pool mask) ++ rest i)
+    ∙ (λ i. mark_text p (get_or masks k 0) ++ (where_set (sym not_b i) (mark_text pool mask) ++ marks_of b (suc pool) masks))
+
+pub marks_lowest : (rest : ℕ) (masks : List ℕ) → length masks ≡ 64 → 0 < rest → rest < 2 ^ 64
+    → marks_of rest 0 masks
+    ≡ mark_text (trailing_zeros w64 rest) (get_or masks (trailing_zeros w64 rest) 0)
+    ++ marks_of (bit_and rest (bit_not w64 (1 * 2 ^ trailing_zeros w64 rest % 18446744073709551616))) 0 masks
+marks_lowest rest masks all some fits =
+    let p = trailing_zeros w64 rest in
+    let lowest = bit_at-trailing_zeros w64 rest some fits in
+    lowest_from rest _ p 0 p masks (omega arith) (omega (arith, lowest.0)) lowest.2 lowest.1 (bit_at_clear_same w64 rest p lowest.0)
+    (λ q below other. bit_at_clear_other w64 rest p lowest.0 q (omega arith) other)

@@ -1,6 +1,6 @@
 //! Values from outside: what events leave for a pool, and what a function by itself makes of it.
 use crate::{Given, Lone, Room, Seen, Watch, follow};
-use device::{Device, MemSlice, Outcome, Queue, Request};
+use device::{Device, MemSlice, Outcome, Queue, Request, Span};
 use guest_memory::FlatMem;
 use pool_filter::{Own, Tables};
 use std::alloc::Global;
@@ -88,8 +88,16 @@ fn kind_of(given: Option<Given<'_>>) -> Kind {
     }
 }
 
+// Whether a frame from the wire is left for the pool, as it is and as one of the wire.
+fn is_offered(watch: &mut Watch<FlatMem>, frame: &FrameBuf, room: &mut Room) -> bool {
+    match watch.step(Request::Wire(frame), room) {
+        Some(Given::Offer(given, false)) => given.bytes() == frame.bytes(),
+        _ => false,
+    }
+}
+
 // The messages that are seen, with the reply or alone; None where nothing is seen or the event was not done or sent.
-fn messages(seen: Option<Seen>) -> Option<u8> {
+fn messages(seen: &Option<Seen>) -> Option<u8> {
     match seen {
         Some(Seen::Replied(Outcome::Done | Outcome::Sent, vectors)) => Some(vectors.bits()),
         Some(Seen::Interrupted(vectors)) => Some(vectors.bits()),
@@ -97,9 +105,17 @@ fn messages(seen: Option<Seen>) -> Option<u8> {
     }
 }
 
+// Where the bytes lie that were read, where bytes were.
+fn span_of(seen: &Option<Seen>) -> Option<Span> {
+    match seen {
+        Some(Seen::Replied(Outcome::Bytes(span), _)) => Some(*span),
+        _ => None,
+    }
+}
+
 // An event of the function's own that is done, without messages.
 fn does<R: Abort>(rt: &R, lone: &mut Lone<FlatMem>, request: Request<'_>) {
-    assert_eq!(rt; messages(lone.take(Given::OwnEvent(request))), Some(0));
+    assert_eq!(rt; messages(&lone.take(Given::OwnEvent(request))), Some(0));
 }
 
 // The function is open, has its rings, and a descriptor that sends a frame of 60 bytes.
@@ -189,7 +205,6 @@ fn own_events_and_frames_are_left(rt: HostRuntime) -> Result<(), Fail> {
     for (offset, value) in SETTINGS {
         watch.step(Request::PfWrite(offset, value), &mut room);
     }
-    let (mine, others, nobodys) = (frame_to(0x10)?, frame_to(0x11)?, frame_to(0x12)?);
     for (request, kind) in [
         (Request::Flr(0), Kind::OwnEvent),
         (Request::Open(0), Kind::OwnEvent),
@@ -197,18 +212,17 @@ fn own_events_and_frames_are_left(rt: HostRuntime) -> Result<(), Fail> {
         (Request::Open(1), Kind::Nothing),
         (Request::Open(64), Kind::Nothing),
         (Request::Serve(1, Queue::Q0), Kind::Nothing),
-        (Request::Wire(&mine), Kind::Offer(false)),
-        (Request::Wire(&others), Kind::Nothing),
-        (Request::Wire(&nobodys), Kind::Nothing),
-        // and as default pool it gets the last of them
-        (Request::PfWrite(0x51B0, 0), Kind::Nothing),
     ] {
         assert_eq!(rt; kind_of(watch.step(request, &mut room)), kind);
     }
-    match watch.step(Request::Wire(&nobodys), &mut room) {
-        Some(Given::Offer(frame, false)) => assert_eq!(rt; frame.bytes(), nobodys.bytes()),
-        _ => assert!(rt; false),
-    }
+    let (mine, others, nobodys) = (frame_to(0x10)?, frame_to(0x11)?, frame_to(0x12)?);
+    assert!(rt; is_offered(&mut watch, &mine, &mut room));
+    assert!(rt; !is_offered(&mut watch, &others, &mut room));
+    assert!(rt; !is_offered(&mut watch, &nobodys, &mut room));
+    // and as default pool it gets the last of them
+    let default_pool = Request::PfWrite(0x51B0, 0);
+    assert_eq!(rt; kind_of(watch.step(default_pool, &mut room)), Kind::Nothing);
+    assert!(rt; is_offered(&mut watch, &nobodys, &mut room));
     Ok(())
 }
 
@@ -220,19 +234,19 @@ fn a_function_by_itself(rt: HostRuntime) -> Result<(), Fail> {
     both_ways(&mut own)?;
     let serve = Given::OwnEvent(Request::Serve(0, Queue::Q0));
     let frame = frame_to(0x10)?;
-    assert_eq!(rt; messages(lone.take(serve)), None);
+    assert_eq!(rt; messages(&lone.take(serve)), None);
     set_up(&rt, &mut lone)?;
     // without settings it may neither send nor receive
-    assert_eq!(rt; messages(lone.take(serve)), None);
+    assert_eq!(rt; messages(&lone.take(serve)), None);
     assert!(rt; lone.take(Given::Offer(&frame, false)).is_none());
     assert!(rt; lone.take(Given::NewSettings(&own)).is_none());
-    assert_eq!(rt; messages(lone.take(serve)), Some(2));
-    assert_eq!(rt; messages(lone.take(Given::Offer(&frame, true))), Some(1));
+    assert_eq!(rt; messages(&lone.take(serve)), Some(2));
+    assert_eq!(rt; messages(&lone.take(Given::Offer(&frame, true))), Some(1));
     // there is one buffer, so a second frame has no room
     assert!(rt; lone.take(Given::Offer(&frame, true)).is_none());
     assert!(rt; lone.take(Given::Gone).is_none());
     set_up(&rt, &mut lone)?;
-    assert_eq!(rt; messages(lone.take(serve)), None);
+    assert_eq!(rt; messages(&lone.take(serve)), None);
     assert!(rt; lone.take(Given::Offer(&frame, false)).is_none());
     Ok(())
 }
@@ -274,7 +288,7 @@ fn a_frame_of_another_function(rt: HostRuntime) -> Result<(), Fail> {
         );
     }
     let seen = follow(&mut watch, &mut lone, Request::Open(0), &mut room);
-    assert_eq!(rt; messages(seen), Some(0));
+    assert_eq!(rt; messages(&seen), Some(0));
     for (offset, value) in RINGS {
         let seen = follow(
             &mut watch,
@@ -282,7 +296,7 @@ fn a_frame_of_another_function(rt: HostRuntime) -> Result<(), Fail> {
             Request::VfWrite(0, offset, value),
             &mut room,
         );
-        assert_eq!(rt; messages(seen), Some(0), "{offset}");
+        assert_eq!(rt; messages(&seen), Some(0), "{offset}");
     }
     let frame = frame_to(0x10)?;
     for (at, bytes) in [(0x6000, frame.bytes()), (0x2000, DESCRIPTOR.as_slice())] {
@@ -308,21 +322,17 @@ fn a_frame_of_another_function(rt: HostRuntime) -> Result<(), Fail> {
         Request::Serve(1, Queue::Q0),
         &mut room,
     );
-    assert_eq!(rt; messages(seen), Some(1));
+    assert_eq!(rt; messages(&seen), Some(1));
     let written_back = [0, 0, 0, 0, 0, 0, 0, 0, 3, 0, 4, 0, 60, 0, 0, 0];
-    match follow(
+    let seen = follow(
         &mut watch,
         &mut lone,
         Request::MemRead(0, 0x1000, 16),
         &mut room,
-    ) {
-        Some(Seen::Replied(Outcome::Bytes(span), vectors)) => {
-            assert!(rt; vectors.is_empty());
-            let mut bytes = [9; 16];
-            lone.read_span(span, &mut bytes);
-            assert_eq!(rt; bytes, written_back);
-        }
-        _ => assert!(rt; false),
-    }
+    );
+    let span = span_of(&seen).ok_or("no bytes")?;
+    let mut bytes = [9; 16];
+    lone.read_span(span, &mut bytes);
+    assert_eq!(rt; bytes, written_back);
     Ok(())
 }

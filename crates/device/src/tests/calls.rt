@@ -1,6 +1,6 @@
 //! Each call by name, once as whoever embeds a device makes it.
 use super::*;
-use crate::{MemSlice, Outcome, Request};
+use crate::{MemSlice, Outcome, Request, Span};
 use irq_causes::Messages;
 use wire_frame::PoolId;
 
@@ -170,30 +170,30 @@ fn serve_hands_out_the_frame_that_left(rt: HostRuntime) -> Result<(), Fail> {
     Ok(())
 }
 
+// Where the bytes lie that a request reads, if it reads some.
+fn span_of<M: GuestMem>(device: &mut Device<M>, request: Request<'_>) -> Option<Span> {
+    let mut room = FrameBuf::blank();
+    match device.take(request, &mut room).outcome {
+        Outcome::Bytes(span) => Some(span),
+        _ => None,
+    }
+}
+
 #[test]
 fn take_says_where_bytes_lie(rt: HostRuntime) -> Result<(), Fail> {
     let mut device = Device::new(rt.alloc(), memories(rt.alloc(), 8)?)?;
-    let mut room = FrameBuf::blank();
-    assert_eq!(rt;
-        device.take(Request::Open(3), &mut room).outcome,
-        Outcome::Done
-    );
+    assert!(rt; span_of(&mut device, Request::Open(3)).is_none());
     let written = MemSlice::new(&[5, 6, 7])?;
-    let taken = device.take(Request::MemWrite(3, 40, written), &mut room);
-    assert_eq!(rt; taken.outcome, Outcome::Done);
-    match device.take(Request::MemRead(3, 41, 2), &mut room).outcome {
-        Outcome::Bytes(span) => {
-            assert_eq!(rt; (span.pool(), span.at(), span.count()), (3, 41, 2));
-            let mut out = [9; 2];
-            device.read_span(span, &mut out);
-            assert_eq!(rt; out, [6, 7]);
-            // closed, it has zeros
-            assert_eq!(rt; device.end(3), Ok(()));
-            device.read_span(span, &mut out);
-            assert_eq!(rt; out, [0, 0]);
-        }
-        _ => assert!(rt; false),
-    }
+    assert!(rt; span_of(&mut device, Request::MemWrite(3, 40, written)).is_none());
+    let span = span_of(&mut device, Request::MemRead(3, 41, 2)).ok_or("no bytes")?;
+    assert_eq!(rt; (span.pool(), span.at(), span.count()), (3, 41, 2));
+    let mut out = [9; 2];
+    device.read_span(span, &mut out);
+    assert_eq!(rt; out, [6, 7]);
+    // closed, it has zeros
+    assert_eq!(rt; device.end(3), Ok(()));
+    device.read_span(span, &mut out);
+    assert_eq!(rt; out, [0, 0]);
     Ok(())
 }
 

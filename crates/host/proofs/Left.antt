@@ -54,7 +54,7 @@ pub seen_next : (p q : ℕ) (s moved : Lone) (w after : World) (es : List Event)
 seen_next p q s moved w after es i e o less is same world lone seen =
     at_drop_more (seen_lines (i + 1) p s w) es i PfReset less
     ∙ (λ j. if_any (seen_line p) (i + 1) (shown_by_kept s (kept (sym same j) w (sym is j)))
-        ++ seen_lines (after_one (i + 1) j) p (moved_by_kept s (kept (sym same j) w (sym is j))) (step w (sym is j)).world (drop (i + 1) es))
+    ++ seen_lines (after_one (i + 1) j) p (moved_by_kept s (kept (sym same j) w (sym is j))) (step w (sym is j)).world (drop (i + 1) es))
     ∙ (λ j. if_any (seen_line p) (i + 1) (sym seen j) ++ seen_lines (i + 1 + 1) p (sym lone j) (sym world j) (drop (i + 1) es))
 
 -- ---- the whole of a run

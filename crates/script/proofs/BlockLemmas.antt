@@ -50,9 +50,9 @@ pub reads_bad : (known old new : Option (List ℕ)) (held more both : List ℕ) 
 reads_bad None old new held more both now n on takes joined bad = tt
 reads_bad (Some text) (Some left) (Some after) held more both now n on takes joined bad =
     let all : read_on (lines_of text) at_first ≡ Err n =
-        on ∙ ap (λ (xs : List ℕ). read_on (lines_of (held ++ xs)) now) takes
-        ∙ ap (λ (xs : List ℕ). read_on (lines_of xs) now) (sym (append_assoc held more after))
-        ∙ ap (λ (xs : List ℕ). read_on (lines_of (xs ++ after)) now) (sym joined) ∙ bad after in
+    on ∙ ap (λ (xs : List ℕ). read_on (lines_of (held ++ xs)) now) takes
+    ∙ ap (λ (xs : List ℕ). read_on (lines_of xs) now) (sym (append_assoc held more after))
+    ∙ ap (λ (xs : List ℕ). read_on (lines_of (xs ++ after)) now) (sym joined) ∙ bad after in
     ap (λ (r : Result Reading ℕ). ok_then r finished) all
 reads_bad (Some text) None new held more both now n on takes joined bad = absurd on
 reads_bad (Some text) (Some left) None held more both now n on takes joined bad = absurd takes
@@ -65,7 +65,7 @@ reads_last None old new held none now end on takes nothing at_end is = tt
 reads_last (Some text) (Some left) (Some after) held none now end on takes nothing at_end is =
     let empty : left ≡ [] = takes ∙ (λ k. nothing k ++ at_end k) in
     let all : read_on (lines_of text) at_first ≡ read_on (lines_of held) now =
-        on ∙ ap (λ (xs : List ℕ). read_on (lines_of (held ++ xs)) now) empty ∙ ap (λ (xs : List ℕ). read_on (lines_of xs) now) (append-nil held) in
+    on ∙ ap (λ (xs : List ℕ). read_on (lines_of (held ++ xs)) now) empty ∙ ap (λ (xs : List ℕ). read_on (lines_of xs) now) (append-nil held) in
     ap (λ (r : Result Reading ℕ). ok_then r finished) all ∙ is
 reads_last (Some text) None new held none now end on takes nothing at_end is = absurd on
 reads_last (Some text) (Some left) None held none now end on takes nothing at_end is = absurd takes

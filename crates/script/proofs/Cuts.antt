@@ -16,8 +16,8 @@ parts_cut byte text at first here =
     let inside = first.high in
     let before = first.before in
     let place : position_or_len (λ b. b == byte) text ≡ at =
-        position_or_len_is (λ b. b == byte) text at 0 (omega arith)
-        (λ k less. false_from_ne_true _ (before k (omega arith) less)) (λ _. here) in
+    position_or_len_is (λ b. b == byte) text at 0 (omega arith)
+    (λ k less. false_from_ne_true _ (before k (omega arith) less)) (λ _. here) in
     let whole = take_all (length text - (at + 1)) (drop (at + 1) text) (omega (arith, length-drop (at + 1) text)) in
     slice_split_first (λ b. b == byte) text 0 (omega (arith, place))
     ∙ ap (λ (k : ℕ). take k text ∷ parts byte (drop (k + 1) text)) place

@@ -20,13 +20,13 @@ first_part : (byte : ℕ) (text : List ℕ) → FirstPart byte [] text
 first_part byte [] = record { front = []; others = []; is = refl }
 first_part byte (x ∷ xs) = go (x == byte) refl (first_part byte xs)
   where
-  go : (stands : Bool) → (x == byte) ≡ stands → FirstPart byte [] xs → FirstPart byte [] (x ∷ xs)
-  go true is rest = record { front = []; others = parts byte xs; is = slice_split-cons_yes (λ b. b == byte) x xs is }
-  go false is rest = record {
-    front = x ∷ rest.front;
-    others = rest.others;
-    is = slice_split-cons_no (λ b. b == byte) x xs is ∙ ap (onto_first x) rest.is;
-  }
+    go : (stands : Bool) → (x == byte) ≡ stands → FirstPart byte [] xs → FirstPart byte [] (x ∷ xs)
+    go true is rest = record { front = []; others = parts byte xs; is = slice_split-cons_yes (λ b. b == byte) x xs is }
+    go false is rest = record {
+      front = x ∷ rest.front;
+      others = rest.others;
+      is = slice_split-cons_no (λ b. b == byte) x xs is ∙ ap (onto_first x) rest.is;
+    }
 
 part_before : (byte : ℕ) (before more : List ℕ) → IsWithout byte before → FirstPart byte before (before ++ more)
 part_before byte [] more none = first_part byte more
@@ -45,7 +45,7 @@ lines_cut line after more rest is none =
     let next = first_part 10 (after ++ more) in
     let joined : rest ++ more ≡ line ++ 10 ∷ (after ++ more) = ap (λ (xs : List ℕ). xs ++ more) is ∙ append_assoc line (10 ∷ after) more in
     let cut : parts 10 (rest ++ more) ≡ line ∷ parts 10 (after ++ more) =
-        ap (parts 10) joined ∙ slice_split_at (λ b. b == 10) line 10 (after ++ more) none refl in
+    ap (parts 10) joined ∙ slice_split_at (λ b. b == 10) line 10 (after ++ more) none refl in
     ap ended (cut ∙ ap (λ (ps : List (List ℕ)). line ∷ ps) next.is) ∙ ap (λ (ps : List (List ℕ)). line ∷ ended ps) (sym next.is)
 
 -- a line that is taken, and one that isn't
@@ -80,11 +80,11 @@ too_long : (now : Reading) (rest line : List ℕ) → length rest ≤ length lin
 unfolding line_after
 too_long now rest line less long = by_tests (nat_lt now.lines 100000) (nat_le (length line) 40000) refl refl
   where
-  by_tests : (few short : Bool) → nat_lt now.lines 100000 ≡ few → nat_le (length line) 40000 ≡ short
-      → (if few && short then option_map counted (heard now line) else None) ≡ None
-  by_tests true true few short = absurd (grind (arith, nat_tests))
-  by_tests true false few short = refl
-  by_tests false short few is = refl
+    by_tests : (few short : Bool) → nat_lt now.lines 100000 ≡ few → nat_le (length line) 40000 ≡ short
+        → (if few && short then option_map counted (heard now line) else None) ≡ None
+    by_tests true true few short = absurd (grind (arith, nat_tests))
+    by_tests true false few short = refl
+    by_tests false short few is = refl
 
 -- the beginning of a line of which no end makes a good one
 pub leads_to_long : (text rest : List ℕ) (first now : Reading) (n : ℕ) → LeadsOn text rest first now → IsWithout 10 rest
@@ -99,9 +99,9 @@ leads_to_long text rest first now n leads none number long = λ more.
     leads more ∙ ap (λ (ps : List (List ℕ)). read_on (ended ps) now) part.is ∙ ap (λ (ls : List (List ℕ)). read_on ls now) there
     ∙ line_bad line (ended part.others) now n number (too_long now rest line (omega arith) long)
   where
-  starts : (line : List ℕ) (others : List (List ℕ)) → 1 ≤ length line → ended (line ∷ others) ≡ line ∷ ended others
-  starts line [] some = grind (arith, nat_tests)
-  starts line (next ∷ rest) some = refl
+    starts : (line : List ℕ) (others : List (List ℕ)) → 1 ≤ length line → ended (line ∷ others) ≡ line ∷ ended others
+    starts line [] some = grind (arith, nat_tests)
+    starts line (next ∷ rest) some = refl
 
 -- a last line that nothing ends
 pub last_line : (line : List ℕ) → IsWithout 10 line → 1 ≤ length line → lines_of line ≡ line ∷ []

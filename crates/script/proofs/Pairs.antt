@@ -64,7 +64,7 @@ pub pair_more : (digits out : List ℕ) (i g high low g1 g2 : ℕ) (whole : Opti
 pair_more digits out i g high low g1 g2 whole inside room is_high is_low first second so =
     let both : g2 ≡ max (max g high) low = second ∙ ap (λ (x : ℕ). max x low) (first ∙ greater g high) in
     let pair : byte_of (slice_index digits (2 * i)) (slice_index digits (2 * i + 1)) ≡ byte_by high low =
-        byte_by_values _ _ ∙ (λ k. byte_by (sym is_high k) (sym is_low k)) in
+    byte_by_values _ _ ∙ (λ k. byte_by (sym is_high k) (sym is_low k)) in
     let rest : Option (List ℕ) = pairs_of (drop (2 * (i + 1)) digits) in
     ap (λ (front : List ℕ). so_far g2 front rest) (take_more_set out i (high % 16 * 16 + low % 16) room)
     ∙ sym (more_by g high low g2 (take i out) rest both _ _ _ refl refl refl)
@@ -88,11 +88,11 @@ length_pairs [] = refl
 length_pairs (digit ∷ []) = tt
 length_pairs (high ∷ low ∷ rest) = go (byte_of high low) (pairs_of rest) (length_pairs rest)
   where
-  go : (byte : Option ℕ) (bytes : Option (List ℕ)) → MatchOption bytes (Unit {0}) (λ bs. length rest ≡ 2 * length bs)
-      → MatchOption (before byte bytes) (Unit {0}) (λ bs. length (high ∷ low ∷ rest) ≡ 2 * length bs)
-  go (Some byte) (Some bytes) long = omega (arith, long)
-  go (Some byte) None long = tt
-  go None bytes long = tt
+    go : (byte : Option ℕ) (bytes : Option (List ℕ)) → MatchOption bytes (Unit {0}) (λ bs. length rest ≡ 2 * length bs)
+        → MatchOption (before byte bytes) (Unit {0}) (λ bs. length (high ∷ low ∷ rest) ≡ 2 * length bs)
+    go (Some byte) (Some bytes) long = omega (arith, long)
+    go (Some byte) None long = tt
+    go None bytes long = tt
 
 -- a chunk without a count that cannot be so many bytes, or isn't any
 pub pairs_bad : (chunk : List ℕ) (most : ℕ) → has_count chunk ≡ false
@@ -101,11 +101,11 @@ pub pairs_bad : (chunk : List ℕ) (most : ℕ) → has_count chunk ≡ false
 unfolding chunk_of
 pairs_bad chunk most plain long = rw plain (go (nat_le 1 (length chunk)) (pairs_of chunk) refl (length_pairs chunk))
   where
-  go : (some : Bool) (bytes : Option (List ℕ)) → nat_le 1 (length chunk) ≡ some → MatchOption bytes (Unit {0}) (λ bs. length chunk ≡ 2 * length bs)
-      → option_and_then (few most) (if some then bytes else None) ≡ None
-  go false bytes is two = refl
-  go true None is two = refl
-  go true (Some bytes) is two =
-      let one : 1 ≤ length chunk = grind (arith, nat_tests) in
-      let more = long bytes two one in
-      grind (arith, nat_tests)
+    go : (some : Bool) (bytes : Option (List ℕ)) → nat_le 1 (length chunk) ≡ some → MatchOption bytes (Unit {0}) (λ bs. length chunk ≡ 2 * length bs)
+        → option_and_then (few most) (if some then bytes else None) ≡ None
+    go false bytes is two = refl
+    go true None is two = refl
+    go true (Some bytes) is two =
+        let one : 1 ≤ length chunk = grind (arith, nat_tests) in
+        let more = long bytes two one in
+        grind (arith, nat_tests)

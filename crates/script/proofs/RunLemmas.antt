@@ -140,7 +140,7 @@ pub left_next : (a b c : Kept) (chunk rest whole : Option (List ℕ)) (left most
     → Left a b (joined chunk rest) whole left most → AddsRead chunk count b c → count ≤ left → Left a c rest whole (left - count) most
 left_next a b c chunk rest whole left most count before read less =
     let joins : joined (Some before.bytes) (joined (Some read.bytes) rest) ≡ whole =
-        ap (λ (bs : Option (List ℕ)). joined (Some before.bytes) (joined bs rest)) (sym read.written) ∙ before.joins in
+    ap (λ (bs : Option (List ℕ)). joined (Some before.bytes) (joined bs rest)) (sym read.written) ∙ before.joins in
     record {
       bytes = before.bytes ++ read.bytes;
       kept = adds_on a b c before.bytes read.bytes before.kept read.kept;
@@ -148,23 +148,23 @@ left_next a b c chunk rest whole left most count before read less =
       few = let l = length-append before.bytes read.bytes in let n = read.long in let m = before.few in omega arith;
     }
   where
-  joined_on : (xs ys : List ℕ) (zs : Option (List ℕ)) → joined (Some (xs ++ ys)) zs ≡ joined (Some xs) (joined (Some ys) zs)
-  joined_on xs ys (Some zs) = ap Some (append_assoc xs ys zs)
-  joined_on xs ys None = refl
+    joined_on : (xs ys : List ℕ) (zs : Option (List ℕ)) → joined (Some (xs ++ ys)) zs ≡ joined (Some xs) (joined (Some ys) zs)
+    joined_on xs ys (Some zs) = ap Some (append_assoc xs ys zs)
+    joined_on xs ys None = refl
 
 -- a chunk that cannot be read, or is longer than what is left
 pub left_bad : (a b : Kept) (chunk rest whole : Option (List ℕ)) (left most : ℕ)
     → Left a b (joined chunk rest) whole left most → option_and_then (few left) chunk ≡ None → option_and_then (few most) whole ≡ None
 left_bad a b chunk rest whole left most before bad = ap (option_and_then (few most)) (sym before.joins) ∙ too_long chunk rest before.bytes before.few bad
   where
-  too_long : (chunk rest : Option (List ℕ)) (bytes : List ℕ) → length bytes + left ≡ most → option_and_then (few left) chunk ≡ None
-      → option_and_then (few most) (joined (Some bytes) (joined chunk rest)) ≡ None
-  too_long None rest bytes all bad = refl
-  too_long (Some more) None bytes all bad = refl
-  too_long (Some more) (Some others) bytes all bad =
-      let l = length-append bytes (more ++ others) in
-      let m = length-append more others in
-      grind (arith, nat_tests)
+    too_long : (chunk rest : Option (List ℕ)) (bytes : List ℕ) → length bytes + left ≡ most → option_and_then (few left) chunk ≡ None
+        → option_and_then (few most) (joined (Some bytes) (joined chunk rest)) ≡ None
+    too_long None rest bytes all bad = refl
+    too_long (Some more) None bytes all bad = refl
+    too_long (Some more) (Some others) bytes all bad =
+        let l = length-append bytes (more ++ others) in
+        let m = length-append more others in
+        grind (arith, nat_tests)
 
 pub left_done : (a b : Kept) (whole : Option (List ℕ)) (left most : ℕ) → Left a b (Some []) whole left most → AddsAtMost whole most a b
 left_done a b whole left most done = record {
@@ -191,9 +191,9 @@ pub added_bytes : (a b : Kept) (text : Option (List ℕ)) (most : ℕ) → AddsA
 added_bytes a b text most added =
     let kept = added.kept in
     let none : bytes_from a (length a.pool) (length a.runs) ≡ [] =
-        ap (bytes_by (drop (length a.pool) a.pool)) (drop_all (length a.runs) a.runs (omega arith)) in
+    ap (bytes_by (drop (length a.pool) a.pool)) (drop_all (length a.runs) a.runs (omega arith)) in
     let all : bytes_from b (length a.pool) (length a.runs) ≡ added.bytes =
-        kept.bytes (length a.pool) (length a.runs) (end_of a) ∙ ap (λ (xs : List ℕ). xs ++ added.bytes) none in
+    kept.bytes (length a.pool) (length a.runs) (end_of a) ∙ ap (λ (xs : List ℕ). xs ++ added.bytes) none in
     added.written ∙ ap Some (sym all) ∙ ap (λ (rs : List Run). Some (bytes_by (drop (length a.pool) b.pool) rs)) (sym (all_runs a b))
 
 pub added_few : (a b : Kept) (text : Option (List ℕ)) (most : ℕ) → AddsAtMost text most a b → length (bytes_at b (span_of a b)) ≤ most

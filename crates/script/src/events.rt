@@ -86,8 +86,11 @@ impl Events {
             Record::VfRead(pool, offset) => Request::VfRead(pool, offset),
             Record::VfWrite(pool, offset, value) => Request::VfWrite(pool, offset, value),
             Record::MemRead(pool, at, count) => Request::MemRead(pool, at, count),
-            Record::MemWrite(pool, at, span) =>
-                Request::MemWrite(pool, at, few(self.runs.bytes(span, &mut room.bytes))),
+            Record::MemWrite(pool, at, span) => Request::MemWrite(
+                pool,
+                at,
+                few(self.runs.bytes(span, &mut room.bytes)),
+            ),
             Record::Serve(pool, queue) => Request::Serve(pool, queue),
             Record::PfRead(offset) => Request::PfRead(offset),
             Record::PfWrite(offset, value) => Request::PfWrite(offset, value),

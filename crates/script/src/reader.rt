@@ -40,10 +40,10 @@ impl Model for Reader {
     ghost Value = { Reading };
 
     ghost view = { λ r. record {
-        lines = r.lines;
-        device = option_map asked_by r.shape;
-        has_go = r.has_go;
-        events = r.events
+      lines = r.lines;
+      device = option_map asked_by r.shape;
+      has_go = r.has_go;
+      events = r.events;
     } };
 
     ghost invariant = { λ r. r.lines ≤ 100000 };

@@ -61,11 +61,7 @@ impl Runs {
 
     /// Keeps the bytes that a word writes, at most `most`: `-`, or chunks joined by `.`. A chunk is an even, nonzero number
     /// of hexadecimal digits, or two of them, `*` and a decimal count from 1 to 9018.
-    #[tactic(auto, using(
-        crate::proofs::RunLemmas::added_bytes,
-        crate::proofs::RunLemmas::added_few,
-        crate::proofs::RunLemmas::added_lies
-    ))]
+    #[tactic(auto, using(crate::proofs::RunLemmas::added_bytes, crate::proofs::RunLemmas::added_few, crate::proofs::RunLemmas::added_lies))]
     pub fn keep(&mut self, word: &[u8], most: u16) -> Result<Span, Refusal>
         ensures bytes { IfOk result (λ span. bytes_of word.now ≡ Some (bytes_at self.new span)) }
         ensures few { IfOk result (λ span. length (bytes_at self.new span) ≤ most) }

@@ -81,11 +81,14 @@ pub sent_end : (a b c : Option (List ℕ)) (text held : List ℕ) → Sent a b t
 sent_end a b c text held (f, e, p) q = let P : List ℕ → Type 0 = λ t. Appends a c t in subst P e (Appends-trans a b c f held p q)
 
 pub began_end : (a b c : Option (List ℕ)) (text held : List ℕ) → Sent a b text held → Began b c held → Began a c text
-began_end a b c text held (f, e, p) (rest, (g, d, q)) = (rest, (
-  f ++ g,
-  append_assoc f g rest ∙ ap (λ (xs : List ℕ). f ++ xs) d ∙ e,
-  Appends-trans a b c f g p q,
-))
+began_end a b c text held (f, e, p) (rest, (g, d, q)) = (
+  rest,
+  (
+    f ++ g,
+    append_assoc f g rest ∙ ap (λ (xs : List ℕ). f ++ xs) d ∙ e,
+    Appends-trans a b c f g p q,
+  ),
+)
 
 -- ---- for the calls
 

@@ -8,9 +8,9 @@ pub returns-in_err-filled-clause-bad : goal.returns-in_err-filled-clause-bad
 returns-in_err-filled-clause-bad g c =
     let p = err_from_is_err_and c.from_residual-in_err-filled.result c.from_residual-in_err-filled.ensures.1 in
     rw p.1 (λ n is.
-        let held = held_more c.loop.block c.fill.new.block c.loop.filled c.in_ok-count.count c.fill.ensures.front in
-        reads_bad (g.R.Read.remaining c.args.reader.now) (g.R.Read.remaining c.loop.reader) (g.R.Read.remaining c.fill.new.reader)
-        _ _ _ c.loop.lines n c.loop.invariant.reads c.in_ok-count.ensures.bytes.0 held (c.in_err-filled.ensures.bad n (sym p.2 ∙ is)))
+    let held = held_more c.loop.block c.fill.new.block c.loop.filled c.in_ok-count.count c.fill.ensures.front in
+    reads_bad (g.R.Read.remaining c.args.reader.now) (g.R.Read.remaining c.loop.reader) (g.R.Read.remaining c.fill.new.reader)
+    _ _ _ c.loop.lines n c.loop.invariant.reads c.in_ok-count.ensures.bytes.0 held (c.in_err-filled.ensures.bad n (sym p.2 ∙ is)))
 
 pub loop-preserved : goal.loop-preserved
 loop-preserved g c =

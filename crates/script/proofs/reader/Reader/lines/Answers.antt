@@ -10,9 +10,9 @@ pub returns-in_err-line-in-Some-clause-bad : goal.returns-in_err-line-in-Some-cl
 returns-in_err-line-in-Some-clause-bad c =
     let p = err_from_is_err_and c.from_residual.result c.from_residual.ensures.1 in
     rw p.1 (λ n is.
-        let whole = rw c.in-Some.is at c.cut.ensures.whole in
-        let why = c.in_err-line-in-Some.ensures.bad n (sym p.2 ∙ is) in
-        leads_to_bad c.args.text.now _ _ _ c.args.self.now _ n c.loop-after.invariant.reads whole c.cut.ensures.clear why.0 why.1)
+    let whole = rw c.in-Some.is at c.cut.ensures.whole in
+    let why = c.in_err-line-in-Some.ensures.bad n (sym p.2 ∙ is) in
+    leads_to_bad c.args.text.now _ _ _ c.args.self.now _ n c.loop-after.invariant.reads whole c.cut.ensures.clear why.0 why.1)
 
 pub loop-after-preserved : goal.loop-after-preserved
 loop-after-preserved c =

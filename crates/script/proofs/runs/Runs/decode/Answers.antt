@@ -10,7 +10,7 @@ returns-clause-ok c =
     let decoded = c.in_ok-decode_onto.ensures.ok in
     let long : length decoded.0 ≡ c.args.count = decoded.1.1 ∙ c.from.ensures in
     let runs : c.push_reserved.new.self.items ≡ c.self.inside.runs.items ++ Plain c.args.count ∷ [] =
-        c.push_reserved.ensures.items ∙ ap (λ (xs : List Run). xs ++ Plain c.args.count ∷ []) c.reserve.ensures.items in
+    c.push_reserved.ensures.items ∙ ap (λ (xs : List Run). xs ++ Plain c.args.count ∷ []) c.reserve.ensures.items in
     record {
       bytes = decoded.0;
       written = decoded.1.0;

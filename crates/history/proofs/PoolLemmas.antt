@@ -1,19 +1,18 @@
 -- Entries over a pool of bytes that grows: what stood stays, and what is added is the new entry.
-use Rattle.std.proofs.Common.{◌≡◌, ℕ, Bool, true, false, List, [], ◌∷◌, ◌++◌, ◌≤◌, ◌<◌, ◌+◌, ◌*◌, length, length-append, length-drop, append_assoc, take, drop, get_or, map, refl, sym, ap, ◌∙◌, subst, arith}
+use Rattle.std.proofs.Common.{◌≡◌, ℕ, Bool, true, false, List, [], ◌∷◌, ◌++◌, ◌≤◌, ◌<◌, ◌+◌, length, length-append, length-drop, append_assoc, take, drop, map, refl, sym, ap, ◌∙◌, subst, arith}
 use Rattle.std.specs.List.{All}
 use Rattle.std.proofs.Math.Seq.{drop-append_seam}
-use Rattle.std.proofs.lemmas.List.{length-map, get_or-map, map-append, take-append-le, drop-append-le, take_all}
+use Rattle.std.proofs.lemmas.List.{length-map, map-append, take-append-le, drop-append-le, take_all}
 use Rattle.std.proofs.lemmas.List.Elements.{All-head, All-tail, All-weaker, All-push}
 use Rattle.device.specs.declared.event.Event.{Event}
 use Rattle.device.specs.declared.event.Event.TheVariants.{Open, End, VfRead, VfWrite, MemRead, MemWrite, Serve, Flr, PfRead, PfWrite, PfReset, Wire}
 use Rattle.device.specs.declared.outcome.Outcome.{Outcome}
 use Rattle.device.specs.declared.outcome.Outcome.TheVariants.{Done, Value, Bytes, Idle, More, Sent, Dropped, Faulted, Refused}
-use Rattle.device.specs.declared.taken.Taken.{Taken}
 use Rattle.device.specs.World.{World}
-use Rattle.device.specs.Outcome.{reads, reply_in, answer_in}
+use Rattle.device.specs.Outcome.{reads, reply_in}
 use Rattle.history.specs.declared.head.Head.{Head}
-use Rattle.history.specs.Entries.{Entry, Kept, entry, no_entry, brings}
-use Rattle.history.specs.Heads.{asked_of, told_of, event_with, reply_with, brought, moved, IsSound, words_len, messages_with, part, moved_of, words_of, entry_of, Stands}
+use Rattle.history.specs.Entries.{Kept, entry, brings}
+use Rattle.history.specs.Heads.{asked_of, told_of, event_with, reply_with, moved, IsSound, words_len, messages_with, part, moved_of, words_of, entry_of, Stands}
 
 -- ---- parts of a pool
 
@@ -158,7 +157,3 @@ room_left pool hs cap n v is less same =
     let most : cap ≡ v.cap = ap (λ (w : Kept). w.cap) is in
     let long = length-map hs (entry_of pool) in
     omega arith
-
--- what stands at a place
-pub entry_there : (pool : List ℕ) (hs : List Head) (i : ℕ) (d : Head) → i < length hs → get_or (map (entry_of pool) hs) i no_entry ≡ entry_of pool (get_or hs i d)
-entry_there pool hs i d less = get_or-map (entry_of pool) hs i d no_entry less

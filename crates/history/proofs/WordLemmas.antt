@@ -1,13 +1,12 @@
 -- The words of messages that are not 0 are read back from their bytes.
-use Rattle.std.proofs.Common.{◌≡◌, ℕ, ◌+◌, ◌*◌, ◌^◌, ◌<◌, ◌≤◌, ◌==◌, not, Bool, true, false, List, [], ◌∷◌, ◌++◌, length, length-append, take, drop, slice_index, refl, sym, ap, ◌∙◌, subst, arith}
+use Rattle.std.proofs.Common.{◌≡◌, ℕ, ◌+◌, ◌*◌, ◌^◌, ◌<◌, ◌==◌, not, Bool, true, false, List, [], ◌++◌, length, length-append, slice_index, refl, sym, ap, ◌∙◌, arith}
 use Rattle.std.specs.Int.{bit_at}
 use Rattle.std.proofs.lemmas.Nat.Bits.{bit_at-lt}
 use Rattle.std.proofs.lemmas.List.{append-nil}
-use Rattle.std.proofs.Math.Seq.{drop-append_seam}
 use mir.Val.{bool_byte}
-use Rattle.byteorder.specs.Numbers.{little_number-reads_back, length-bytes_low_first}
+use Rattle.byteorder.specs.Numbers.{little_number-reads_back}
 use Rattle.wire_frame.specs.Bits.{has_bit}
-use Rattle.irq_causes.specs.Messages.{masks, masks_of}
+use Rattle.irq_causes.specs.Messages.{masks_of}
 use Rattle.history.specs.Heads.{word_bytes, word_of, rest_of, words_len, packed, messages_with}
 
 word_back : (w : ℕ) (rest : List ℕ) → w < 2 ^ 64 → word_of (not (w == 0)) (word_bytes w ++ rest) ≡ w

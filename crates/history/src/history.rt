@@ -7,7 +7,7 @@ ghost use Rattle.history.specs.Entries.{entry, entry_at, is_cap, brings};
 
 use crate::bytes::{append_moved, part};
 use crate::head::{Asked, Head, asked_of, told_of};
-use crate::replay::is_reply;
+use crate::reply::is_reply;
 use crate::words::{append_words, are_messages, words_len};
 use device::{Device, MemSlice, Request, Taken};
 use guest_memory::GuestMem;

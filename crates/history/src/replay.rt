@@ -1,14 +1,12 @@
 //! Devices that keep their calls, and devices that go through kept ones.
 ghost use Rattle.std.specs.Prelude.{◌≡◌, ◌<◌, ◌++◌, ◌∷◌, [], length, option_copied, IsTrue, ◌↔◌};
-ghost use Rattle.device.specs.World.{function_of, sizes_of, step, sent_by};
-ghost use Rattle.device.specs.Outcome.{answer_in, bytes_in, left_by, reply_in};
+ghost use Rattle.device.specs.World.{sizes_of, step, sent_by};
+ghost use Rattle.device.specs.Outcome.{answer_in, left_by};
 ghost use Rattle.device.specs.Request.{event_of};
 ghost use Rattle.history.specs.Entries.{entry, entry_at};
-ghost use Rattle.history.specs.Heads.{reply_with};
 
-use crate::head::Told;
 use crate::history::History;
-use device::{Device, Outcome, Request, Span, Taken};
+use device::{Device, Request, Taken};
 use guest_memory::GuestMem;
 use wire_frame::FrameBuf;
 
@@ -86,43 +84,4 @@ impl History {
         let taken = device.take(request, &mut room.sent);
         self.is_answer(index, device, &taken, &mut room.read)
     }
-}
-
-// Whether the reply of a device to its last event is this one, of these bytes.
-#[inline]
-pub fn is_reply<M: GuestMem>(
-    told: Told,
-    bytes: &[u8],
-    device: &Device<M>,
-    outcome: Outcome,
-    room: &mut [u8; 2048],
-) -> bool
-    ensures { IsTrue result ↔ (reply_in device.now outcome ≡ reply_with bytes.now told) }
-{
-    match (told, outcome) {
-        (Told::Done, Outcome::Done) => true,
-        (Told::Value(x), Outcome::Value(y)) => x == y,
-        (Told::Bytes, Outcome::Bytes(span)) => are_read(bytes, device, span, room),
-        (Told::Idle, Outcome::Idle) => true,
-        (Told::More, Outcome::More) => true,
-        (Told::Sent, Outcome::Sent) => true,
-        (Told::Dropped, Outcome::Dropped) => true,
-        (Told::Faulted, Outcome::Faulted) => true,
-        (Told::Refused(number), Outcome::Refused(fault)) => number == fault.number(),
-        _ => false,
-    }
-}
-
-// Whether the bytes of a span are these.
-fn are_read<M: GuestMem>(
-    bytes: &[u8],
-    device: &Device<M>,
-    span: Span,
-    room: &mut [u8; 2048],
-) -> bool
-    ensures { IsTrue result ↔ (bytes_in (function_of span.pool device.now) span ≡ bytes.now) }
-{
-    let read = &mut room[..span.count()];
-    device.read_span(span, read);
-    &*read == bytes
 }

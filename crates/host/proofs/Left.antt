@@ -1,15 +1,16 @@
 -- The lines of what is left of a list, after one more event or frame.
-use Rattle.std.proofs.Common.{◌≡◌, ℕ, suc, List, [], ◌∷◌, Option, ◌++◌, ◌+◌, ◌<◌, ◌≤◌, length, drop, get_or, append_assoc, refl, sym, ap, ◌∙◌, arith}
+use Rattle.std.proofs.Common.{◌≡◌, ℕ, suc, List, [], ◌∷◌, Option, ◌++◌, ◌+◌, ◌<◌, ◌≤◌, length, drop, get_or, append_assoc, refl, sym, ap, ◌∙◌, subst, arith}
 use Rattle.std.proofs.lemmas.List.{at_drop_more}
 use Rattle.std.specs.Prelude.{slice_index_or}
 use Rattle.device.specs.declared.event.Event.{Event}
 use Rattle.device.specs.declared.event.Event.TheVariants.{PfReset}
 use Rattle.device.specs.declared.event.Answer.{Answer}
 use Rattle.device.specs.World.{World, step, answers, world_after}
-use Rattle.device.specs.Lone.{Item, Observation, Lone, kept}
-use Rattle.lone.specs.Kept.{moved_by_kept, shown_by_kept}
+use Rattle.device.specs.Lone.{Item, Observation, Lone, alone, kept}
+use Rattle.lone.specs.Kept.{Watched, moved_by_kept, shown_by_kept}
+use Rattle.transcript.specs.Known.{Began, Sent}
 use Rattle.transcript.specs.Text.{line, frame_line, item_line, seen_line}
-use Rattle.transcript.specs.Lines.{if_any, lines, frame_lines, kept_lines, seen_lines, run_text}
+use Rattle.transcript.specs.Lines.{if_any, lines, frame_lines, kept_lines, seen_lines, run_text, keep_text, lone_text}
 
 after_one : (n : ℕ) → suc n ≡ n + 1
 after_one n = omega arith
@@ -59,9 +60,28 @@ seen_next p q s moved w after es i e o less is same world lone seen =
 
 -- ---- the whole of a run
 
-pub run_whole : (out : List ℕ) (device shape after : World) (es : List Event) → device ≡ shape → after ≡ world_after device es
-    → (out ++ lines 1 (answers device es)) ++ frame_lines after.wire ≡ out ++ run_text shape es
-run_whole out device shape after es is now =
-    append_assoc out (lines 1 (answers device es)) (frame_lines after.wire)
-    ∙ (λ k. out ++ (lines 1 (answers device es) ++ frame_lines (now k).wire))
-    ∙ (λ k. out ++ run_text (is k) es)
+pub began_as : (a b : Option (List ℕ)) (text whole : List ℕ) → text ≡ whole → Began a b text → Began a b whole
+began_as a b text whole is began = let P : List ℕ → Type 0 = λ t. Began a b t in subst P is began
+
+pub sent_as : (a b : Option (List ℕ)) (text whole held : List ℕ) → text ≡ whole → Sent a b text held → Sent a b whole held
+sent_as a b text whole held is sent = let P : List ℕ → Type 0 = λ t. Sent a b t held in subst P is sent
+
+pub run_whole : (out : List ℕ) (first device shape after last : World) (es : List Event) → first ≡ device → device ≡ shape → after ≡ world_after first es → last ≡ after
+    → (out ++ lines 1 (answers first es)) ++ frame_lines last.wire ≡ out ++ run_text shape es
+run_whole out first device shape after last es same is now still =
+    append_assoc out (lines 1 (answers first es)) (frame_lines last.wire)
+    ∙ (λ k. out ++ (lines 1 (answers first es) ++ frame_lines ((still ∙ now) k).wire))
+    ∙ (λ k. out ++ run_text ((same ∙ is) k) es)
+
+-- ---- the whole of what is kept, and of what is seen
+
+pub kept_whole : (out : List ℕ) (w v : Watched) (device shape : World) (p : ℕ) (es : List Event) → w ≡ v → v ≡ record { world = device; pool = p } → device ≡ shape
+    → out ++ keep_text w.pool w.world es ≡ out ++ keep_text p shape es
+kept_whole out w v device shape p es same made is =
+    (λ k. out ++ keep_text ((same ∙ made) k).pool ((same ∙ made) k).world es) ∙ (λ k. out ++ keep_text p (is k) es)
+
+pub seen_whole : (out : List ℕ) (w v : Watched) (device shape : World) (p : ℕ) (s l : Lone) (limit size asked : ℕ) (es : List Event)
+    → w ≡ v → v ≡ record { world = device; pool = p } → device ≡ shape → s ≡ l → l ≡ alone limit size → size ≡ asked
+    → out ++ lone_text p s w.world es ≡ out ++ lone_text p (alone limit asked) shape es
+seen_whole out w v device shape p s l limit size asked es same made is new first as_asked =
+    (λ k. out ++ lone_text p ((new ∙ first) k) ((same ∙ made) k).world es) ∙ (λ k. out ++ lone_text p (alone limit (as_asked k)) (is k) es)

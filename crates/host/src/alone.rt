@@ -10,7 +10,7 @@ ghost use Rattle.host.specs.Faults.{is_early};
 ghost use Rattle.host.specs.Program.{device_of};
 
 use crate::fault::Fault;
-use crate::making::{is_of_size, make_device};
+use crate::making::{is_of_size, make_device, make_lone, make_watch};
 use guest_memory::GuestMem;
 use lone::{Lone, Seen, Watch, follow};
 use script::{Room, Script, Shape};
@@ -21,8 +21,8 @@ use wire_frame::PoolId;
 
 /// Gives a script's events to a device of its shape over these memories, and what they leave for the pool to its lone
 /// function over its own memory; to the output the lines of what is seen of that, each with the number of its event.
-#[tactic(auto, using(transcript::proofs::Known::nothing_began))]
 #[inline(never)]
+#[tactic(auto, using(transcript::proofs::Known::nothing_began))]
 pub fn lone_function<M: GuestMem, W: Write>(
     alloc: Global,
     script: &Script,
@@ -44,15 +44,15 @@ pub fn lone_function<M: GuestMem, W: Write>(
     if !is_of_size(&memory, size) {
         return Err(Fault::NoMemory);
     }
-    let mut watch = Watch::new(device, pool);
-    let mut lone = Lone::new(memory, limit);
+    let mut watch = make_watch(alloc, device, pool)?;
+    let mut lone = make_lone(alloc, memory, limit)?;
     observations(&mut watch, &mut lone, pool, script, output, writer)?;
     Ok(())
 }
 
+#[inline(never)]
 // Gives the events to the watched device and what they leave to the lone function, and the lines of what is seen of that
 // to the output.
-#[inline(never)]
 fn observations<M: GuestMem, W: Write>(
     watch: &mut Watch<M>,
     lone: &mut Lone<M>,

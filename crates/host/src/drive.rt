@@ -47,10 +47,16 @@ fn read_and_play<R: Read, W: Write>(
     ensures err { IfOk result (λ played. OnErr played (BeganToWrite mode (W.contents writer.old) (W.contents writer.new))) }
     ensures late { IfOk result (λ played. IfErr played (λ e. is_early e ≡ false)) }
 {
-    let script = Script::read(alloc, reader)?;
+    let script = read(alloc, reader)?;
     let shape = script.shape();
     let task = mode.task(shape.functions)?;
     Ok(play(alloc, task, &script, shape, writer))
+}
+
+// Reads a script. It stands by itself, since what reading takes of the stack is to be free again when the events run.
+#[inline(never)]
+fn read<R: Read>(alloc: Global, reader: &mut R) -> Result<Script, Fault> {
+    Ok(Script::read(alloc, reader)?)
 }
 
 /// Gives a script's events to a device of its shape, and writes what the task asks for. Where writing fails, the writer has

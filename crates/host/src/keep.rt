@@ -9,7 +9,7 @@ ghost use Rattle.host.specs.Faults.{is_early};
 ghost use Rattle.host.specs.Program.{device_of};
 
 use crate::fault::Fault;
-use crate::making::make_device;
+use crate::making::{make_device, make_watch};
 use guest_memory::GuestMem;
 use lone::{Given, Watch};
 use script::{Room, Script, Shape};
@@ -35,7 +35,7 @@ pub fn keep<M: GuestMem, W: Write>(
     ensures late { IfErr result (λ e. is_early e ≡ false) }
 {
     let device = make_device(alloc, shape, memories)?;
-    let mut watch = Watch::new(device, pool);
+    let mut watch = make_watch(alloc, device, pool)?;
     items(&mut watch, script, output, writer)?;
     Ok(())
 }

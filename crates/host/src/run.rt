@@ -60,6 +60,7 @@ fn answers<M: GuestMem, W: Write>(
 }
 
 // Gives the lines of the frames that went to the wire to the output.
+#[inline(never)]
 fn frames<M: GuestMem, W: Write>(
     device: &Device<M>,
     output: &mut Output,

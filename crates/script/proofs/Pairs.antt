@@ -1,8 +1,8 @@
 -- The bytes of pairs of digits, one after another.
-use Rattle.std.proofs.Common.{◌≡◌, ℕ, Bool, true, false, List, [], ◌∷◌, ◌++◌, ◌+◌, ◌*◌, ◌%◌, ◌&&◌, ◌<◌, ◌≤◌, Option, Some, None, nat_lt, nat_le, max, length, take, drop, slice_index, slice_set, if◌then◌else◌, refl, sym, ap, ◌∙◌, arith}
+use Rattle.std.proofs.Common.{◌≡◌, ℕ, Bool, true, false, List, [], ◌∷◌, ◌++◌, ◌+◌, ◌-◌, ◌*◌, ◌%◌, ◌&&◌, ◌<◌, ◌≤◌, Option, Some, None, nat_lt, nat_le, max, min, length, length-drop, length-take, take, drop, slice_index, slice_set, if◌then◌else◌, refl, sym, ap, ◌∙◌, arith}
 use Rattle.std.specs.Prelude.{MatchOption, option_and_then}
 use Rattle.std.specs.Ordering.{ord_max, nat_cmp}
-use Rattle.std.proofs.lemmas.List.{append_assoc, append-nil, drop_all, drop_more, take_all, take_more_set}
+use Rattle.std.proofs.lemmas.List.{append_assoc, append-nil, length-set, take_all, take_more_set}
 use Rattle.std.proofs.lemmas.Bool.Decides.{nat_tests}
 use Rattle.script.specs.Numbers.{digit_value}
 use Rattle.script.specs.Bytes.{before, byte_of, chunk_of, few, has_count, joined, pairs_of}
@@ -22,12 +22,11 @@ joined_before front byte None = refl
 -- one pair more
 more_by : (g high low g' : ℕ) (front : List ℕ) (rest : Option (List ℕ)) → g' ≡ max (max g high) low
     → (a b c : Bool) → nat_lt g 16 ≡ a → nat_lt high 16 ≡ b → nat_lt low 16 ≡ c
-    → so_far g front (before (byte_by high low) rest) ≡ so_far g' (front ++ (high % 16 * 16 + low % 16) ∷ []) rest
+    → so_far g front (before (byte_by high low) rest) ≡ so_far g' (front ++ ((high * 16 % 256 + low) % 256) ∷ []) rest
 more_by g high low g' front rest is true true true x y z =
     let all : nat_lt g' 16 ≡ true = grind (arith, nat_tests) in
-    let h : high % 16 ≡ high = grind (arith, nat_tests) in
-    let l : low % 16 ≡ low = grind (arith, nat_tests) in
-    rw (x, y, z, all, h, l) (joined_before front (high * 16 + low) rest)
+    let byte : (high * 16 % 256 + low) % 256 ≡ high * 16 + low = grind (arith, nat_tests) in
+    rw (x, y, z, all, byte) (joined_before front (high * 16 + low) rest)
 more_by g high low g' front rest is true true false x y z =
     let all : nat_lt g' 16 ≡ false = grind (arith, nat_tests) in
     rw (x, y, z, all) refl
@@ -42,42 +41,49 @@ byte_by_values : (high low : ℕ) → byte_of high low ≡ byte_by (digit_value 
 unfolding byte_of
 byte_by_values high low = refl
 
-pairs_drop : (digits : List ℕ) (i : ℕ) → 2 * i + 1 < length digits
-    → pairs_of (drop (2 * i) digits)
-    ≡ before (byte_of (slice_index digits (2 * i)) (slice_index digits (2 * i + 1))) (pairs_of (drop (2 * (i + 1)) digits))
-unfolding pairs_of
-pairs_drop digits i inside =
-    let a = drop_more digits (2 * i) 0 (omega arith) in
-    let b = drop_more digits (2 * i + 1) 0 inside in
-    let two : 2 * i + 1 + 1 ≡ 2 * (i + 1) = omega arith in
-    rw (a, b, two) refl
-
 greater : (a b : ℕ) → ord_max nat_cmp a b ≡ max a b
 greater a b = grind arith
 
+-- the first pair of digits
+pairs_first : (rest : List ℕ) → 2 ≤ length rest
+    → pairs_of rest ≡ before (byte_of (slice_index rest 0) (slice_index rest 1)) (pairs_of (take (length rest - 2) (drop 2 rest)))
+unfolding pairs_of
+pairs_first [] some = absurd (omega arith)
+pairs_first (digit ∷ []) some = absurd (omega arith)
+pairs_first (high ∷ low ∷ after) some =
+    ap (λ (xs : List ℕ). before (byte_of high low) (pairs_of xs)) (sym (take_all (length (high ∷ low ∷ after) - 2) after (omega arith)))
+
 -- one pair more is written
-pub pair_more : (digits out : List ℕ) (i g high low g1 g2 : ℕ) (whole : Option (List ℕ)) → 2 * i + 1 < length digits → i < length out
-    → high ≡ digit_value (slice_index digits (2 * i)) → low ≡ digit_value (slice_index digits (2 * i + 1))
+pub pair_more : (rest out : List ℕ) (i g high low g1 g2 : ℕ) (whole : Option (List ℕ)) → i < length out → 2 ≤ length rest
+    → high ≡ digit_value (slice_index rest 0) → low ≡ digit_value (slice_index rest 1)
     → g1 ≡ ord_max nat_cmp g high → g2 ≡ max g1 low
-    → so_far g (take i out) (pairs_of (drop (2 * i) digits)) ≡ whole
-    → so_far g2 (take (i + 1) (slice_set out i (high % 16 * 16 + low % 16))) (pairs_of (drop (2 * (i + 1)) digits)) ≡ whole
-pair_more digits out i g high low g1 g2 whole inside room is_high is_low first second so =
+    → so_far g (take i out) (pairs_of rest) ≡ whole
+    → so_far g2 (take (i + 1) (slice_set out i ((high * 16 % 256 + low) % 256))) (pairs_of (take (length rest - 2) (drop 2 rest))) ≡ whole
+pair_more rest out i g high low g1 g2 whole room some is_high is_low first second so =
+    let after : Option (List ℕ) = pairs_of (take (length rest - 2) (drop 2 rest)) in
     let both : g2 ≡ max (max g high) low = second ∙ ap (λ (x : ℕ). max x low) (first ∙ greater g high) in
-    let pair : byte_of (slice_index digits (2 * i)) (slice_index digits (2 * i + 1)) ≡ byte_by high low =
+    let byte : byte_of (slice_index rest 0) (slice_index rest 1) ≡ byte_by high low =
     byte_by_values _ _ ∙ (λ k. byte_by (sym is_high k) (sym is_low k)) in
-    let rest : Option (List ℕ) = pairs_of (drop (2 * (i + 1)) digits) in
-    ap (λ (front : List ℕ). so_far g2 front rest) (take_more_set out i (high % 16 * 16 + low % 16) room)
-    ∙ sym (more_by g high low g2 (take i out) rest both _ _ _ refl refl refl)
-    ∙ ap (λ (byte : Option ℕ). so_far g (take i out) (before byte rest)) (sym pair)
-    ∙ ap (so_far g (take i out)) (sym (pairs_drop digits i inside)) ∙ so
+    let next : pairs_of rest ≡ before (byte_by high low) after = pairs_first rest some ∙ ap (λ (x : Option ℕ). before x after) byte in
+    ap (λ (front : List ℕ). so_far g2 front after) (take_more_set out i ((high * 16 % 256 + low) % 256) room)
+    ∙ sym (more_by g high low g2 (take i out) after both _ _ _ refl refl refl)
+    ∙ ap (so_far g (take i out)) (sym next) ∙ so
+
+pub pairs_left : (rest out : List ℕ) (i x : ℕ) → 2 ≤ length rest → length rest + 2 * i ≡ 2 * length out
+    → length (take (length rest - 2) (drop 2 rest)) + 2 * (i + 1) ≡ 2 * length (slice_set out i x)
+pairs_left rest out i x some left =
+    let l = length-set out i x in
+    let d = length-drop 2 rest in
+    let t = length-take (length rest - 2) (drop 2 rest) in
+    omega arith
 
 -- every pair is written
-pub pairs_done : (digits out : List ℕ) (i g : ℕ) (whole : Option (List ℕ)) → length out ≤ i → length digits ≤ 2 * i
-    → so_far g (take i out) (pairs_of (drop (2 * i) digits)) ≡ whole
+pub pairs_done : (rest out : List ℕ) (i g : ℕ) (whole : Option (List ℕ)) → length out ≤ i → length rest ≡ 0
+    → so_far g (take i out) (pairs_of rest) ≡ whole
     → (if nat_lt g 16 then Some out else None) ≡ whole
 unfolding pairs_of
-pairs_done digits out i g whole all none so =
-    let end = drop_all (2 * i) digits none in
+pairs_done rest out i g whole all none so =
+    let end : rest ≡ [] = sym (take_all 0 rest (omega arith)) in
     let full = take_all i out all in
     rw (end, full, append-nil) at so
 

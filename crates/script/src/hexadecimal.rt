@@ -13,8 +13,8 @@ pub fn digit(byte: u8) -> u8
     ensures { result ≡ digit_value byte }
 {
     // Two choices without a table: in this form a loop does it for many digits at once.
-    let upper = if byte < b'a' { byte } else { byte - 32 };
-    let (decimal, letter) = (byte.wrapping_sub(b'0'), upper.wrapping_sub(b'A'));
+    let decimal = byte.wrapping_sub(b'0');
+    let letter = byte.wrapping_sub(b'A').min(byte.wrapping_sub(b'a'));
     if decimal < 10 {
         decimal
     } else if letter < 6 {
@@ -38,18 +38,24 @@ pub fn byte(high: u8, low: u8) -> Option<u8>
     }
 }
 
-/// Writes the bytes that pairs of digits write, and tells whether all of them are digits. Where one is none, it is left
+/// Writes the bytes that digits write two by two, and tells whether all of them are digits. Where one is none, it is left
 /// open what is written.
+#[inline(never)]
 pub fn decode(digits: &[u8], out: &mut [u8]) -> bool
     requires { length digits.now ≡ 2 * length out.old }
     ensures { (if result then Some out.new else None) ≡ pairs_of digits.now }
 {
-    // There is no exit from the loop, for the same reason.
+    // There is no exit from the loop where a digit is none, for the same reason.
     let mut greatest = 0;
-    for i in 0..out.len() {
-        let (high, low) = (digit(digits[2 * i]), digit(digits[2 * i + 1]));
+    let mut rest = digits;
+    for byte in out.iter_mut() {
+        let [high, low, after @ ..] = rest else {
+            unreachable!();
+        };
+        let (high, low) = (digit(*high), digit(*low));
         greatest = greatest.max(high).max(low);
-        out[i] = high % 16 * 16 + low % 16;
+        *byte = high.wrapping_mul(16).wrapping_add(low);
+        rest = after;
     }
     greatest < 16
 }

@@ -39,7 +39,6 @@ impl Model for Script {
 impl Script {
     /// Reads a script to its end, or to its first bad line, which is [`Fault::BadScript`]. A failed read is [`Fault::Io`],
     /// and a growth of memory that was refused [`Fault::NoMemory`].
-    #[inline(never)]
     pub fn read<R: Read>(alloc: Global, reader: &mut R) -> Result<Script, Fault>
         // where the bytes of the reader are known, their text says these events
         ensures ok { IfOk result (λ script. IfSome (R.remaining reader.old)

@@ -1,12 +1,14 @@
 -- Each pair of digits adds its byte.
 use Rattle.std.proofs.Common.{arith}
-use Rattle.script.proofs.Pairs.{pair_more, pairs_done}
+use Rattle.script.proofs.Pairs.{pair_more, pairs_done, pairs_left}
 use Rattle.script.proofs.hexadecimal.decode.Goals as goal
 
-pub loop-i-preserved : goal.loop-i-preserved
-loop-i-preserved c =
-    pair_more _ _ c.loop-i.i _ _ _ _ _ _ (omega arith) (omega arith) c.digit-high.ensures c.digit-low.ensures
-    c.max.ensures c.max-greatest.ensures c.loop-i.invariant
+pub loop-byte-preserved : goal.loop-byte-preserved
+loop-byte-preserved c = record {
+  left = pairs_left _ _ c.loop-byte.byte-index _ c.in-len2-up.len_at_least c.loop-byte.invariant.left;
+  bytes = pair_more _ _ c.loop-byte.byte-index _ _ _ _ _ _ (omega arith) c.in-len2-up.len_at_least c.digit-high.ensures c.digit-low.ensures
+      c.max.ensures c.max-greatest.ensures c.loop-byte.invariant.bytes;
+}
 
 pub returns : goal.returns
-returns c = pairs_done _ _ c.loop-i.i _ _ (omega arith) (omega arith) c.loop-i.invariant
+returns c = pairs_done _ _ c.loop-byte.byte-index _ _ (omega arith) (omega arith) c.loop-byte.invariant.bytes

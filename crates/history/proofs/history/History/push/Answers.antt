@@ -1,5 +1,5 @@
 -- The bytes that are added are those of the new entry.
-use Rattle.std.proofs.Common.{rules, ◌≡◌, ◌<◌, ◌≤◌, ◌+◌, ◌*◌, ◌++◌, ◌∷◌, [], ℕ, List, length, vec_len, vec_capacity, ap, ◌∙◌, sym, arith, refl}
+use Rattle.std.proofs.Common.{rules, ◌<◌, ◌++◌, ℕ, List, vec_len, ap, ◌∙◌, arith}
 use Rattle.device.specs.Request.{event_of}
 use Rattle.history.specs.Heads.{packed}
 use Rattle.history.proofs.PoolLemmas.{Adds, entries_added, heads_stand, room_left}
@@ -14,7 +14,7 @@ adds g c =
     let words = c.append_words-vectors.ensures in
     record {
       words = packed c.words.result;
-      grown = words.items ∙ ap (λ (xs : List ℕ). xs ++ packed c.words.result) moved.items;
+      grown = ◌∙◌ {A = List ℕ} words.items (ap (λ (xs : List ℕ). xs ++ packed c.words.result) moved.items);
       asked = c.asked_of.ensures;
       told = c.told_of.ensures;
       start = search rules;

@@ -10,7 +10,7 @@ use guest_memory::GuestMem;
 use irq_causes::{Messages, Vectors};
 use local_switch::{Source, route};
 use vf_unit::VfUnit;
-use wire_frame::{FrameBuf, PoolId, has_bit};
+use wire_frame::{FrameBuf, PoolId};
 
 /// What the switching of a frame issued, and whether the frame left for the wire.
 #[derive(Clone, Copy)]
@@ -43,11 +43,15 @@ fn deliver_to_all<M: GuestMem>(
         slice_index result r ≡ (offered (has_bit pools r) loopback frame.now (slice_index_or units.old r (Closed 0))).messages }
 {
     let mut raised = Messages::none();
-    for i in 0..units.len() {
-        if has_bit(pools, i as u32) {
-            let messages = units[i].deliver(frame, loopback);
-            note(&mut raised, i, messages);
+    let mut rest = pools;
+    while rest != 0 {
+        let lowest = rest.trailing_zeros();
+        let pool = lowest as usize;
+        if pool < units.len() {
+            let messages = units[pool].deliver(frame, loopback);
+            note(&mut raised, pool, messages);
         }
+        rest &= !(1 << lowest);
     }
     raised
 }

@@ -1,15 +1,15 @@
 -- What the three words say after a call is what the list of the pools' sets says.
 use Rattle.std.proofs.Common.{arith, ◌≡◌, ◌≢◌, ℕ, zero, suc, ◌+◌, ◌*◌, ◌/◌, ◌%◌, ◌^◌, ◌<◌, Bool, true, false, max, nat_eq, List, [], ◌∷◌, length, get_or, set, eqb, eqb-true, ltb, bit_and, bit_or, refl, sym, ap, ◌∙◌}
-use Rattle.std.specs.Int.{bit_at, bit_not, trailing_zeros, w64}
+use Rattle.std.specs.Int.{bit_at, bit_not, w64}
 use Rattle.std.specs.Cmp.Lexicographic.{pointwise}
 use Rattle.std.proofs.lemmas.Bool.{eqb-false}
 use Rattle.std.proofs.lemmas.Bool.Decides.{nat_tests, Decides-like, same_from_decides}
 use Rattle.std.proofs.lemmas.Slice.Eq.{bytes_eq-Decides}
-use Rattle.std.proofs.lemmas.Nat.Bits.{bit_at-lt, bit_at-zero, bit_at_above, bit_at_or, bit_at_set_same, bit_at_set_other, bit_at_clear_same, bit_at_clear_other, bit_at-trailing_zeros}
-use Rattle.std.proofs.lemmas.Nat.{and_le_l}
+use Rattle.std.proofs.lemmas.Nat.Bits.{bit_at-lt, bit_at-zero, bit_at_above, bit_at_or, bit_at_set_same, bit_at_set_other, bit_at_clear_same, bit_at_clear_other}
 use Rattle.std.proofs.lemmas.List.{get_or_past, length-set, get_or-set_same, get_or-set_other}
 use Rattle.std.proofs.lemmas.List.FromFn.{fill_by_all}
 use Rattle.wire_frame.specs.Bits.{has_bit}
+use Rattle.wire_frame.proofs.BitLemmas.{done_more}
 use Rattle.irq_causes.specs.Messages.{mask_at, masks, no_messages}
 use Rattle.irq_causes.specs.Words.{pools_of, length_of_masks, mask_of_pool, bit_zero, bit_one, bit_two, zero_back, one_back, two_back}
 
@@ -115,31 +115,8 @@ mask_of_pool_small a b c p = at (ltb p 64) refl
 pub none_left : (a b c p : ℕ) → bit_at (bit_or (bit_or a b) c) p ≡ 0 → mask_at a b c p ≡ 0
 none_left a b c p is = omega (arith, is, bit_at_or (bit_or a b) c p, bit_at_or a b p)
 
--- the lowest pool leaves the word, and the word is smaller
-pub fewer_left : (rest : ℕ) → 0 < rest → rest < 2 ^ 64 → bit_and rest (bit_not w64 (1 * 2 ^ trailing_zeros w64 rest % 18446744073709551616)) < rest
-fewer_left rest some fits = smaller (eqb less rest) refl
-  where
-    lowest : ℕ
-    lowest = trailing_zeros w64 rest
-
-    less : ℕ
-    less = bit_and rest (bit_not w64 (1 * 2 ^ lowest % 18446744073709551616))
-
-    smaller : (same : Bool) → eqb less rest ≡ same → less < rest
-    smaller true is =
-        let there = bit_at-trailing_zeros w64 rest some fits in
-        let cleared = bit_at_clear_same w64 rest lowest there.0 in
-        absurd (omega (arith, ap (λ n. bit_at n lowest) (eqb-true less rest is), there.1, cleared))
-    smaller false is = omega (arith, and_le_l rest (bit_not w64 (1 * 2 ^ lowest % 18446744073709551616)), eqb-false less rest is)
-
 -- one more pool is done
 pub filled_more : (a b c rest p m : ℕ) (xs : List ℕ) → p < 64 → m ≡ mask_at a b c p → length xs ≡ 64
     → ((k : ℕ) → k < 64 → bit_at rest k ≡ 0 → get_or xs k 0 ≡ mask_at a b c k)
     → (k : ℕ) → k < 64 → bit_at (bit_and rest (bit_not w64 (1 * 2 ^ p % 18446744073709551616))) k ≡ 0 → get_or (set xs p m) k 0 ≡ mask_at a b c k
-filled_more a b c rest p m xs within is whole done k below left = at (eqb k p) refl
-  where
-    at : (same : Bool) → eqb k p ≡ same → get_or (set xs p m) k 0 ≡ mask_at a b c k
-    at true e = let there : k ≡ p = eqb-true k p e in rw there (get_or-set_same xs p m 0 (rw whole within) ∙ is)
-    at false e =
-        let elsewhere : k ≢ p = eqb-false k p e in
-        get_or-set_other xs p k m 0 elsewhere ∙ done k below (sym (bit_at_clear_other w64 rest p within k below elsewhere) ∙ left)
+filled_more a b c rest p m xs within is whole = done_more (mask_at a b c) xs 64 rest p m 0 within (omega arith) (omega arith) is

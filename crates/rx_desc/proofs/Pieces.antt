@@ -1,11 +1,13 @@
 -- The loops over the pieces of a frame, one piece at a time.
-use Rattle.std.proofs.Common.{◌≡◌, ℕ, zero, suc, ◌+◌, ◌-◌, ◌*◌, ◌/◌, ◌<◌, ◌≤◌, min, List, [], ◌∷◌, length, take, drop, set, get_or, map, Option, Bool, true, false, nat_lt, ◌||◌, refl, sym, ◌∙◌, ap, arith, eqb, inl, inr}
-use Rattle.std.proofs.lemmas.List.{drop_more, take_more, take_more_set, take_min, drop_min, get_or-map, length-map}
+use Rattle.std.proofs.Common.{◌≡◌, ℕ, zero, suc, ◌+◌, ◌-◌, ◌*◌, ◌/◌, ◌%◌, ◌<◌, ◌≤◌, min, List, [], ◌∷◌, length, take, drop, set, get_or, map, Option, Bool, true, false, nat_lt, ◌||◌, refl, sym, ◌∙◌, ap, arith, eqb, inl, inr}
+use Rattle.std.proofs.lemmas.List.{drop_more, take_more, take_more_set, take_min, drop_min, take_all, get_or-map, length-map}
+use Rattle.std.proofs.lemmas.Nat.{div-add-mod', mod_below}
+use Rattle.std.proofs.Math.Nat.{one-mul}
 use Rattle.std.proofs.lemmas.Bool.{ltb-false, lt-ltb, le-ltb, cases_eq, eq-eqb, ne_eqb}
 use Rattle.guest_memory.specs.Memory.{Write, overwrite, write_all, two_words, word_at}
 use Rattle.rings.specs.Ring.{RingState, owned, head_after}
 use Rattle.rx_desc.specs.declared.placing.Placed.TheVariants.{Put, NoRoom, Faulted}
-use Rattle.rx_desc.specs.Receive.{Delivery, deliver_pieces, pieces, slots, data_writes, is_nil, cut, zip_writes, back_writes, passes_end, status}
+use Rattle.rx_desc.specs.Receive.{deliver_pieces, pieces, slots, data_writes, is_nil, cut, zip_writes, back_writes, passes_end, status}
 
 -- the writes from the piece at i on; xs is what is left of the data
 pub rest_writes : List ℕ → ℕ → ℕ → ℕ → List ℕ → List Write
@@ -164,40 +166,76 @@ length-cut b (suc k) xs = let e = length-cut b k (drop b xs) in omega (arith, e)
 abbrev pub count_of : ℕ → List ℕ → ℕ
 count_of b xs = (length xs + b - 1) / b
 
--- the three ends of placing
-
-no_room : (b : ℕ) (lb : Bool) (tag : Option ℕ) (xs m : List ℕ) (r : RingState) → length (owned r) < count_of b xs → deliver_pieces lb tag (pieces b xs) m r ≡ record { placed = NoRoom; memory = m; ring = r }
+-- too few descriptors for the pieces, whose number has a name
+pub deliver-no_room : (b n : ℕ) (lb : Bool) (tag : Option ℕ) (xs m : List ℕ) (r : RingState) → n ≡ count_of b xs → length (owned r) < n → deliver_pieces lb tag (pieces b xs) m r ≡ record { placed = NoRoom; memory = m; ring = r }
 unfolding deliver_pieces
-no_room b lb tag xs m r h =
-    let test : nat_lt (length (owned r)) (length (pieces b xs)) ≡ true = rw length-cut (lt-ltb _ _ h) in
+deliver-no_room b n lb tag xs m r count h =
+    let test : nat_lt (length (owned r)) (length (pieces b xs)) ≡ true = rw length-cut (lt-ltb _ _ (omega (arith, count))) in
     rw test refl
 
-faulted : (b : ℕ) (lb : Bool) (tag : Option ℕ) (xs m : List ℕ) (r : RingState) → count_of b xs ≤ length (owned r) → passes_end (length m) (data_writes (slots r) (pieces b xs) m) ≡ true → deliver_pieces lb tag (pieces b xs) m r ≡ record { placed = Faulted; memory = m; ring = record r { enabled = false } }
+-- n pieces, for which there are enough
+
+pub deliver-faulted : (b n : ℕ) (lb : Bool) (tag : Option ℕ) (xs m : List ℕ) (r : RingState) → n ≤ length (owned r) → passes_end (length m) (data_writes (slots r) (cut b n xs) m) ≡ true → deliver_pieces lb tag (cut b n xs) m r ≡ record { placed = Faulted; memory = m; ring = record r { enabled = false } }
 unfolding deliver_pieces
-faulted b lb tag xs m r h e =
-    let test : nat_lt (length (owned r)) (length (pieces b xs)) ≡ false = rw length-cut (le-ltb _ _ h) in
+deliver-faulted b n lb tag xs m r h e =
+    let test : nat_lt (length (owned r)) (length (cut b n xs)) ≡ false = rw length-cut (le-ltb _ _ h) in
     rw (test, e) refl
 
-put : (b : ℕ) (lb : Bool) (tag : Option ℕ) (xs m : List ℕ) (r : RingState) → count_of b xs ≤ length (owned r) → passes_end (length m) (data_writes (slots r) (pieces b xs) m) ≡ false → deliver_pieces lb tag (pieces b xs) m r ≡ record { placed = Put; memory = write_all (back_writes lb tag (slots r) (pieces b xs)) (write_all (data_writes (slots r) (pieces b xs) m) m); ring = record r { head = head_after (count_of b xs) r } }
+pub deliver-put : (b n : ℕ) (lb : Bool) (tag : Option ℕ) (xs m : List ℕ) (r : RingState) → n ≤ length (owned r) → passes_end (length m) (data_writes (slots r) (cut b n xs) m) ≡ false → deliver_pieces lb tag (cut b n xs) m r ≡ record { placed = Put; memory = write_all (back_writes lb tag (slots r) (cut b n xs)) (write_all (data_writes (slots r) (cut b n xs) m) m); ring = record r { head = head_after n r } }
 unfolding deliver_pieces
-put b lb tag xs m r h e =
-    let test : nat_lt (length (owned r)) (length (pieces b xs)) ≡ false = rw length-cut (le-ltb _ _ h) in
-    let count : length (pieces b xs) ≡ count_of b xs = length-cut b (count_of b xs) xs in
+deliver-put b n lb tag xs m r h e =
+    let test : nat_lt (length (owned r)) (length (cut b n xs)) ≡ false = rw length-cut (le-ltb _ _ h) in
+    let count : length (cut b n xs) ≡ n = length-cut b n xs in
     rw (test, e, count) refl
 
--- the same, with the number of pieces by a name
+-- a text that is no longer than a buffer is one piece
 
-pub deliver-no_room : (b n : ℕ) (lb : Bool) (tag : Option ℕ) (xs m : List ℕ) (r : RingState) → n ≡ count_of b xs → length (owned r) < n → deliver_pieces lb tag (pieces b xs) m r ≡ record { placed = NoRoom; memory = m; ring = r }
-deliver-no_room b n lb tag xs m r count h = no_room b lb tag xs m r (omega (arith, count))
+pub cut-one : (b : ℕ) (xs : List ℕ) → length xs ≤ b → cut b 1 xs ≡ xs ∷ []
+unfolding cut
+cut-one b xs h = ap (λ (p : List ℕ). p ∷ []) (take_all b xs h)
 
-pub deliver-faulted : (b n : ℕ) (lb : Bool) (tag : Option ℕ) (xs m : List ℕ) (r : RingState) → n ≡ count_of b xs → n ≤ length (owned r) → passes_end (length m) (data_writes (slots r) (cut b n xs) m) ≡ true → deliver_pieces lb tag (pieces b xs) m r ≡ record { placed = Faulted; memory = m; ring = record r { enabled = false } }
-deliver-faulted b n lb tag xs m r count h e =
-    faulted b lb tag xs m r (omega (arith, count)) (ap (λ (k : ℕ). passes_end (length m) (data_writes (slots r) (cut b k xs) m)) (sym count) ∙ e)
+pub pieces-one : (b : ℕ) (xs : List ℕ) → 1 ≤ b → count_of b xs ≡ 1 → pieces b xs ≡ xs ∷ []
+pieces-one b xs h count =
+    let n = length xs + b - 1 in
+    let whole : n / b * b + n % b ≡ n = div-add-mod' n b in
+    let once : n / b * b ≡ b = ap (λ (k : ℕ). k * b) count ∙ one-mul b in
+    let below : n % b < b = mod_below n b h in
+    ap (λ (k : ℕ). cut b k xs) count ∙ cut-one b xs (omega (arith, whole, once, below))
 
-pub deliver-put : (b n : ℕ) (lb : Bool) (tag : Option ℕ) (xs m : List ℕ) (r : RingState) → n ≡ count_of b xs → n ≤ length (owned r) → passes_end (length m) (data_writes (slots r) (cut b n xs) m) ≡ false → deliver_pieces lb tag (pieces b xs) m r ≡ record { placed = Put; memory = write_all (back_writes lb tag (slots r) (cut b n xs)) (write_all (data_writes (slots r) (cut b n xs) m) m); ring = record r { head = head_after n r } }
-deliver-put b n lb tag xs m r count h e =
-    put b lb tag xs m r (omega (arith, count)) (ap (λ (k : ℕ). passes_end (length m) (data_writes (slots r) (cut b k xs) m)) (sym count) ∙ e)
-    ∙ ap (λ (k : ℕ). after k) (sym count)
-  where
-    after : ℕ → Delivery
-    after k = record { placed = Put; memory = write_all (back_writes lb tag (slots r) (cut b k xs)) (write_all (data_writes (slots r) (cut b k xs) m) m); ring = record r { head = head_after k r } }
+-- what one piece is written as, and its write-back
+pub record One (lb : Bool) (tag : Option ℕ) (places xs m : List ℕ) (s a word : ℕ) : Type 0 where
+  pub writes : data_writes places (xs ∷ []) m ≡ record { at = a; bytes = xs } ∷ []
+  pub backs : back_writes lb tag places (xs ∷ []) ≡ record { at = s; bytes = two_words 0 word } ∷ []
+
+pub one_piece : (lb : Bool) (tag : Option ℕ) (places xs m : List ℕ) (s a word : ℕ) → 0 < length places → s ≡ get_or places 0 0 → a ≡ word_at s m → word ≡ status lb tag true (length xs) → One lb tag places xs m s a word
+one_piece lb tag places xs m s a word h first at is =
+    let b = length xs in
+    let whole : cut b 1 xs ≡ xs ∷ [] = cut-one b xs (omega arith) in
+    let text : take b xs ≡ xs = take_all b xs (omega arith) in
+    let words = words_at places m in
+    let word_there : get_or words 0 0 ≡ a = get_or-words_at places m 0 h ∙ ap (λ (k : ℕ). word_at k m) (sym first) ∙ sym at in
+    let count : 0 < length words = omega (arith, length-words_at places m) in
+    let writes = sym (rest_writes-none words b 1 xs) ∙ rest_writes-more words b 1 0 xs (omega arith) count ∙ ap (λ (ws : List Write). record { at = get_or words 0 0; bytes = take b xs } ∷ ws) (rest_writes-all words b 1 1 (drop b xs) (omega arith)) in
+    let backs = sym (rest_backs-none lb tag places b 1 xs) ∙ rest_backs-more lb tag places b 1 0 xs (omega arith) h ∙ ap (λ (ws : List Write). record { at = get_or places 0 0; bytes = two_words 0 (status lb tag true (length (take b xs))) } ∷ ws) (rest_backs-all lb tag places b 1 1 (drop b xs) (omega arith)) in
+    record {
+      writes = ap (λ (ps : List (List ℕ)). data_writes places ps m) (sym whole) ∙ sym (words_at-is places m b 1 xs) ∙ writes ∙ ap (λ (k : ℕ). record { at = k; bytes = take b xs } ∷ []) word_there ∙ ap (λ (p : List ℕ). record { at = a; bytes = p } ∷ []) text;
+      backs = ap (back_writes lb tag places) (sym whole) ∙ backs ∙ rw (text, sym first, is) refl;
+    }
+
+-- the two ends of one piece, for which a descriptor is owned
+
+pub one-faulted : (lb : Bool) (tag : Option ℕ) (xs m : List ℕ) (r : RingState) (s a : ℕ) → 0 < length (owned r) → s ≡ get_or (slots r) 0 0 → a ≡ word_at s m → length m < a + length xs → deliver_pieces lb tag (xs ∷ []) m r ≡ record { placed = Faulted; memory = m; ring = record r { enabled = false } }
+unfolding deliver_pieces
+one-faulted lb tag xs m r s a h first at past =
+    let one = one_piece lb tag (slots r) xs m s a (status lb tag true (length xs)) (omega (arith, length-slots r)) first at refl in
+    let test : nat_lt (length (owned r)) 1 ≡ false = le-ltb _ _ h in
+    let passes : passes_end (length m) (data_writes (slots r) (xs ∷ []) m) ≡ true = passes_end-more (length m) _ [] a xs one.writes ∙ rw (lt-ltb (length m) (a + length xs) past) refl in
+    rw (test, passes) refl
+
+pub one-put : (lb : Bool) (tag : Option ℕ) (xs m : List ℕ) (r : RingState) (s a word : ℕ) → 0 < length (owned r) → s ≡ get_or (slots r) 0 0 → a ≡ word_at s m → a + length xs ≤ length m → word ≡ status lb tag true (length xs) → deliver_pieces lb tag (xs ∷ []) m r ≡ record { placed = Put; memory = overwrite s (two_words 0 word) (overwrite a xs m); ring = record r { head = head_after 1 r } }
+unfolding deliver_pieces write_all
+one-put lb tag xs m r s a word h first at fits is =
+    let one = one_piece lb tag (slots r) xs m s a word (omega (arith, length-slots r)) first at is in
+    let test : nat_lt (length (owned r)) 1 ≡ false = le-ltb _ _ h in
+    let passes : passes_end (length m) (data_writes (slots r) (xs ∷ []) m) ≡ false = passes_end-more (length m) _ [] a xs one.writes ∙ rw (le-ltb (length m) (a + length xs) fits) (passes_end-none (length m) [] refl) in
+    rw (test, passes, one.writes, one.backs) refl

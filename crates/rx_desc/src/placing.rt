@@ -1,5 +1,5 @@
 //! Placing a frame.
-ghost use Rattle.std.specs.Prelude.{◌≡◌, ℕ, ◌+◌, ◌*◌, ◌-◌, ◌^◌, ◌<◌, ◌≤◌, length, false, is_none, IfSome, IsTrue};
+ghost use Rattle.std.specs.Prelude.{◌≡◌, ℕ, ◌+◌, ◌*◌, ◌-◌, ◌^◌, ◌<◌, ◌≤◌, length, false, is_none, IfSome, IsTrue, [], ◌∷◌};
 ghost use Rattle.guest_memory.specs.Memory.{write_all};
 ghost use Rattle.rings.specs.Ring.{owned, LiesInside};
 ghost use Rattle.rx_desc.specs.Parts.{text_of};
@@ -116,6 +116,66 @@ fn place_data<M: GuestMem>(
     if count > ring.available() as usize {
         return Placed::NoRoom;
     }
+    if count == 1 {
+        return place_one(memory, ring, source, loopback, tag);
+    }
+    place_many(memory, ring, size, source, count, loopback, tag)
+}
+
+// Places `source` in one buffer, for which a descriptor is owned. Nothing is kept beside that descriptor's word.
+#[inline]
+fn place_one<M: GuestMem>(
+    memory: &mut M,
+    ring: &mut Ring,
+    source: Parts,
+    loopback: bool,
+    tag: Option<u16>,
+) -> Placed
+    requires short { length (text_of source) ≤ 9018 }
+    requires room { 1 ≤ length (owned ring.old) }
+    requires inside { LiesInside (length (M.bytes memory.old)) ring.old }
+    ensures placed { result ≡ (deliver_pieces loopback tag (text_of source.entry ∷ []) (M.bytes memory.old) ring.old).placed }
+    ensures written { M.bytes memory.new ≡ (deliver_pieces loopback tag (text_of source.entry ∷ []) (M.bytes memory.old) ring.old).memory }
+    ensures ring { ring.new ≡ (deliver_pieces loopback tag (text_of source.entry ∷ []) (M.bytes memory.old) ring.old).ring }
+    ensures size { length (M.bytes memory.new) ≡ length (M.bytes memory.old) }
+    ensures inside { LiesInside (length (M.bytes memory.new)) ring.new }
+    ensures on { IsTrue ring.new.enabled → IsTrue ring.old.enabled }
+{
+    let descriptor = ring.slot(0);
+    let address = read_word(memory, descriptor);
+    let end = memory.size();
+    let len = source.len() as u64;
+    if len > end || address > end - len {
+        ring.disable();
+        return Placed::Faulted;
+    }
+    write_parts(memory, address, &source);
+    write_words(memory, descriptor, 0, status(len, loopback, tag, true));
+    ring.advance(1);
+    Placed::Put
+}
+
+// Places `source` in the buffers of as many descriptors as it has pieces, which are owned.
+fn place_many<M: GuestMem>(
+    memory: &mut M,
+    ring: &mut Ring,
+    size: usize,
+    source: Parts,
+    count: usize,
+    loopback: bool,
+    tag: Option<u16>,
+) -> Placed
+    requires nine { count ≤ 9 }
+    requires short { length (text_of source) ≤ 9018 }
+    requires room { count ≤ length (owned ring.old) }
+    requires inside { LiesInside (length (M.bytes memory.old)) ring.old }
+    ensures placed { result ≡ (deliver_pieces loopback tag (cut size count (text_of source.entry)) (M.bytes memory.old) ring.old).placed }
+    ensures written { M.bytes memory.new ≡ (deliver_pieces loopback tag (cut size count (text_of source.entry)) (M.bytes memory.old) ring.old).memory }
+    ensures ring { ring.new ≡ (deliver_pieces loopback tag (cut size count (text_of source.entry)) (M.bytes memory.old) ring.old).ring }
+    ensures size { length (M.bytes memory.new) ≡ length (M.bytes memory.old) }
+    ensures inside { LiesInside (length (M.bytes memory.new)) ring.new }
+    ensures on { IsTrue ring.new.enabled → IsTrue ring.old.enabled }
+{
     let Some(addresses) = buffers(memory, ring, size, source, count) else {
         ring.disable();
         return Placed::Faulted;

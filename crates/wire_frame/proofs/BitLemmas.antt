@@ -1,12 +1,13 @@
 -- Bits of what the code computes: or, and, shifts, two words as one, a loop that sets bits.
-use Rattle.std.proofs.Common.{arith, ◌≡◌, ℕ, zero, suc, ◌+◌, ◌-◌, ◌*◌, ◌/◌, ◌%◌, ◌^◌, ◌<◌, ◌≤◌, min, max, Bool, true, false, ◌&&◌, ◌||◌, [], ◌∷◌, refl, sym, ap, ◌∙◌, eqb, eqb-true, add-one, ltb, get_or, bit_and, bit_or, ⊎_elim}
-use Rattle.std.specs.Int.{bit_at, w64}
+use Rattle.std.proofs.Common.{arith, ◌≡◌, ◌≢◌, ℕ, zero, suc, ◌+◌, ◌-◌, ◌*◌, ◌/◌, ◌%◌, ◌^◌, ◌<◌, ◌≤◌, min, max, Bool, true, false, ◌&&◌, ◌||◌, List, [], ◌∷◌, length, set, refl, sym, ap, ◌∙◌, eqb, eqb-true, add-one, ltb, get_or, bit_and, bit_or, ⊎_elim}
+use Rattle.std.specs.Int.{bit_at, bit_not, trailing_zeros, w64}
 use Rattle.std.specs.List.{list_any, range_with_len}
 use Rattle.std.proofs.lemmas.Bool.Decides.{nat_tests}
 use Rattle.std.proofs.lemmas.Bool.{eqb-false, cases_lt}
 use Rattle.std.proofs.Math.Bool.{or-true, or-false, or_assoc}
-use Rattle.std.proofs.lemmas.Nat.{or_shifted, or_comm}
-use Rattle.std.proofs.lemmas.Nat.Bits.{bit_at_or, bit_at_and, bit_at-lt, bit_at-zero, bit_at_ones, bit_at_set_same, bit_at_set_other, bit_at_cat_low, bit_at_cat_high, shr_and_one}
+use Rattle.std.proofs.lemmas.Nat.{or_shifted, or_comm, and_le_l}
+use Rattle.std.proofs.lemmas.Nat.Bits.{bit_at_or, bit_at_and, bit_at-lt, bit_at-zero, bit_at_ones, bit_at_set_same, bit_at_set_other, bit_at_clear_same, bit_at_clear_other, bit_at-trailing_zeros, bit_at_cat_low, bit_at_cat_high, shr_and_one}
+use Rattle.std.proofs.lemmas.List.{get_or-set_same, get_or-set_other}
 use Rattle.wire_frame.specs.Bits.{has_bit, has_bit_in}
 
 max-one : (x y : ℕ) → x < 2 → y < 2 → eqb (max x y) 1 ≡ (eqb x 1 || eqb y 1)
@@ -113,3 +114,41 @@ list_any-range_more t n =
 pub joined_more : (t : ℕ → Bool) (pools mask p n : ℕ) → has_bit pools p ≡ list_any t (range_with_len 0 n) → has_bit mask p ≡ t n → has_bit (bit_or pools mask) p ≡ list_any t (range_with_len 0 (n + 1))
 joined_more t pools mask p n so_far entry =
     has_bit_or pools mask p ∙ ap (λ b. b || has_bit mask p) so_far ∙ ap (λ b. list_any t (range_with_len 0 n) || b) entry ∙ sym (list_any-range_more t n)
+
+-- ---- a loop over the bits of a word, which takes the lowest from it at each turn
+
+-- a bit that is left after one was taken is another one, and was there before
+pub still_left : (rest p k : ℕ) → p < 64 → bit_at (bit_and rest (bit_not w64 (1 * 2 ^ p % 18446744073709551616))) k ≡ 1 → (k ≢ p) × (bit_at rest k ≡ 1)
+still_left rest p k within left =
+    let before : bit_at rest k ≡ 1 = omega (arith, left, bit_at_and rest (bit_not w64 (1 * 2 ^ p % 18446744073709551616)) k, bit_at-lt rest k) in
+    let other : k ≢ p = λ same. absurd (omega (arith, left, ap (bit_at (bit_and rest (bit_not w64 (1 * 2 ^ p % 18446744073709551616)))) same, bit_at_clear_same w64 rest p within)) in
+    (other, before)
+
+-- once the lowest is taken, the word is smaller
+pub fewer_left : (rest : ℕ) → 0 < rest → rest < 2 ^ 64 → bit_and rest (bit_not w64 (1 * 2 ^ trailing_zeros w64 rest % 18446744073709551616)) < rest
+fewer_left rest some fits = smaller (eqb less rest) refl
+  where
+    lowest : ℕ
+    lowest = trailing_zeros w64 rest
+
+    less : ℕ
+    less = bit_and rest (bit_not w64 (1 * 2 ^ lowest % 18446744073709551616))
+
+    smaller : (same : Bool) → eqb less rest ≡ same → less < rest
+    smaller true is =
+        let there = bit_at-trailing_zeros w64 rest some fits in
+        let cleared = bit_at_clear_same w64 rest lowest there.0 in
+        absurd (omega (arith, ap (λ n. bit_at n lowest) (eqb-true less rest is), there.1, cleared))
+    smaller false is = omega (arith, and_le_l rest (bit_not w64 (1 * 2 ^ lowest % 18446744073709551616)), eqb-false less rest is)
+
+-- what is done at the bit that is taken is done at one place more
+pub done_more : {X : Type 0} (f : ℕ → X) (xs : List X) (n rest p : ℕ) (x d : X) → p < 64 → n ≤ 64 → p < length xs → x ≡ f p
+    → ((k : ℕ) → k < n → bit_at rest k ≡ 0 → get_or xs k d ≡ f k)
+    → (k : ℕ) → k < n → bit_at (bit_and rest (bit_not w64 (1 * 2 ^ p % 18446744073709551616))) k ≡ 0 → get_or (set xs p x) k d ≡ f k
+done_more f xs n rest p x d within few there is done k below left = at (eqb k p) refl
+  where
+    at : (same : Bool) → eqb k p ≡ same → get_or (set xs p x) k d ≡ f k
+    at true e = let here : k ≡ p = eqb-true k p e in rw here (get_or-set_same xs p x d there ∙ is)
+    at false e =
+        let elsewhere : k ≢ p = eqb-false k p e in
+        get_or-set_other xs p k x d elsewhere ∙ done k below (sym (bit_at_clear_other w64 rest p within k (omega arith) elsewhere) ∙ left)

@@ -1,9 +1,8 @@
--- Each end of placing is the definition's: too few descriptors, a piece past the memory's end, or all writes in order.
+-- Placing is the definition's where there are too few descriptors, and where the bytes are one piece.
 use Rattle.std.proofs.Common.{◌≡◌, ℕ, ◌+◌, ◌-◌, ◌/◌, List, sym, ap, ◌∙◌, arith}
-use Rattle.rx_desc.specs.Receive.{Delivery, slots, cut, back_writes}
+use Rattle.rx_desc.specs.Receive.{Delivery, deliver_pieces}
 use Rattle.rx_desc.specs.Parts.{text_of}
-use Rattle.guest_memory.specs.Memory.{Write, write_all}
-use Rattle.rx_desc.proofs.Pieces.{deliver-no_room, deliver-faulted, deliver-put}
+use Rattle.rx_desc.proofs.Pieces.{deliver-no_room, pieces-one}
 use Rattle.rx_desc.proofs.placing.place_data.Goals as goal
 
 counted : (b : ℕ) {l k : ℕ} → l ≡ k → (l + b - 1) / b ≡ (k + b - 1) / b
@@ -18,26 +17,11 @@ returns-then-count-available-clause-written g c = ap (λ (d : Delivery). d.memor
 pub returns-then-count-available-clause-ring : goal.returns-then-count-available-clause-ring
 returns-then-count-available-clause-ring g c = ap (λ (d : Delivery). d.ring) (sym (deliver-no_room _ _ _ _ _ _ _ (counted c.args.size c.len.ensures) (omega arith)))
 
-pub returns-in_default-clause-placed : goal.returns-in_default-clause-placed
-returns-in_default-clause-placed g c = ap (λ (d : Delivery). d.placed) (sym (deliver-faulted _ _ _ _ _ _ _ (counted c.args.size c.len.ensures) (omega arith) (sym c.in_default.ensures.variant)))
+pub returns-then-count-eq1-clause-placed : goal.returns-then-count-eq1-clause-placed
+returns-then-count-eq1-clause-placed g c = c.place_one.ensures.placed ∙ ap (λ (ps : List (List ℕ)). (deliver_pieces c.args.loopback c.args.tag ps (g.M.GuestMem.bytes c.args.memory.now) c.args.ring.now).placed) (sym (pieces-one c.args.size (text_of c.args.source) (omega arith) (counted c.args.size (sym c.len.ensures) ∙ c.if-count-eq1.true)))
 
-pub returns-in_default-clause-written : goal.returns-in_default-clause-written
-returns-in_default-clause-written g c = ap (λ (d : Delivery). d.memory) (sym (deliver-faulted _ _ _ _ _ _ _ (counted c.args.size c.len.ensures) (omega arith) (sym c.in_default.ensures.variant)))
+pub returns-then-count-eq1-clause-written : goal.returns-then-count-eq1-clause-written
+returns-then-count-eq1-clause-written g c = c.place_one.ensures.written ∙ ap (λ (ps : List (List ℕ)). (deliver_pieces c.args.loopback c.args.tag ps (g.M.GuestMem.bytes c.args.memory.now) c.args.ring.now).memory) (sym (pieces-one c.args.size (text_of c.args.source) (omega arith) (counted c.args.size (sym c.len.ensures) ∙ c.if-count-eq1.true)))
 
-pub returns-in_default-clause-ring : goal.returns-in_default-clause-ring
-returns-in_default-clause-ring g c = c.disable.ensures ∙ ap (λ (d : Delivery). d.ring) (sym (deliver-faulted _ _ _ _ _ _ _ (counted c.args.size c.len.ensures) (omega arith) (sym c.in_default.ensures.variant)))
-
-pub returns-clause-placed : goal.returns-clause-placed
-returns-clause-placed g c = ap (λ (d : Delivery). d.placed) (sym (deliver-put _ _ _ _ _ _ _ (counted c.args.size c.len.ensures) (omega arith) (sym c.in-Some.ensures.variant)))
-
-pub returns-clause-written : goal.returns-clause-written
-returns-clause-written g c =
-    let backs = back_writes c.args.loopback c.args.tag (slots c.args.ring.now) (cut c.args.size ((c.len.result + c.args.size - 1) / c.args.size) (text_of c.args.source)) in
-    let first = g.M.GuestMem.bytes c.args.memory.now in
-    c.write_back.ensures.written
-    ∙ ap (write_all backs) c.write_pieces.ensures.written
-    ∙ ap (λ (ws : List Write). write_all backs (write_all ws first)) c.in-Some.ensures.value
-    ∙ ap (λ (d : Delivery). d.memory) (sym (deliver-put _ _ _ _ _ _ _ (counted c.args.size c.len.ensures) (omega arith) (sym c.in-Some.ensures.variant)))
-
-pub returns-clause-ring : goal.returns-clause-ring
-returns-clause-ring g c = c.advance.ensures ∙ ap (λ (d : Delivery). d.ring) (sym (deliver-put _ _ _ _ _ _ _ (counted c.args.size c.len.ensures) (omega arith) (sym c.in-Some.ensures.variant)))
+pub returns-then-count-eq1-clause-ring : goal.returns-then-count-eq1-clause-ring
+returns-then-count-eq1-clause-ring g c = c.place_one.ensures.ring ∙ ap (λ (ps : List (List ℕ)). (deliver_pieces c.args.loopback c.args.tag ps (g.M.GuestMem.bytes c.args.memory.now) c.args.ring.now).ring) (sym (pieces-one c.args.size (text_of c.args.source) (omega arith) (counted c.args.size (sym c.len.ensures) ∙ c.if-count-eq1.true)))

@@ -3,7 +3,8 @@ use Rattle.std.proofs.Common.{sym, ap, ◌∙◌, refl, rules}
 use Rattle.std.specs.Int.{bit_at, w64}
 use Rattle.std.proofs.lemmas.Nat.Bits.{bit_at-zero, bit_at-trailing_zeros}
 use Rattle.std.proofs.lemmas.List.{get_or-replicate, length-set}
-use Rattle.irq_causes.proofs.MessageLemmas.{masks_as, none_left, fewer_left, filled_more}
+use Rattle.wire_frame.proofs.BitLemmas.{fewer_left}
+use Rattle.irq_causes.proofs.MessageLemmas.{masks_as, none_left, filled_more}
 use Rattle.irq_causes.proofs.messages.Messages.to_masks.Goals as goal
 
 pub loop-rest-init : goal.loop-rest-init

@@ -1,12 +1,11 @@
 -- Blocks of a text, of which the end of one is kept for the next.
-use Rattle.std.proofs.Common.{◌≡◌, ℕ, ◌+◌, ◌-◌, ◌≤◌, List, [], ◌∷◌, ◌++◌, Option, Some, None, Result, Ok, Err, IfSome, length, length-drop, append-nil, take, drop, refl, sym, ap, ◌∙◌, arith}
+use Rattle.std.proofs.Common.{◌≡◌, ℕ, ◌+◌, ◌-◌, ◌≤◌, List, [], ◌++◌, Option, Some, None, Result, Err, IfSome, length, length-drop, append-nil, take, drop, sym, ap, ◌∙◌, arith}
 use Rattle.std.specs.List.{copy_within}
 use Rattle.std.specs.Io.KnownBytes.{Consumes, IsAtEnd}
 use Rattle.std.proofs.lemmas.List.{append_assoc, drop-take}
 use Rattle.std.proofs.lemmas.List.Edits.{take-paste}
 use Rattle.std.proofs.Math.Seq.{take-add}
-use Rattle.device.specs.declared.event.Event.{Event}
-use Rattle.script.specs.Reading.{Asked, Reading, at_first, finished, lines_of, ok_then, read_on, script_of}
+use Rattle.script.specs.Reading.{Meaning, Reading, at_first, finished, lines_of, ok_then, read_on, script_of}
 
 pub end_moved : (old new : List ℕ) (end left : ℕ) → left ≤ end → end ≤ length old → new ≡ copy_within old (end - left) end 0
     → take left new ≡ drop (end - left) (take end old)
@@ -58,7 +57,7 @@ reads_bad (Some text) None new held more both now n on takes joined bad = absurd
 reads_bad (Some text) (Some left) None held more both now n on takes joined bad = absurd takes
 
 -- the reader is at its end
-pub reads_last : (known old new : Option (List ℕ)) (held none : List ℕ) (now : Reading) (end : Result (Asked × List Event) ℕ)
+pub reads_last : (known old new : Option (List ℕ)) (held none : List ℕ) (now : Reading) (end : Result Meaning ℕ)
     → ReadsOn known old held now → Consumes old new none → none ≡ [] → IsAtEnd new
     → ok_then (read_on (lines_of held) now) finished ≡ end → IfSome known (λ text. script_of text ≡ end)
 reads_last None old new held none now end on takes nothing at_end is = tt
@@ -74,9 +73,3 @@ reads_last (Some text) (Some left) None held none now end on takes nothing at_en
 pub held_more : (old new : List ℕ) (filled count : ℕ) → take filled new ≡ take filled old
     → take (filled + count) new ≡ take filled old ++ take count (drop filled new)
 held_more old new filled count front = take-add filled count new ∙ ap (λ (xs : List ℕ). xs ++ take count (drop filled new)) front
-
--- the device that was asked for, said of the text alone
-pub said_of : (known : Option (List ℕ)) (device : Asked) (events : List Event) → IfSome known (λ text. script_of text ≡ Ok (device, events))
-    → IfSome known (λ text. (asked : Asked) × (script_of text ≡ Ok (asked, events)))
-said_of None device events is = tt
-said_of (Some text) device events is = (device, is)

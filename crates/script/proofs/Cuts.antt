@@ -1,11 +1,11 @@
 -- The parts of a text, from the first place of a byte.
-use Rattle.std.proofs.Common.{◌≡◌, ◌≢◌, ℕ, ◌==◌, true, false, List, [], ◌∷◌, ◌+◌, ◌-◌, ◌<◌, ◌≤◌, length, length-drop, take, drop, slice_index, sym, ap, ◌∙◌, arith}
-use Rattle.std.specs.List.{All, position_or_len, before_first, after_first}
+use Rattle.std.proofs.Common.{◌≡◌, ℕ, ◌==◌, false, List, [], ◌∷◌, ◌+◌, ◌-◌, length, length-drop, take, drop, sym, ap, ◌∙◌, arith}
+use Rattle.std.specs.List.{All, position_or_len}
 use Rattle.std.proofs.lemmas.Bool.{false_from_ne_true}
 use Rattle.std.proofs.lemmas.List.{get_or_default, take_all}
 use Rattle.std.proofs.lemmas.List.Sums.{position_or_len_is}
 use Rattle.std.proofs.lemmas.List.Splits.{slice_split_none, slice_split_first}
-use Rattle.memchr.specs.Find.{IsFirstByte, Nowhere, NoneBefore, Passes, is_byte}
+use Rattle.memchr.specs.Find.{Nowhere, NoneBefore, Passes, is_byte}
 use Rattle.script.specs.Text.{parts}
 
 -- a text that has the byte

@@ -1,5 +1,5 @@
 -- The bytes of pairs of digits, one after another.
-use Rattle.std.proofs.Common.{◌≡◌, ℕ, Bool, true, false, List, [], ◌∷◌, ◌++◌, ◌+◌, ◌-◌, ◌*◌, ◌%◌, ◌&&◌, ◌<◌, ◌≤◌, Option, Some, None, nat_lt, nat_le, max, min, length, length-drop, length-take, take, drop, slice_index, slice_set, if◌then◌else◌, refl, sym, ap, ◌∙◌, arith}
+use Rattle.std.proofs.Common.{◌≡◌, ℕ, Bool, true, false, List, [], ◌∷◌, ◌++◌, ◌+◌, ◌-◌, ◌*◌, ◌%◌, ◌&&◌, ◌<◌, ◌≤◌, Option, Some, None, nat_lt, nat_le, max, length, length-drop, length-take, take, drop, slice_index, slice_set, if◌then◌else◌, refl, sym, ap, ◌∙◌, arith}
 use Rattle.std.specs.Prelude.{MatchOption, option_and_then}
 use Rattle.std.specs.Ordering.{ord_max, nat_cmp}
 use Rattle.std.proofs.lemmas.List.{append_assoc, append-nil, length-set, take_all, take_more_set}

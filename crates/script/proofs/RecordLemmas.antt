@@ -1,5 +1,5 @@
 -- Records stay what they are where more bytes are kept behind those of theirs.
-use Rattle.std.proofs.Common.{◌≡◌, ℕ, List, [], ◌∷◌, ◌++◌, ◌≤◌, ◌+◌, Option, Some, Result, Ok, Err, OnErr, length, length-append, length-drop, take, drop, map, refl, sym, ap, ◌∙◌, subst, arith}
+use Rattle.std.proofs.Common.{◌≡◌, ℕ, List, [], ◌∷◌, ◌++◌, ◌≤◌, Result, Ok, Err, OnErr, length, length-append, length-drop, take, drop, map, refl, sym, ap, ◌∙◌, subst, arith}
 use Rattle.std.specs.List.{All}
 use Rattle.std.proofs.lemmas.List.{map-append, take-append-le, drop-append-le, take-append-drop}
 use Rattle.std.proofs.lemmas.List.Elements.{All-head, All-tail, All-weaker, All-push}
@@ -9,7 +9,6 @@ use Rattle.script.specs.declared.record.Record.{Record}
 use Rattle.script.specs.declared.record.Record.TheVariants.{MemWrite, Wire}
 use Rattle.script.specs.declared.runs.Run.{Run}
 use Rattle.script.specs.declared.runs.Span.{Span}
-use Rattle.script.specs.Lines.{Says}
 use Rattle.script.specs.Runs.{Grows, Kept, Lies, bytes_at, bytes_by, runs_at, taken_by}
 use Rattle.script.specs.Records.{Fits, event_at}
 use Rattle.script.proofs.RunLemmas.{bytes_more}

@@ -1,5 +1,5 @@
 -- Runs over a pool, where more of both is added behind.
-use Rattle.std.proofs.Common.{◌≡◌, ℕ, List, [], ◌∷◌, ◌++◌, ◌≤◌, ◌<◌, ◌+◌, ◌-◌, Option, Some, None, min, length, length-append, length-drop, length-take, append-nil, take, drop, replicate, refl, sym, ap, ◌∙◌, subst, arith}
+use Rattle.std.proofs.Common.{◌≡◌, ℕ, List, [], ◌∷◌, ◌++◌, ◌≤◌, ◌+◌, ◌-◌, Option, Some, None, length, length-append, length-drop, length-take, append-nil, take, drop, replicate, refl, sym, ap, ◌∙◌, subst, arith}
 use Rattle.std.proofs.lemmas.List.{append_assoc, take-append-le, drop-append-le, drop_all, take_all, take-take}
 use Rattle.script.specs.declared.runs.Run.{Run}
 use Rattle.script.specs.declared.runs.Run.TheVariants.{Plain, Repeated}

@@ -1,5 +1,5 @@
 -- What the text of a script says, line by line.
-use Rattle.std.specs.Prelude.{◌≡◌, ℕ, ◌+◌, Bool, true, false, not, ◌&&◌, ◌==◌, List, [], ◌∷◌, ◌++◌, Option, Some, None, Result, Ok, Err, length, slice_index, codes, nat_le, nat_lt, ok_or, if◌then◌else◌}
+use Rattle.std.specs.Prelude.{◌≡◌, ℕ, ◌+◌, Bool, true, false, ◌&&◌, is_none, ◌==◌, List, [], ◌∷◌, ◌++◌, Option, Some, None, Result, Ok, Err, length, slice_index, codes, nat_le, nat_lt, ok_or, if◌then◌else◌}
 use Rattle.std.specs.Option.{option_map}
 use Rattle.std.specs.Str.{bytes_eq}
 use Rattle.guest_memory.specs.Memory.{is_memory_size}
@@ -49,17 +49,17 @@ pub record Reading : Type 0 where
   -- how many they are
   pub lines : ℕ
   pub device : Option Asked
-  -- a line `go` was among them
-  pub has_go : Bool
+  -- a line `go` was among them, after so many events
+  pub go : Option ℕ
   pub events : List Event
 
 abbrev pub at_first : Reading
-at_first = record { lines = 0; device = None; has_go = false; events = [] }
+at_first = record { lines = 0; device = None; go = None; events = [] }
 
 -- a line with words, after the device was asked for: one `go`, or one of at most 60,000 events
 abbrev pub said_then : Reading → Asked → List ℕ → List (List ℕ) → Option Reading
 said_then r device name words =
-    if bytes_eq name (codes "go") && not r.has_go then option_map (λ _. record r { has_go = true }) (none_of words) else
+    if bytes_eq name (codes "go") && is_none r.go then option_map (λ _. record r { go = Some (length r.events) }) (none_of words) else
     if nat_lt (length r.events) 60000 then (do
       kind ← kind_of name
       event ← event_by device.limit kind words
@@ -112,10 +112,20 @@ abbrev pub read_on : List (List ℕ) → Reading → Result Reading ℕ
 read_on [] r = Ok r
 read_on (line ∷ rest) r = ok_then (ok_or (line_after r line) (r.lines + 1)) (read_on rest)
 
--- a script that asks for no device is bad at its first line
-abbrev pub finished : Reading → Result (Asked × List Event) ℕ
-finished r = ok_or (option_map (λ device. (device, r.events)) r.device) 1
+-- what a script says: the device that it asks for, the events that it gives to it, and how many of them come before its
+-- line `go`, if it has one
+pub record Meaning : Type 0 where
+  pub device : Asked
+  pub go : Option ℕ
+  pub events : List Event
 
--- the device and the events of a script, or the number of its first bad line
-abbrev pub script_of : List ℕ → Result (Asked × List Event) ℕ
+abbrev pub meant : Option ℕ → List Event → Asked → Meaning
+meant go events device = record { device = device; go = go; events = events }
+
+-- a script that asks for no device is bad at its first line
+abbrev pub finished : Reading → Result Meaning ℕ
+finished r = ok_or (option_map (meant r.go r.events) r.device) 1
+
+-- what a script says, or the number of its first bad line
+abbrev pub script_of : List ℕ → Result Meaning ℕ
 script_of text = ok_then (read_on (lines_of text) at_first) finished

@@ -1,6 +1,5 @@
 -- The events of records, whose bytes stand elsewhere.
-use Rattle.std.specs.Prelude.{ℕ, ◌≤◌, List, length, map}
-use Rattle.std.specs.List.{All}
+use Rattle.std.specs.Prelude.{◌≤◌, length}
 use Rattle.wire_frame.specs.Frame.{IsFrame}
 use Rattle.device.specs.declared.event.Event.{Event}
 use Rattle.device.specs.declared.event.Event.TheVariants.{Open, End, VfRead, VfWrite, MemRead, MemWrite, Serve, Flr, PfRead, PfWrite, PfReset, Wire}

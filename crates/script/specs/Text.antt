@@ -1,5 +1,5 @@
 -- Texts in parts.
-use Rattle.std.specs.Prelude.{◌≡◌, ℕ, false, ◌==◌, List, [], ◌∷◌, Option, Some, None}
+use Rattle.std.specs.Prelude.{◌≡◌, ℕ, false, ◌==◌, List, [], Option, Some, None}
 use Rattle.std.specs.List.{All, slice_split}
 
 -- the parts of a text between the places where a byte stands

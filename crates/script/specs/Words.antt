@@ -1,5 +1,5 @@
 -- The words of a line, and the numbers that they write.
-use Rattle.std.specs.Prelude.{ℕ, Bool, List, [], ◌∷◌, Option, Some, None, length, filter, nat_le, if◌then◌else◌}
+use Rattle.std.specs.Prelude.{ℕ, List, [], ◌∷◌, Option, Some, None, length, filter, nat_le, if◌then◌else◌}
 use Rattle.std.specs.Option.{option_map}
 use Rattle.vf_unit.specs.declared.registers.Queue.{Queue}
 use Rattle.vf_unit.specs.declared.registers.Queue.TheVariants.{Q0, Q1}

@@ -1,4 +1,8 @@
-//! Scripts of events.
+//! Scripts of events: read, checked whole, and told one event at a time.
+//!
+//! A [`Script`] is read from its text and seen as what the text says by the grammar of `specs/`: the device that it asks for
+//! and the list of its events, or the first bad line. It is kept in few bytes; a request is made of a record where it is
+//! asked for, in a [`Room`] that is lent. The crate stands on `device`.
 #![tactic(auto)]
 
 mod events;
@@ -12,6 +16,8 @@ pub mod room;
 mod runs;
 pub mod script;
 pub mod shape;
+#[cfg(test)]
+mod tests;
 mod text;
 mod words;
 

@@ -1,7 +1,7 @@
 //! A script while it is read, line by line.
-ghost use Rattle.std.specs.Prelude.{◌≡◌, ℕ, ◌+◌, ◌-◌, ◌≤◌, ◌++◌, ◌==◌, ◌||◌, ◌&&◌, nat_le, nat_lt, List, Some, None, Ok, Err, length, drop, OnOk, OnErr, IfOk, IfErr};
+ghost use Rattle.std.specs.Prelude.{◌≡◌, ℕ, ◌+◌, ◌-◌, ◌≤◌, ◌++◌, ◌==◌, ◌||◌, ◌&&◌, nat_le, nat_lt, List, Some, None, Ok, Err, length, drop, OnOk, OnErr, IfOk, IfErr, IfSome};
 ghost use Rattle.script.specs.Text.{IsWithout};
-ghost use Rattle.script.specs.Reading.{at_first, finished, heard, line_after, lines_of, ok_then, read_on};
+ghost use Rattle.script.specs.Reading.{at_first, finished, heard, line_after, lines_of, meant, ok_then, read_on};
 ghost use Rattle.script.specs.Shapes.{asked_by};
 
 use crate::events::Events;
@@ -27,12 +27,13 @@ pub struct Reader {
     // How many lines there were.
     lines: u32,
     shape: Option<Shape>,
-    has_go: bool,
+    // how many events came before `go`, if it came
+    go: Option<usize>,
     events: Events,
 }
 
 impl Model for Reader {
-    ghost use Rattle.std.specs.Prelude.{◌≤◌};
+    ghost use Rattle.std.specs.Prelude.{◌≤◌, IfSome, length};
     ghost use Rattle.std.specs.Option.{option_map};
     ghost use Rattle.script.specs.Reading.{Reading};
     ghost use Rattle.script.specs.Shapes.{asked_by};
@@ -42,11 +43,11 @@ impl Model for Reader {
     ghost view = { λ r. record {
       lines = r.lines;
       device = option_map asked_by r.shape;
-      has_go = r.has_go;
+      go = r.go;
       events = r.events;
     } };
 
-    ghost invariant = { λ r. r.lines ≤ 100000 };
+    ghost invariant = { λ r. (r.lines ≤ 100000) × IfSome r.go (λ before. before ≤ length r.events) };
 }
 
 impl Reader {
@@ -57,7 +58,7 @@ impl Reader {
         Reader {
             lines: 0,
             shape: None,
-            has_go: false,
+            go: None,
             events: Events::new(alloc),
         }
     }
@@ -77,9 +78,9 @@ impl Reader {
         };
         match self.shape {
             None if name == b"vfs".as_slice() => self.shape = Some(Shape::of_words(words)?),
-            Some(_) if name == b"go".as_slice() && !self.has_go => {
+            Some(_) if name == b"go".as_slice() && self.go.is_none() => {
                 words.none()?;
-                self.has_go = true;
+                self.go = Some(self.events.len());
             }
             Some(shape) if self.events.len() < MOST_EVENTS => {
                 let kind = Kind::named(name).ok_or(Refusal::BadLine)?;
@@ -166,11 +167,16 @@ impl Reader {
         self.line(line, room)
     }
 
-    /// The device and the events, after a last line without LF, if there is one.
-    pub fn finish(mut self, rest: &[u8], room: &mut Room) -> Result<(Shape, Events), Fault>
+    /// The device, how many events come before `go`, and the events, after a last line without LF, if there is one.
+    pub fn finish(
+        mut self,
+        rest: &[u8],
+        room: &mut Room,
+    ) -> Result<(Shape, Option<usize>, Events), Fault>
         requires { IsWithout 10 rest.now }
         ensures ok { IfOk result (λ read. ok_then (read_on (lines_of rest.now) self) finished
-            ≡ Ok (asked_by read.0, read.1)) }
+            ≡ Ok (meant read.1 read.2 (asked_by read.0))) }
+        ensures go { IfOk result (λ read. IfSome read.1 (λ before. before ≤ length read.2)) }
         ensures bad { IfErr result (λ e. (n : ℕ) → e ≡ Fault.BadScript n
             → ok_then (read_on (lines_of rest.now) self) finished ≡ Err n) }
     {
@@ -178,11 +184,11 @@ impl Reader {
         let Reader {
             lines: _,
             shape,
-            has_go: _,
+            go,
             events,
         } = self;
         match shape {
-            Some(shape) => Ok((shape, events)),
+            Some(shape) => Ok((shape, go, events)),
             None => Err(Fault::BadScript(1)),
         }
     }

@@ -4,7 +4,7 @@ ghost use Rattle.std.specs.Io.KnownBytes.{ReadConsumes};
 ghost use Rattle.device.specs.Request.{event_of};
 ghost use Rattle.device.specs.declared.event.Event.TheVariants.{PfReset};
 ghost use Rattle.script.specs.Text.{IsWithout};
-ghost use Rattle.script.specs.Reading.{Asked, lines_of, read_on, script_of};
+ghost use Rattle.script.specs.Reading.{lines_of, meant, read_on, script_of};
 ghost use Rattle.script.specs.Shapes.{asked_by};
 
 use crate::events::Events;
@@ -20,49 +20,64 @@ use std::marker::Model;
 // How many bytes of a script are held at a time. The longest line leaves room for more.
 const BLOCK: usize = 131_072;
 
-/// A script that keeps to the grammar and the limits, seen as the list of its events.
+/// A script that keeps to the grammar and the limits, seen as the device that it asks for, the list of its events, and how
+/// many of them come before `go`.
 #[derive(Drop)]
 pub struct Script {
     shape: Shape,
+    go: Option<usize>,
     events: Events,
 }
 
 impl Model for Script {
-    ghost use Rattle.std.specs.Prelude.{List};
-    ghost use Rattle.device.specs.declared.event.Event.{Event};
+    ghost use Rattle.std.specs.Prelude.{◌≤◌, IfSome, length};
+    ghost use Rattle.script.specs.Reading.{Meaning};
+    ghost use Rattle.script.specs.Shapes.{asked_by};
 
-    ghost Value = { List Event };
+    ghost Value = { Meaning };
 
-    ghost view = { λ s. s.events };
+    ghost view = { λ s. record { device = asked_by s.shape; go = s.go; events = s.events } };
+
+    ghost invariant = { λ s. IfSome s.go (λ before. before ≤ length s.events) };
 }
 
 impl Script {
     /// Reads a script to its end, or to its first bad line, which is [`Fault::BadScript`]. A failed read is [`Fault::Io`],
     /// and a growth of memory that was refused [`Fault::NoMemory`].
     pub fn read<R: Read>(alloc: Global, reader: &mut R) -> Result<Script, Fault>
-        // where the bytes of the reader are known, their text says these events
-        ensures ok { IfOk result (λ script. IfSome (R.remaining reader.old)
-            (λ text. (device : Asked) × (script_of text ≡ Ok (device, script)))) }
+        // where the bytes of the reader are known, their text says this script
+        ensures ok { IfOk result (λ script. IfSome (R.remaining reader.old) (λ text. script_of text ≡ Ok script)) }
         // or that line of it is its first bad one
         ensures bad { IfErr result (λ e. (n : ℕ) → e ≡ Fault.BadScript n
             → IfSome (R.remaining reader.old) (λ text. script_of text ≡ Err n)) }
     {
         let mut room = Room::new();
         let mut block = vec![in alloc; 0u8; BLOCK]?;
-        let (shape, events) = read_all(alloc, reader, block.as_mut_slice(), &mut room)?;
-        Ok(Script { shape, events })
+        let (shape, go, events) = read_all(alloc, reader, block.as_mut_slice(), &mut room)?;
+        Ok(Script { shape, go, events })
     }
 
     /// The device that the script asks for.
     #[inline]
-    pub fn shape(&self) -> Shape {
+    pub fn shape(&self) -> Shape
+        ensures { asked_by result ≡ self.now.device }
+    {
         self.shape
+    }
+
+    /// How many events come before the line `go`, which are all of them or fewer; None where there is no such line.
+    #[inline]
+    pub fn go(&self) -> Option<usize>
+        ensures go { result ≡ self.now.go }
+        ensures within { IfSome result (λ before. before ≤ length self.now.events) }
+    {
+        self.go
     }
 
     /// How many events there are, at most 60,000.
     #[inline]
     pub fn len(&self) -> usize
-        ensures { result ≡ length self.now }
+        ensures { result ≡ length self.now.events }
     {
         self.events.len()
     }
@@ -70,8 +85,8 @@ impl Script {
     /// An event, as a device is asked it. Its bytes and its frame, where it has some, may be laid out in `room`.
     #[inline]
     pub fn request<'a>(&'a self, index: usize, room: &'a mut Room) -> Request<'a>
-        requires { index < length self.now }
-        ensures { event_of result ≡ slice_index_or self.now index PfReset }
+        requires { index < length self.now.events }
+        ensures { event_of result ≡ slice_index_or self.now.events index PfReset }
     {
         self.events.request(index, room)
     }
@@ -83,10 +98,11 @@ fn read_all<R: Read>(
     reader: &mut R,
     block: &mut [u8],
     room: &mut Room,
-) -> Result<(Shape, Events), Fault>
+) -> Result<(Shape, Option<usize>, Events), Fault>
     requires { length block.old ≡ 131072 }
     ensures ok { IfOk result (λ read. IfSome (R.remaining reader.old)
-        (λ text. script_of text ≡ Ok (asked_by read.0, read.1))) }
+        (λ text. script_of text ≡ Ok (meant read.1 read.2 (asked_by read.0)))) }
+    ensures go { IfOk result (λ read. IfSome read.1 (λ before. before ≤ length read.2)) }
     ensures bad { IfErr result (λ e. (n : ℕ) → e ≡ Fault.BadScript n
         → IfSome (R.remaining reader.old) (λ text. script_of text ≡ Err n)) }
 {

@@ -2,7 +2,7 @@
 use Rattle.std.proofs.Common.{◌≡◌, ℕ, List, [], ◌++◌, append_assoc, append-nil, take, drop, take-append-drop, length, length-drop, ◌-◌, refl, sym, ap, ◌∙◌, subst, arith}
 use Rattle.std.proofs.lemmas.List.{take_all}
 use Rattle.std.proofs.KnownBytes.{Appends-nil, Appends-trans}
-use Rattle.std.specs.Prelude.{Option, Result, Ok, Err, OnOk, OnErr}
+use Rattle.std.specs.Prelude.{Option, Result, Ok, Err, OnErr}
 use Rattle.std.specs.Io.KnownBytes.{Appends}
 use Rattle.transcript.specs.Known.{Sent, Began}
 
@@ -104,11 +104,3 @@ on_err (Err e) p = p
 -- nothing was written so far
 pub nothing_began : {T E : Type 0} (r : Result T E) (a : Option (List ℕ)) (text : List ℕ) → OnErr r (Began a a text)
 nothing_began r a text = on_err r (began_none a text)
-
-pub on_err_still : {T E P Q : Type 0} (r : Result T E) → (P → Q) → OnErr r P → OnErr r Q
-on_err_still (Ok v) f p = tt
-on_err_still (Err e) f p = f p
-
-pub on_ok_still : {T E P Q : Type 0} (r : Result T E) → (P → Q) → OnOk r P → OnOk r Q
-on_ok_still (Ok v) f p = f p
-on_ok_still (Err e) f p = tt

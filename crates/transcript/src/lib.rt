@@ -12,6 +12,8 @@ pub mod laws;
 mod lines;
 mod output;
 mod send;
+#[cfg(test)]
+mod tests;
 mod text;
 
 pub use fault::Fault;

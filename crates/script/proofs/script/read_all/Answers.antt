@@ -1,5 +1,5 @@
 -- A block's lines lead on, or one is bad.
-use Rattle.std.proofs.Common.{◌≡◌, ◌+◌, ◌∙◌, sym}
+use Rattle.std.proofs.Common.{◌∙◌, sym}
 use Rattle.std.proofs.lemmas.Result.{err_from_is_err_and}
 use Rattle.script.proofs.BlockLemmas.{held_more, reads_bad, reads_next}
 use Rattle.script.proofs.script.read_all.Goals as goal

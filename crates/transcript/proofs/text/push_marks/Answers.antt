@@ -1,7 +1,7 @@
 -- The pools that got any are those whose marks are written, one by one from the lowest.
 use Rattle.std.proofs.Common.{rules, ◌≡◌, ℕ, List, ◌++◌, append_assoc, append-nil, get_or, sym, ap, ◌∙◌}
 use Rattle.std.specs.Int.{trailing_zeros, w64}
-use Rattle.irq_causes.proofs.MessageLemmas.{fewer_left}
+use Rattle.wire_frame.proofs.BitLemmas.{fewer_left}
 use Rattle.transcript.specs.Text.{mark_text}
 use Rattle.transcript.proofs.Marks.{marks_of, marks_whole, marks_none, marks_lowest}
 use Rattle.transcript.proofs.text.push_marks.Goals as goal

@@ -1,5 +1,5 @@
 -- The record that is added is the line's event, and the others stay what they are.
-use Rattle.std.proofs.Common.{◌≡◌, refl, ap, ◌∙◌, sym}
+use Rattle.std.proofs.Common.{refl, ◌∙◌}
 use Rattle.script.proofs.RecordLemmas.{all_fit, events_stay, on_err, one_more, one_more_fits}
 use Rattle.script.proofs.events.Events.push.Goals as goal
 

@@ -1,5 +1,5 @@
 -- Six letters that are read are one of the names.
-use Rattle.std.proofs.Common.{◌≡◌, List, ℕ, refl, rules, arith}
+use Rattle.std.proofs.Common.{◌≡◌, refl, rules, arith}
 use Rattle.std.specs.Prelude.{codes}
 use Rattle.std.proofs.lemmas.Slice.Eq.{text_from_reads}
 use Rattle.script.specs.Kinds.{kind_of}

@@ -1,7 +1,6 @@
 -- Each line leads on, or is bad.
-use Rattle.std.proofs.Common.{◌≡◌, ◌+◌, ◌==◌, ◌||◌, ◌&&◌, false, nat_le, nat_lt, ℕ, List, length, subst, sym, ap, ◌∙◌}
+use Rattle.std.proofs.Common.{◌≡◌, ◌+◌, subst, sym, ◌∙◌}
 use Rattle.std.proofs.lemmas.Result.{err_from_is_err_and}
-use Rattle.script.specs.declared.fault.Fault.{Fault}
 use Rattle.script.specs.Text.{IsWithout}
 use Rattle.script.proofs.LineLemmas.{leads_on, leads_to_bad, leads_to_long, left_after}
 use Rattle.script.proofs.reader.Reader.lines.Goals as goal

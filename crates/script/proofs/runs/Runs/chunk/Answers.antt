@@ -1,5 +1,5 @@
 -- Digits that are no pairs, or too many.
-use Rattle.std.proofs.Common.{◌≡◌, ◌*◌, ◌≤◌, List, ℕ, length, sym, ◌∙◌, arith}
+use Rattle.std.proofs.Common.{sym, ◌∙◌, arith}
 use Rattle.script.proofs.Pairs.{pairs_bad}
 use Rattle.script.proofs.runs.Runs.chunk.Goals as goal
 use Rattle.script.proofs.runs.Runs.chunk.Goals.{then-count-lt1-2-via-then-count-lt1-2, then-count-lt1-2-via-else-count-lt1-2+then-count-from-2, then-count-lt1-2-via-else-count-lt1-2+else-count-from-2+then-chunk-ne0}

@@ -1,5 +1,5 @@
 -- Each chunk adds its bytes.
-use Rattle.std.proofs.Common.{◌≡◌, ◌∷◌, [], List, ℕ, length, subst}
+use Rattle.std.proofs.Common.{◌≡◌, ◌∷◌, [], List, ℕ, subst}
 use Rattle.script.specs.Bytes.{chunks_of}
 use Rattle.script.specs.Text.{parts}
 use Rattle.script.proofs.RunLemmas.{Left, left_next, left_done}

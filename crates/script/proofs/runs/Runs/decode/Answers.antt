@@ -1,5 +1,5 @@
 -- The run that is added has the bytes.
-use Rattle.std.proofs.Common.{◌≡◌, ◌++◌, ◌∷◌, [], List, length, sym, ap, ◌∙◌}
+use Rattle.std.proofs.Common.{◌≡◌, ◌++◌, ◌∷◌, [], List, length, ap, ◌∙◌}
 use Rattle.script.specs.declared.runs.Run.{Run}
 use Rattle.script.specs.declared.runs.Run.TheVariants.{Plain}
 use Rattle.script.proofs.RunLemmas.{adds_plain}

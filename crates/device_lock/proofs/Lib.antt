@@ -1,0 +1,6 @@
+mod CallLemmas
+mod CallerLemmas
+mod RaiseLemmas
+mod ReadLemmas
+mod ShareLemmas
+mod SizeLemmas

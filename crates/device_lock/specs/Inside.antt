@@ -1,0 +1,36 @@
+-- What a recorded device is seen as, and what is true of its fields whenever nobody is inside a call.
+use Rattle.std.specs.Prelude.{◌≡◌, ℕ, ◌+◌, ◌<◌, ◌≤◌, ◌^◌, length, sum, is_some, Option, Some, None}
+use Rattle.device.specs.World.{World, fresh, sizes_of}
+use Rattle.irq_line.specs.Line.{raised}
+use Rattle.device_lock.specs.declared.journal.Journal.TheInside.{Inside}
+use Rattle.device_lock.specs.Legal.{Legal, kept_raises}
+use Rattle.device_lock.specs.Held.{Held}
+
+-- the world that the kept calls begin at: the twin's, or that of a device as it is made, of the live one's limit and sizes
+abbrev pub base_of : Option World → World → World
+base_of None live = fresh live.limit (sizes_of live)
+base_of (Some twin) live = twin
+
+abbrev pub held_of : {M : Type 0} → Inside M → Held
+held_of s = record {
+  base = base_of s.twin s.live;
+  kept = s.history.entries;
+  live = s.live;
+  cap = s.history.cap;
+  has_twin = is_some s.twin;
+  tallies = s.tallies;
+  line = s.line;
+}
+
+pub record IsHeld {M : Type 0} (s : Inside M) : Type 0 where
+  pub legal : Legal (base_of s.twin s.live) s.history.entries s.live
+  -- until calls are folded away, the base is a device as it is made
+  pub first : s.folded ≡ 0 → base_of s.twin s.live ≡ fresh s.live.limit (sizes_of s.live)
+  pub few : s.history.cap ≤ 65536
+  pub folded : s.folded ≡ sum s.tallies
+  pub few_folded : s.folded ≤ 2 ^ 62
+  pub callers : length s.tallies ≡ 67
+  -- each message of a kept call was raised, and the others were raised by calls that were folded away
+  pub raises : (p v : ℕ) → p < 64 →
+      (kept_raises p v s.history.entries ≤ raised p v s.line.raises)
+      × (raised p v s.line.raises ≤ kept_raises p v s.history.entries + s.folded)

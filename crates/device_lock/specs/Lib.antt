@@ -1,0 +1,6 @@
+pub mod Callers
+pub mod Legal
+pub mod Held
+pub mod Made
+pub mod Read
+pub mod Inside

@@ -1,0 +1,104 @@
+//! A recorded device that threads share.
+ghost use Rattle.std.specs.Prelude.{◌≡◌, ◌≢◌, ℕ, ◌≤◌, true, IfOk, IfErr, OnOk, OnErr, IfSome, IfNone, length, take, drop, sum, option_copied};
+ghost use Rattle.std.specs.List.{sum_by};
+ghost use Rattle.device.specs.Request.{event_of};
+ghost use Rattle.device.specs.World.{World, step, sent_by};
+ghost use Rattle.device.specs.Outcome.{left_by};
+ghost use Rattle.device_lock.specs.Callers.{may};
+ghost use Rattle.device_lock.specs.Held.{Mine, one_more};
+ghost use Rattle.device_lock.specs.Read.{bytes_asked, bytes_told, answer_with};
+
+use crate::recorded::{Full, Recorded, Tally};
+use crate::share::Share;
+use device::{Answer, Device, Event, Request, Taken};
+use guest_memory::GuestMem;
+use std::alloc::Global;
+use std::sync::ledger::Ledger;
+use std::sync::{Arc, Mutex, Wait};
+use wire_frame::{Fault, FrameBuf};
+
+/// A recorded device that threads share: one call at a time is inside, and the others wait. Whenever nobody is inside, the
+/// law of [`Recorded::agrees`] holds.
+#[derive(Drop)]
+pub struct LockedDevice<M: GuestMem, L: Ledger> {
+    inner: Mutex<Recorded<M, L>>,
+}
+
+impl<M: GuestMem, L: Ledger> LockedDevice<M, L> {
+    /// A recorded device behind a lock. [`Fault::NoMemory`] comes only where the host refused the room.
+    pub fn new(alloc: Global, recorded: Recorded<M, L>) -> Result<Arc<LockedDevice<M, L>>, Fault>
+        ensures no_memory { IfErr result (λ e. e ≡ Fault.NoMemory) }
+    {
+        let locked = LockedDevice {
+            inner: Mutex::new(recorded),
+        };
+        match Arc::new(alloc, locked) {
+            Ok(arc) => Ok(arc),
+            Err(_) => Err(Fault::NoMemory),
+        }
+    }
+
+    /// One [`Recorded::record`] under the lock.
+    pub fn act<R: Wait>(&self, rt: &R, share: &mut Share<L>, event: Event) -> Result<Answer, Full>
+        requires may { may share.old.caller event ≡ true }
+        ensures answer { IfOk result (λ answer. (w : World) × (answer ≡ (step w event).answer)) }
+        ensures counted { OnOk result (share.new ≡ one_more share.old) }
+        ensures full { IfErr result (λ full. full.0 ≡ event) }
+        ensures unchanged { OnErr result (share.new ≡ share.old) }
+    {
+        self.inner.lock(rt).record(share, event)
+    }
+
+    /// One [`Recorded::record_read`] under the lock: what an event's [`LockedDevice::act`] answers, in few words, with the
+    /// bytes that were read at the front of `read`.
+    #[inline]
+    pub fn act_request<'f, R: Wait>(
+        &self,
+        rt: &R,
+        share: &mut Share<L>,
+        request: Request<'_>,
+        frame: &'f mut FrameBuf,
+        read: &mut [u8],
+    ) -> Option<Taken<'f>>
+        requires may { may share.old.caller (event_of request) ≡ true }
+        requires room { bytes_asked (event_of request) ≤ length read.old }
+        ensures answer { IfSome result (λ taken. (w : World)
+            × (answer_with (take (bytes_told taken.outcome) read.new) taken ≡ (step w (event_of request.entry)).answer)
+            × (option_copied taken.sent ≡ sent_by w (event_of request.entry))
+            × (option_copied taken.left ≡ left_by w (event_of request.entry))) }
+        ensures rest { IfSome result (λ taken. drop (bytes_told taken.outcome) read.new ≡ drop (bytes_told taken.outcome) read.old) }
+        ensures counted { IfSome result (λ taken. share.new ≡ one_more share.old) }
+        ensures unchanged { IfNone result ((share.new ≡ share.old) × (read.new ≡ read.old)) }
+    {
+        self.inner.lock(rt).record_read(share, request, frame, read)
+    }
+
+    /// One [`Recorded::gather`] under the lock.
+    pub fn tally<R: Wait>(&self, rt: &R, shares: Vec<Share<L>>) -> Option<Tally>
+        ensures none { IfNone result (length shares.items ≢ 67) }
+        ensures some { IfSome result (λ tally. length shares.items ≡ 67) }
+        ensures counts { IfSome result (λ tally. sum tally.entries ≡ sum_by (λ (share : Mine). share.count) shares.items) }
+    {
+        self.inner.lock(rt).gather(shares)
+    }
+
+    /// One [`Recorded::kept`] under the lock.
+    pub fn kept<R: Wait>(&self, rt: &R) -> usize {
+        self.inner.lock(rt).kept()
+    }
+
+    /// One [`Recorded::folded`] under the lock.
+    pub fn folded<R: Wait>(&self, rt: &R) -> u64 {
+        self.inner.lock(rt).folded()
+    }
+
+    /// One [`Recorded::rebase`] under the lock.
+    pub fn fold<R: Wait>(&self, rt: &R) -> Option<usize> {
+        self.inner.lock(rt).rebase()
+    }
+
+    /// One [`Recorded::replays`] under the lock.
+    pub fn replays<R: Wait>(&self, rt: &R, device: &mut Device<M>) -> bool {
+        self.inner.lock(rt).replays(device)
+    }
+}

@@ -1,0 +1,177 @@
+//! The callers, and what each may ask.
+ghost use Rattle.std.specs.Prelude.{◌≡◌};
+
+use super::*;
+
+// A request, and whether the ports of pools 3 and 63, the driver and the pump may make it. The service may make each.
+fn assert_row<R: Abort, L: Ledger>(
+    rt: &R,
+    shares: &Shares<L>,
+    ports: (&Share<L>, &Share<L>),
+    request: Request<'_>,
+    who: [bool; 4],
+) {
+    assert_eq!(rt; ports.0.may(request), who[0]);
+    assert_eq!(rt; ports.1.may(request), who[1]);
+    assert_eq!(rt; shares.pf.may(request), who[2]);
+    assert_eq!(rt; shares.pump.may(request), who[3]);
+    assert!(rt; shares.service.may(request));
+}
+
+// A port may do what is its own pool's alone, and the driver, whose number is 64, is no port.
+fn assert_rows<R: Abort, L: Ledger>(
+    rt: &R,
+    shares: &Shares<L>,
+    ports: (&Share<L>, &Share<L>),
+    bytes: MemSlice<'_>,
+    frame: &FrameBuf,
+) {
+    let nobody = [false; 4];
+    for (pool, who) in [
+        (3, [true, false, false, false]),
+        (63, [false, true, false, false]),
+        (4, nobody),
+        (64, nobody),
+        (65, nobody),
+        (66, nobody),
+    ] {
+        assert_row(rt, shares, ports, Request::VfRead(pool, 0), who);
+        assert_row(rt, shares, ports, Request::VfWrite(pool, 0, 0), who);
+        assert_row(rt, shares, ports, Request::MemRead(pool, 0, 1), who);
+        assert_row(rt, shares, ports, Request::MemWrite(pool, 0, bytes), who);
+        assert_row(rt, shares, ports, Request::Flr(pool), who);
+    }
+    let driver = [false, false, true, false];
+    assert_row(rt, shares, ports, Request::PfRead(0), driver);
+    assert_row(rt, shares, ports, Request::PfWrite(0, 0), driver);
+    assert_row(rt, shares, ports, Request::PfReset, driver);
+    assert_row(
+        rt,
+        shares,
+        ports,
+        Request::Wire(frame),
+        [false, false, false, true],
+    );
+    assert_row(rt, shares, ports, Request::Open(3), nobody);
+    assert_row(rt, shares, ports, Request::End(3), nobody);
+    assert_row(rt, shares, ports, Request::Serve(3, Queue::Q0), nobody);
+}
+
+fn assert_rights<R: Abort, L: Ledger>(rt: &R, alloc: Global, blank: Blank) -> Result<(), Fail>
+    requires name { blank.name ≡ L.name }
+    requires parts { (blank.parts ≡ L.parts) × (blank.parts ≡ 67) }
+{
+    let (_recorded, mut shares, _guests) = recorded::<L>(alloc, blank, (1, 4096), 1)?;
+    let port = shares.port(3).ok_or("no share")?;
+    assert!(rt; shares.port(3).is_none(), "once");
+    assert!(rt; shares.port(64).is_none());
+    let last = shares.port(63).ok_or("no share")?;
+    assert_eq!(rt; (port.caller(), last.caller()), (3, 63));
+    let numbers = (
+        shares.pf.caller(),
+        shares.pump.caller(),
+        shares.service.caller(),
+    );
+    assert_eq!(rt; numbers, (PF, PUMP, SERVICE));
+    let bytes = MemSlice::new(&[1, 2])?;
+    assert_rows(rt, &shares, (&port, &last), bytes, &frame_to_3()?);
+    Ok(())
+}
+
+#[test]
+fn each_caller_may_ask_its_own(rt: HostRuntime) -> Result<(), Fail> {
+    assert_rights::<HostRuntime, Brand>(&rt, rt.alloc(), Blank::new(67))
+}
+
+// One request of a caller, and what came of it.
+fn ask_request<R: Abort, L: Ledger>(
+    rt: &R,
+    recorded: &mut Recorded<FlatMem, L>,
+    share: &mut Share<L>,
+    request: Request<'_>,
+    frame: &mut FrameBuf,
+) -> Option<Outcome> {
+    assert!(rt; share.may(request));
+    match recorded.record_request(share, request, frame) {
+        Some(taken) => Some(taken.outcome),
+        None => None,
+    }
+}
+
+// Two callers' calls are counted apart, and their sum is what was kept; without one of the shares there is no tally.
+fn assert_tallies<R: Abort, L: Ledger>(rt: &R, alloc: Global, blank: Blank) -> Result<(), Fail>
+    requires name { blank.name ≡ L.name }
+    requires parts { (blank.parts ≡ L.parts) × (blank.parts ≡ 67) }
+{
+    let (mut recorded, mut shares, _guests) = recorded::<L>(alloc, blank, (1, 4096), 8)?;
+    let mut port = shares.port(0).ok_or("no share")?;
+    let mut frame = FrameBuf::blank();
+    assert!(rt; ask(&mut recorded, &mut shares, Event::Open(0)).is_ok());
+    for _ in 0..3 {
+        let read = ask_request(
+            rt,
+            &mut recorded,
+            &mut port,
+            Request::VfRead(0, 0x101C),
+            &mut frame,
+        );
+        assert_eq!(rt; read, Some(Outcome::Value(0)));
+    }
+    let set = ask_request(
+        rt,
+        &mut recorded,
+        &mut shares.pf,
+        Request::PfReset,
+        &mut frame,
+    );
+    assert_eq!(rt; set, Some(Outcome::Done));
+    assert_eq!(rt;
+        (
+            port.count(),
+            shares.pf.count(),
+            shares.service.count(),
+            shares.pump.count()
+        ),
+        (3, 1, 1, 0)
+    );
+    let mut all = Vec::new(alloc);
+    shares.put_back(&mut all)?;
+    assert_eq!(rt; all.len(), 66);
+    all.push(port)?;
+    let tally = recorded.gather(all).ok_or("no tally")?;
+    let entries = tally.entries;
+    for caller in 0..CALLERS {
+        let want = match caller {
+            0 => 3,
+            64 | 66 => 1,
+            _ => 0,
+        };
+        assert_eq!(rt; entries[caller], want, "of {caller}");
+    }
+    Ok(())
+}
+
+#[test]
+fn calls_are_counted_by_caller(rt: HostRuntime) -> Result<(), Fail> {
+    assert_tallies::<HostRuntime, Brand>(&rt, rt.alloc(), Blank::new(67))
+}
+
+// Without the share of one port.
+fn gather_66<R: Abort, L: Ledger>(rt: &R, alloc: Global, blank: Blank) -> Result<(), Fail>
+    requires name { blank.name ≡ L.name }
+    requires parts { (blank.parts ≡ L.parts) × (blank.parts ≡ 67) }
+{
+    let (mut recorded, mut shares, _guests) = recorded::<L>(alloc, blank, (1, 4096), 8)?;
+    let _port = shares.port(0).ok_or("no share")?;
+    let mut all = Vec::new(alloc);
+    shares.put_back(&mut all)?;
+    assert_eq!(rt; all.len(), 66);
+    assert_eq!(rt; recorded.gather(all), None);
+    assert_eq!(rt; recorded.gather(Vec::new(alloc)), None);
+    Ok(())
+}
+
+#[test]
+fn there_is_no_tally_of_66_shares(rt: HostRuntime) -> Result<(), Fail> {
+    gather_66::<HostRuntime, Brand>(&rt, rt.alloc(), Blank::new(67))
+}

@@ -1,0 +1,4 @@
+pub mod Notes
+pub mod Port
+pub mod Irq
+pub mod Calls

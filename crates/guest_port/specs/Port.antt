@@ -1,0 +1,30 @@
+-- What contracts see of a guest's port.
+use Rattle.std.specs.Prelude.{ℕ, Bool, true, false, List, [], ◌∷◌, ◌++◌, if◌then◌else◌}
+use Rattle.guest_port.specs.Notes.{Known, having_found}
+
+pub record Port : Type 0 where
+  pub pool : ℕ
+  -- it has not ended
+  pub is_open : Bool
+  -- its tokens were handed back
+  pub is_closed : Bool
+  -- its own note of its end; once it is closed, as it was handed back
+  pub note : Known
+  -- the messages that it took: the answers of its takes, in order
+  pub taken : List ℕ
+
+-- a port that was just made, with a note
+abbrev pub new_port : ℕ → Known → Port
+new_port pool note = record { pool = pool; is_open = true; is_closed = false; note = note; taken = [] }
+
+-- after a take, which counts until the port is closed
+abbrev pub having_taken : Port → ℕ → Port
+having_taken port answer = record port { taken = if port.is_closed then port.taken else (port.taken ++ answer ∷ []) }
+
+-- after its end, which its note knows
+abbrev pub ended : Port → Port
+ended port = record port { is_open = false; note = having_found port.note }
+
+-- after its close
+abbrev pub closed : Port → Port
+closed port = record port { is_open = false; is_closed = true; note = having_found port.note }

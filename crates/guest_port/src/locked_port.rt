@@ -1,0 +1,357 @@
+//! A port with the device behind it.
+ghost use Rattle.std.specs.Prelude.{◌≡◌, ℕ, List, [], ◌<◌, ◌≤◌, true, false, Err, IfSome, IfNone, OnErr, MatchOption, length, take, drop};
+ghost use Rattle.wire_frame.specs.declared.fault.Fault.{Fault};
+ghost use Rattle.device.specs.declared.event.Event.{Event};
+ghost use Rattle.device.specs.declared.span.Span.{Span};
+ghost use Rattle.device.specs.Request.{event_of};
+ghost use Rattle.device.specs.Outcome.{reply_by, done_or_refused, value_or_refused, bytes_or_refused};
+ghost use Rattle.device_lock.specs.Callers.{may};
+ghost use Rattle.device_lock.specs.Read.{bytes_asked, bytes_told};
+ghost use Rattle.guest_port.specs.Port.{having_taken, ended, closed};
+ghost use Rattle.guest_port.specs.Calls.{one_more_call, MayReply, is_full, read_or_refused, IsDone, IsValue, IsRead};
+
+use crate::port::{GuestPort, Tokens};
+use device::bytes::MOST_BYTES;
+use device::{MemBytes, MemSlice, Outcome, Request};
+use device_lock::{LockedDevice, Share};
+use guest_memory::GuestMem;
+use shadow::Shadow;
+use std::marker::Model;
+use std::sync::ledger::Ledger;
+use std::sync::{Arc, Wait};
+use wire_frame::{Fault, FrameBuf};
+
+/// A port with the device behind it: what a guest has of its virtual function. The calls that take a handle wait for the
+/// device's lock. Each of them is one event of the port's own pool, which the device keeps with its answer and which counts
+/// as a call made, also where it is refused. They are refused, and nothing is kept, as [`Fault::NotOpen`] once the port has
+/// ended, and as [`Fault::HistoryFull`] where the device can keep no more.
+///
+/// Contracts see the port, and how many calls it made. No call takes memory.
+#[derive(Drop)]
+pub struct LockedPort<M: GuestMem, L: Ledger, P: GuestPort> {
+    device: Arc<LockedDevice<M, L>>,
+    // none once the port is closed
+    share: Option<Share<L>>,
+    inner: P,
+    // where the device puts a frame together; a port asks for none
+    room: FrameBuf,
+    first: Shadow<Share<L>>,
+    last: Shadow<Share<L>>,
+}
+
+impl<M: GuestMem, L: Ledger, P: GuestPort> Model for LockedPort<M, L, P> {
+    ghost use Rattle.guest_port.specs.Calls.{CallingPort};
+
+    ghost Value = { CallingPort };
+
+    ghost use Rattle.std.specs.Prelude.{◌≡◌, ◌-◌, ◌≤◌, true, false, MatchOption};
+
+    ghost view = { λ s. record { port = P.meaning s.inner; calls = s.last.value.count - s.first.value.count } };
+
+    ghost invariant = { λ s. (s.first.value.count ≤ s.last.value.count)
+        × MatchOption s.share ((P.meaning s.inner).is_closed ≡ true)
+        (λ share. ((P.meaning s.inner).is_closed ≡ false) × (share.caller ≡ (P.meaning s.inner).pool)
+        × (share ≡ s.last.value)) };
+}
+
+impl<M: GuestMem, L: Ledger, P: GuestPort> LockedPort<M, L, P> {
+    /// The port with the device, of one pool with the share. It has made no call.
+    pub fn new(device: Arc<LockedDevice<M, L>>, share: Share<L>, inner: P) -> LockedPort<M, L, P>
+        requires pool { share.caller ≡ (P.meaning inner).pool }
+        requires closed { (P.meaning inner).is_closed ≡ false }
+        ensures { result ≡ record { port = P.meaning inner; calls = 0 } }
+    {
+        let first = Shadow::of(&share);
+        let last = Shadow::of(&share);
+        LockedPort {
+            device,
+            share: Some(share),
+            inner,
+            room: FrameBuf::blank(),
+            first,
+            last,
+        }
+    }
+
+    /// The pool, 0 to 63.
+    pub fn pool(&self) -> u8
+        ensures pool { result ≡ self.now.port.pool }
+        ensures below { result < 64 }
+    {
+        self.inner.pool()
+    }
+
+    /// Whether it has not ended.
+    pub fn is_open(&self) -> bool
+        ensures { result ≡ self.now.port.is_open }
+    {
+        self.inner.is_open()
+    }
+
+    /// Reads the register of the pool's function at an offset in bytes.
+    ///
+    /// [`Fault::NotOpen`], then [`Fault::BadOffset`] where the offset is no multiple of 4 or not below 0x4000.
+    pub fn reg_read<R: Wait>(&mut self, rt: &R, offset: u32) -> Result<u32, Fault>
+        ensures ended { self.old.port.is_open ≡ false →
+            (result ≡ Err Fault.NotOpen) × (self.new ≡ self.old) }
+        ensures full { is_full result ≡ true → self.new ≡ self.old }
+        ensures counted { self.old.port.is_open ≡ true → is_full result ≡ false → self.new ≡ one_more_call self.old }
+        ensures reply { self.old.port.is_open ≡ true → is_full result ≡ false →
+            MayReply (Event.VfRead self.old.port.pool offset) (value_or_refused result) }
+    {
+        if !self.inner.is_open() {
+            return Err(Fault::NotOpen);
+        }
+        let pool = self.inner.pool();
+        match self.ask(rt, Request::VfRead(pool, offset), &mut []) {
+            Some(outcome) => value_of(outcome),
+            None => Err(Fault::HistoryFull),
+        }
+    }
+
+    /// Writes a value to the register of the pool's function at an offset in bytes. A write to an offset that no register
+    /// has does nothing.
+    ///
+    /// Refused as [`reg_read`](LockedPort::reg_read) is.
+    pub fn reg_write<R: Wait>(&mut self, rt: &R, offset: u32, value: u32) -> Result<(), Fault>
+        ensures ended { self.old.port.is_open ≡ false →
+            (result ≡ Err Fault.NotOpen) × (self.new ≡ self.old) }
+        ensures full { is_full result ≡ true → self.new ≡ self.old }
+        ensures counted { self.old.port.is_open ≡ true → is_full result ≡ false → self.new ≡ one_more_call self.old }
+        ensures reply { self.old.port.is_open ≡ true → is_full result ≡ false →
+            MayReply (Event.VfWrite self.old.port.pool offset value) (done_or_refused result) }
+    {
+        if !self.inner.is_open() {
+            return Err(Fault::NotOpen);
+        }
+        let pool = self.inner.pool();
+        match self.ask(rt, Request::VfWrite(pool, offset, value), &mut []) {
+            Some(outcome) => done_of(outcome),
+            None => Err(Fault::HistoryFull),
+        }
+    }
+
+    /// The bytes of the guest's memory from an address on, at most 2048.
+    ///
+    /// [`Fault::NotOpen`], then [`Fault::TooLong`] for more than 2048 bytes, then [`Fault::BadRange`] where they pass the end
+    /// of the memory.
+    pub fn mem_read<R: Wait>(&mut self, rt: &R, addr: u64, len: u16) -> Result<MemBytes, Fault>
+        ensures ended { self.old.port.is_open ≡ false →
+            (result ≡ Err Fault.NotOpen) × (self.new ≡ self.old) }
+        ensures full { is_full result ≡ true → self.new ≡ self.old }
+        ensures counted { self.old.port.is_open ≡ true → is_full result ≡ false → self.new ≡ one_more_call self.old }
+        ensures reply { self.old.port.is_open ≡ true → is_full result ≡ false →
+            MayReply (Event.MemRead self.old.port.pool addr len) (read_or_refused result) }
+    {
+        if !self.inner.is_open() {
+            return Err(Fault::NotOpen);
+        }
+        let pool = self.inner.pool();
+        let mut read = [0u8; MOST_BYTES];
+        match self.ask(rt, Request::MemRead(pool, addr, len), &mut read) {
+            Some(outcome) => bytes_of(outcome, &read),
+            None => Err(Fault::HistoryFull),
+        }
+    }
+
+    /// Fills `out` with the bytes of the guest's memory from an address on.
+    ///
+    /// [`Fault::NotOpen`], then [`Fault::TooLong`] for more than 2048 bytes, which is no call made; then [`Fault::BadRange`]
+    /// where they pass the end of the memory. Where it is refused, `out` is as it was.
+    pub fn mem_read_into<R: Wait>(&mut self, rt: &R, addr: u64, out: &mut [u8]) -> Result<(), Fault>
+        ensures ended { self.old.port.is_open ≡ false →
+            (result ≡ Err Fault.NotOpen) × (self.new ≡ self.old) }
+        ensures too_long { self.old.port.is_open ≡ true → 2048 < length out.old →
+            (result ≡ Err Fault.TooLong) × (self.new ≡ self.old) }
+        ensures full { is_full result ≡ true → self.new ≡ self.old }
+        ensures counted { self.old.port.is_open ≡ true → length out.old ≤ 2048 → is_full result ≡ false →
+            self.new ≡ one_more_call self.old }
+        ensures reply { self.old.port.is_open ≡ true → length out.old ≤ 2048 → is_full result ≡ false →
+            MayReply (Event.MemRead self.old.port.pool addr (length out.old)) (bytes_or_refused result out.new) }
+        ensures unread { OnErr result (out.new ≡ out.old) }
+    {
+        if !self.inner.is_open() {
+            return Err(Fault::NotOpen);
+        }
+        if out.len() > MOST_BYTES {
+            return Err(Fault::TooLong);
+        }
+        let pool = self.inner.pool();
+        match self.ask(rt, Request::MemRead(pool, addr, out.len() as u16), out) {
+            Some(outcome) => filled_of(outcome, out),
+            None => Err(Fault::HistoryFull),
+        }
+    }
+
+    /// Writes bytes of the guest's memory from an address on.
+    ///
+    /// [`Fault::NotOpen`], then [`Fault::TooLong`] for more than 2048 bytes, which is no call made; then [`Fault::BadRange`]
+    /// where they pass the end of the memory.
+    pub fn mem_write<R: Wait>(&mut self, rt: &R, addr: u64, bytes: &[u8]) -> Result<(), Fault>
+        ensures ended { self.old.port.is_open ≡ false →
+            (result ≡ Err Fault.NotOpen) × (self.new ≡ self.old) }
+        ensures too_long { self.old.port.is_open ≡ true → 2048 < length bytes.now →
+            (result ≡ Err Fault.TooLong) × (self.new ≡ self.old) }
+        ensures full { is_full result ≡ true → self.new ≡ self.old }
+        ensures counted { self.old.port.is_open ≡ true → length bytes.now ≤ 2048 → is_full result ≡ false →
+            self.new ≡ one_more_call self.old }
+        ensures reply { self.old.port.is_open ≡ true → length bytes.now ≤ 2048 → is_full result ≡ false →
+            MayReply (Event.MemWrite self.old.port.pool addr bytes.now) (done_or_refused result) }
+    {
+        if !self.inner.is_open() {
+            return Err(Fault::NotOpen);
+        }
+        let Ok(written) = MemSlice::new(bytes) else {
+            return Err(Fault::TooLong);
+        };
+        let pool = self.inner.pool();
+        match self.ask(rt, Request::MemWrite(pool, addr, written), &mut []) {
+            Some(outcome) => done_of(outcome),
+            None => Err(Fault::HistoryFull),
+        }
+    }
+
+    /// Resets the pool's function (SR-IOV 1.1, function-level reset): its registers become initial. Its memory stays.
+    ///
+    /// [`Fault::NotOpen`].
+    pub fn flr<R: Wait>(&mut self, rt: &R) -> Result<(), Fault>
+        ensures ended { self.old.port.is_open ≡ false →
+            (result ≡ Err Fault.NotOpen) × (self.new ≡ self.old) }
+        ensures full { is_full result ≡ true → self.new ≡ self.old }
+        ensures counted { self.old.port.is_open ≡ true → is_full result ≡ false → self.new ≡ one_more_call self.old }
+        ensures reply { self.old.port.is_open ≡ true → is_full result ≡ false →
+            MayReply (Event.Flr self.old.port.pool) (done_or_refused result) }
+    {
+        if !self.inner.is_open() {
+            return Err(Fault::NotOpen);
+        }
+        let pool = self.inner.pool();
+        match self.ask(rt, Request::Flr(pool), &mut []) {
+            Some(outcome) => done_of(outcome),
+            None => Err(Fault::HistoryFull),
+        }
+    }
+
+    /// Takes the interrupt messages that stand for the pool: bit v for vector v, and none stands any more. One step, which
+    /// waits for nobody; 0 once the port was closed.
+    pub fn take_irqs(&mut self) -> u8
+        ensures taken { self.new ≡ record { port = having_taken self.old.port result; calls = self.old.calls } }
+        ensures closed { self.old.port.is_closed ≡ true → result ≡ 0 }
+    {
+        self.inner.take_irqs()
+    }
+
+    /// The interrupt messages that stand for the pool, bit v for vector v; they stand on. One step, which waits for nobody; 0
+    /// once the port was closed.
+    pub fn peek_irqs(&mut self) -> u8
+        ensures same { self.new ≡ self.old }
+        ensures closed { self.old.port.is_closed ≡ true → result ≡ 0 }
+    {
+        self.inner.peek_irqs()
+    }
+
+    /// Ends the port: its notes can find the end from now on, and its own knows it. Again, it does nothing.
+    pub fn end(&mut self)
+        ensures { self.new ≡ record { port = ended self.old.port; calls = self.old.calls } }
+    {
+        self.inner.end();
+    }
+
+    /// Ends the port and hands back its share and its tokens, once.
+    pub fn close(&mut self) -> Option<(Share<L>, Tokens)>
+        ensures closed { self.new ≡ record { port = closed self.old.port; calls = self.old.calls } }
+        ensures back { MatchOption result (self.old.port.is_closed ≡ true)
+            (λ r. (self.old.port.is_closed ≡ false) × (r.0.caller ≡ self.old.port.pool)
+            × (r.1.seat.view.pool ≡ self.old.port.pool) × (r.1.note ≡ self.new.port.note)) }
+    {
+        let tokens = self.inner.close();
+        let share = self.share.take();
+        Some((share?, tokens?))
+    }
+
+    // What comes of an event that the port may make; None where the device can keep no more. Bytes that are read stand at the
+    // front of `read`.
+    fn ask<R: Wait>(&mut self, rt: &R, request: Request<'_>, read: &mut [u8]) -> Option<Outcome>
+        requires open { self.old.port.is_closed ≡ false }
+        requires may { may self.old.port.pool (event_of request) ≡ true }
+        requires room { bytes_asked (event_of request) ≤ length read.old }
+        ensures reply { IfSome result (λ outcome. MayReply (event_of request.entry)
+            (reply_by (λ span. take (bytes_told outcome) read.new) outcome)) }
+        ensures rest { IfSome result (λ outcome. drop (bytes_told outcome) read.new ≡ drop (bytes_told outcome) read.old) }
+        ensures counted { IfSome result (λ outcome. self.new ≡ one_more_call self.old) }
+        ensures full { IfNone result ((self.new ≡ self.old) × (read.new ≡ read.old)) }
+    {
+        let Some(share) = &mut self.share else {
+            unreachable!();
+        };
+        let taken = self
+            .device
+            .act_request(rt, share, request, &mut self.room, read);
+        self.last = Shadow::of(share);
+        match taken {
+            Some(taken) => Some(taken.outcome),
+            None => None,
+        }
+    }
+}
+
+// The value that was read, or why none was.
+#[inline]
+fn value_of(outcome: Outcome) -> Result<u32, Fault>
+    requires { IsValue (reply_by (λ span. []) outcome) }
+    ensures reply { (f : Span → List ℕ) → value_or_refused result ≡ reply_by f outcome }
+    ensures kept { is_full result ≡ false }
+{
+    match outcome {
+        Outcome::Value(value) => Ok(value),
+        Outcome::Refused(fault) => Err(fault),
+        _ => unreachable!(),
+    }
+}
+
+// That it was done, or why it was not.
+#[inline]
+fn done_of(outcome: Outcome) -> Result<(), Fault>
+    requires { IsDone (reply_by (λ span. []) outcome) }
+    ensures reply { (f : Span → List ℕ) → done_or_refused result ≡ reply_by f outcome }
+    ensures kept { is_full result ≡ false }
+{
+    match outcome {
+        Outcome::Done => Ok(()),
+        Outcome::Refused(fault) => Err(fault),
+        _ => unreachable!(),
+    }
+}
+
+// The bytes that were read, which stand at the front of `read`, or why none were.
+fn bytes_of(outcome: Outcome, read: &[u8]) -> Result<MemBytes, Fault>
+    requires room { 2048 ≤ length read.now }
+    requires read { (count : ℕ) × IsRead count (reply_by (λ span. take (bytes_told outcome) read.now) outcome) }
+    ensures reply { read_or_refused result ≡ reply_by (λ span. take (bytes_told outcome) read.now) outcome }
+    ensures kept { is_full result ≡ false }
+{
+    match outcome {
+        Outcome::Bytes(span) => match MemBytes::from_bytes(&read[..span.count()]) {
+            Ok(bytes) => Ok(bytes),
+            Err(_) => unreachable!(),
+        },
+        Outcome::Refused(fault) => Err(fault),
+        _ => unreachable!(),
+    }
+}
+
+// That all of `read` was filled, or why it was not.
+#[inline]
+#[tactic(auto, using(crate::proofs::Replies::taken_whole))]
+fn filled_of(outcome: Outcome, read: &[u8]) -> Result<(), Fault>
+    requires { IsRead (length read.now) (reply_by (λ span. take (bytes_told outcome) read.now) outcome) }
+    ensures reply { bytes_or_refused result read.now ≡ reply_by (λ span. take (bytes_told outcome) read.now) outcome }
+    ensures refused { OnErr result (bytes_told outcome ≡ 0) }
+    ensures kept { is_full result ≡ false }
+{
+    match outcome {
+        Outcome::Bytes(_) => Ok(()),
+        Outcome::Refused(fault) => Err(fault),
+        _ => unreachable!(),
+    }
+}

@@ -1,0 +1,73 @@
+use super::*;
+
+// What its port's end makes of a note that waits for it.
+#[test]
+fn a_note_finds_the_end(rt: HostRuntime) -> Result<(), Fail> {
+    let (_device, mut port, mut note) = line_with_port(rt.alloc())?;
+    assert!(rt; !note.ended());
+    port.end();
+    assert!(rt; note.ended());
+    assert!(rt; note.ended(), "it knows it for good");
+    drop(port);
+    assert!(rt; note.ended());
+    Ok(())
+}
+
+#[test]
+fn a_port_that_is_dropped_ends(rt: HostRuntime) -> Result<(), Fail> {
+    let (_device, port, mut note) = line_with_port(rt.alloc())?;
+    assert!(rt; !note.ended());
+    drop(port);
+    assert!(rt; note.ended());
+    Ok(())
+}
+
+#[test]
+fn a_port_closes_once(rt: HostRuntime) -> Result<(), Fail> {
+    let (mut device, mut port, mut note) = line_with_port(rt.alloc())?;
+    device.raise(3, 2);
+    assert!(rt; !note.ended());
+    let Some(
+        Tokens {
+            mut seat,
+            note: mut own,
+        },
+    ) = port.close()
+    else {
+        return Err(Fail::from("no tokens"));
+    };
+    assert!(rt; port.close().is_none());
+    assert!(rt; !port.is_open());
+    assert_eq!(rt; port.peek_irqs(), 0);
+    assert_eq!(rt; port.take_irqs(), 0);
+    assert_eq!(rt; seat.pool(), 3);
+    assert_eq!(rt; seat.take(), 2, "a closed port takes nothing");
+    assert!(rt; own.ended());
+    assert!(rt; note.ended());
+    Ok(())
+}
+
+// A note that is told knows the end, and one that is told by a note that does not know it learns nothing.
+#[test]
+fn a_note_is_told(rt: HostRuntime) -> Result<(), Fail> {
+    let (mut first, mut second) = EndNote::two(rt.alloc())?;
+    first.told(&second);
+    assert!(rt; !first.ended());
+    second.set(Box::new(rt.alloc(), End)?);
+    first.told(&second);
+    assert!(rt; first.ended());
+    assert!(rt; second.ended());
+    Ok(())
+}
+
+// A port is dropped by another thread, and the note here finds its end once that thread is joined.
+#[test]
+fn a_port_is_dropped_by_another_thread(rt: HostRuntime) -> Result<(), Fail> {
+    let (mut device, mut port, mut note) = line_with_port(rt.alloc())?;
+    device.raise(3, 4);
+    assert!(rt; !note.ended());
+    let worker = thread::spawn(&rt, move || port.take_irqs())?;
+    assert_eq!(rt; worker.join(&rt), 4);
+    assert!(rt; note.ended());
+    Ok(())
+}

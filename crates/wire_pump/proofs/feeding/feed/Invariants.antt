@@ -1,0 +1,6 @@
+use Rattle.std.proofs.Common.{◌≡◌, ◌++◌, take, map}
+use Rattle.wire_pump.specs.declared.message.WireMsg.TheVariants.{Frame}
+use Rattle.wire_pump.proofs.feeding.feed.Given as goal
+
+abbrev pub invariant-loop-sent : goal.invariant-loop-sent
+invariant-loop-sent g l = l.sender ≡ record l.initial.sender { sent = l.initial.sender.sent ++ map Frame (take l.sent l.frames) }

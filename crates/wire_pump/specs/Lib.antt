@@ -1,0 +1,3 @@
+pub mod Parcel
+pub mod Pump
+pub mod Ends

@@ -1,0 +1,33 @@
+//! Frames into the channel.
+ghost use Rattle.std.specs.Prelude.{◌≡◌, ◌++◌, ◌≤◌, length};
+ghost use Rattle.wire_pump.specs.Ends.{fed, IsCounted};
+
+use crate::ends::FrameSender;
+use std::sync::Wait;
+use wire_frame::FrameBuf;
+
+/// How a feed ended.
+#[derive(Clone, Copy, Debug, PartialEq, Eq)]
+pub enum FeedEnd {
+    /// All frames were sent, and `Last` after them.
+    All,
+    /// That many of the frames were sent, the first ones, and no `Last`: the receiver is gone, or `Last` was sent before.
+    Gone(usize),
+}
+
+/// Sends the frames in order, and then `Last`. It waits while 64 messages are under way.
+pub fn feed<R: Wait>(sender: &mut FrameSender, rt: &R, frames: &[FrameBuf]) -> FeedEnd
+    ensures sent { sender.new ≡ record sender.old { sent = sender.old.sent ++ fed frames.now result } }
+    ensures count { IsCounted (length frames.now) result }
+{
+    for (sent, frame) in frames.iter().enumerate() {
+        if !sender.frame(rt, frame) {
+            return FeedEnd::Gone(sent);
+        }
+    }
+    if sender.last(rt) {
+        FeedEnd::All
+    } else {
+        FeedEnd::Gone(frames.len())
+    }
+}

@@ -1,0 +1,67 @@
+//! A channel.
+ghost use Rattle.std.specs.Prelude.{◌≡◌, [], IfOk, IfErr};
+ghost use Rattle.wire_frame.specs.declared.fault.Fault.TheVariants.{NoMemory};
+
+use crate::ends::{FrameReceiver, FrameSender};
+use crate::flow::{Ends, Flow, Hand};
+use crate::message::Parcel;
+use crossbeam_channel::{bounded, bounded_with};
+use std::alloc::{AllocError, Global};
+use wire_frame::{Fault, FrameBuf};
+
+/// How many messages a channel holds.
+const CAPACITY: usize = 64;
+/// How many frames it has room for: those under way, the one that is made and the one that is taken.
+const FRAMES: usize = CAPACITY + 2;
+
+/// A channel on which nothing was sent: the end for the wire's reader, and the end for the pump. It holds up to 64 messages.
+/// [`Fault::NoMemory`] comes only where the host refused the room; the calls of the ends take none.
+pub fn channel(alloc: Global) -> Result<(FrameSender, FrameReceiver), Fault>
+    ensures one { IfOk result (λ r. r.0.channel ≡ r.1.channel) }
+    ensures sent { IfOk result (λ r. r.0.sent ≡ []) }
+    ensures received { IfOk result (λ r. r.1.received ≡ []) }
+    ensures no_memory { IfErr result (λ fault. fault ≡ NoMemory) }
+{
+    match ends(alloc) {
+        Ok(ends) => Ok(ends),
+        Err(AllocError) => Err(Fault::NoMemory),
+    }
+}
+
+// The two ends.
+fn ends(alloc: Global) -> Result<(FrameSender, FrameReceiver), AllocError>
+    ensures one { IfOk result (λ r. r.0.channel ≡ r.1.channel) }
+    ensures sent { IfOk result (λ r. r.0.sent ≡ []) }
+    ensures received { IfOk result (λ r. r.1.received ≡ []) }
+{
+    let (end, from, mut pass) = bounded_with::<Parcel, Hand, Flow, Global>(alloc, CAPACITY)?;
+    let other = end.another::<Ends>(&mut pass);
+    let blanks = blanks(alloc)?;
+    let (back, used) = bounded(alloc, FRAMES)?;
+    Ok((
+        FrameSender {
+            end,
+            pass,
+            last_sent: false,
+            blanks,
+            used,
+        },
+        FrameReceiver {
+            end: from,
+            pass: other,
+            back,
+        },
+    ))
+}
+
+// Frames to be filled.
+fn blanks(alloc: Global) -> Result<Vec<Box<FrameBuf>>, AllocError> {
+    let mut blanks = Vec::with_capacity(alloc, FRAMES)?;
+    for _ in 0..FRAMES {
+        let Ok(blank) = Box::new(alloc, FrameBuf::blank()) else {
+            return Err(AllocError);
+        };
+        blanks.push(blank)?;
+    }
+    Ok(blanks)
+}

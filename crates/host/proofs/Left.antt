@@ -1,5 +1,5 @@
 -- The lines of what is left of a list, after one more event or frame.
-use Rattle.std.proofs.Common.{◌≡◌, ℕ, suc, List, [], ◌∷◌, Option, ◌++◌, ◌+◌, ◌<◌, ◌≤◌, length, drop, get_or, append_assoc, refl, sym, ap, ◌∙◌, subst, arith}
+use Rattle.std.proofs.Common.{◌≡◌, ℕ, suc, List, [], Option, ◌++◌, ◌+◌, ◌<◌, length, drop, append_assoc, sym, ◌∙◌, subst, arith}
 use Rattle.std.proofs.lemmas.List.{at_drop_more}
 use Rattle.std.specs.Prelude.{slice_index_or}
 use Rattle.device.specs.declared.event.Event.{Event}
@@ -80,8 +80,8 @@ pub kept_whole : (out : List ℕ) (w v : Watched) (device shape : World) (p : �
 kept_whole out w v device shape p es same made is =
     (λ k. out ++ keep_text ((same ∙ made) k).pool ((same ∙ made) k).world es) ∙ (λ k. out ++ keep_text p (is k) es)
 
-pub seen_whole : (out : List ℕ) (w v : Watched) (device shape : World) (p : ℕ) (s l : Lone) (limit size asked : ℕ) (es : List Event)
-    → w ≡ v → v ≡ record { world = device; pool = p } → device ≡ shape → s ≡ l → l ≡ alone limit size → size ≡ asked
-    → out ++ lone_text p s w.world es ≡ out ++ lone_text p (alone limit asked) shape es
-seen_whole out w v device shape p s l limit size asked es same made is new first as_asked =
-    (λ k. out ++ lone_text p ((new ∙ first) k) ((same ∙ made) k).world es) ∙ (λ k. out ++ lone_text p (alone limit (as_asked k)) (is k) es)
+pub seen_whole : (out : List ℕ) (w v : Watched) (device shape : World) (p : ℕ) (s l : Lone) (limit size most asked : ℕ) (es : List Event)
+    → w ≡ v → v ≡ record { world = device; pool = p } → device ≡ shape → s ≡ l → l ≡ alone limit size → limit ≡ most → size ≡ asked
+    → out ++ lone_text p s w.world es ≡ out ++ lone_text p (alone most asked) shape es
+seen_whole out w v device shape p s l limit size most asked es same made is new first as_long as_asked =
+    (λ k. out ++ lone_text p ((new ∙ first) k) ((same ∙ made) k).world es) ∙ (λ k. out ++ lone_text p (alone (as_long k) (as_asked k)) (is k) es)

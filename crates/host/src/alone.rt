@@ -1,32 +1,30 @@
 //! The mode `lone`: what is seen of a pool's function by itself, which is given no more than `keep` tells.
-ghost use Rattle.std.specs.Prelude.{◌≡◌, ◌++◌, false, length, IfErr, OnOk, OnErr};
+ghost use Rattle.std.specs.Prelude.{◌≡◌, ◌++◌, true, length, IfErr, OnOk, OnErr};
 ghost use Rattle.std.specs.Option.{option_map};
-ghost use Rattle.device.specs.Lone.{alone};
 ghost use Rattle.lone.specs.Kept.{observation_of};
 ghost use Rattle.transcript.specs.Known.{Began, Sent};
 ghost use Rattle.transcript.specs.Text.{seen_line};
 ghost use Rattle.transcript.specs.Lines.{if_any, lone_text};
-ghost use Rattle.host.specs.Faults.{is_early};
-ghost use Rattle.host.specs.Program.{device_of};
+ghost use Rattle.host.specs.Faults.{is_late};
+ghost use Rattle.host.specs.Program.{alone_of, device_of};
 
 use crate::fault::Fault;
 use crate::making::{is_of_size, make_device, make_lone, make_watch};
 use guest_memory::GuestMem;
 use lone::{Lone, Seen, Watch, follow};
-use script::{Room, Script, Shape};
+use script::{Room, Script};
 use std::alloc::Global;
 use std::io::Write;
 use transcript::Output;
 use wire_frame::PoolId;
 
-/// Gives a script's events to a device of its shape over these memories, and what they leave for the pool to its lone
+/// Gives a script's events to the device that it asks for over these memories, and what they leave for the pool to its lone
 /// function over its own memory; to the output the lines of what is seen of that, each with the number of its event.
 #[inline(never)]
 #[tactic(auto, using(transcript::proofs::Known::nothing_began))]
 pub fn lone_function<M: GuestMem, W: Write>(
     alloc: Global,
     script: &Script,
-    shape: Shape,
     pool: PoolId,
     memories: Vec<M>,
     memory: M,
@@ -34,11 +32,12 @@ pub fn lone_function<M: GuestMem, W: Write>(
     writer: &mut W,
 ) -> Result<(), Fault>
     ensures ok { OnOk result (Sent (W.contents writer.old) (W.contents writer.new)
-        (output.old ++ lone_text pool (alone shape.limit shape.memory_size) (device_of shape) script.now) output.new) }
+        (output.old ++ lone_text pool (alone_of script.now.device) (device_of script.now.device) script.now.events) output.new) }
     ensures err { OnErr result (Began (W.contents writer.old) (W.contents writer.new)
-        (output.old ++ lone_text pool (alone shape.limit shape.memory_size) (device_of shape) script.now)) }
-    ensures late { IfErr result (λ e. is_early e ≡ false) }
+        (output.old ++ lone_text pool (alone_of script.now.device) (device_of script.now.device) script.now.events)) }
+    ensures late { IfErr result (λ e. is_late e ≡ true) }
 {
+    let shape = script.shape();
     let (size, limit) = (shape.memory_size, shape.limit);
     let device = make_device(alloc, shape, memories)?;
     if !is_of_size(&memory, size) {
@@ -62,8 +61,10 @@ fn observations<M: GuestMem, W: Write>(
     writer: &mut W,
 ) -> Result<(), transcript::Fault>
     requires { watch.old.pool ≡ pool }
-    ensures ok { OnOk result (Sent (W.contents writer.old) (W.contents writer.new) (output.old ++ lone_text pool lone.old watch.old.world script.now) output.new) }
-    ensures err { OnErr result (Began (W.contents writer.old) (W.contents writer.new) (output.old ++ lone_text pool lone.old watch.old.world script.now)) }
+    ensures ok { OnOk result (Sent (W.contents writer.old) (W.contents writer.new)
+        (output.old ++ lone_text pool lone.old watch.old.world script.now.events) output.new) }
+    ensures err { OnErr result (Began (W.contents writer.old) (W.contents writer.new)
+        (output.old ++ lone_text pool lone.old watch.old.world script.now.events)) }
 {
     let mut room = Room::new();
     let mut given_room = lone::Room::new();

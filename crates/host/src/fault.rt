@@ -46,6 +46,11 @@ impl Fault {
 }
 
 impl From<script::Fault> for Fault {
+    ghost use Rattle.std.specs.Prelude.{◌≡◌};
+    ghost use Rattle.host.specs.Faults.{of_reading};
+
+    ghost from_gives = { λ fault e. e ≡ of_reading fault };
+
     fn from(fault: script::Fault) -> Fault {
         match fault {
             script::Fault::BadScript(line) => Fault::BadScript(line),
@@ -56,10 +61,10 @@ impl From<script::Fault> for Fault {
 }
 
 impl From<transcript::Fault> for Fault {
-    ghost use Rattle.std.specs.Prelude.{◌≡◌, false};
-    ghost use Rattle.host.specs.Faults.{is_early};
+    ghost use Rattle.std.specs.Prelude.{◌≡◌, true};
+    ghost use Rattle.host.specs.Faults.{is_late};
 
-    ghost from_gives = { λ _ e. is_early e ≡ false };
+    ghost from_gives = { λ _ e. is_late e ≡ true };
 
     fn from(fault: transcript::Fault) -> Fault {
         match fault {
@@ -70,10 +75,10 @@ impl From<transcript::Fault> for Fault {
 }
 
 impl From<AllocError> for Fault {
-    ghost use Rattle.std.specs.Prelude.{◌≡◌, false};
-    ghost use Rattle.host.specs.Faults.{is_early};
+    ghost use Rattle.std.specs.Prelude.{◌≡◌, true};
+    ghost use Rattle.host.specs.Faults.{is_late};
 
-    ghost from_gives = { λ _ e. is_early e ≡ false };
+    ghost from_gives = { λ _ e. is_late e ≡ true };
 
     fn from(_error: AllocError) -> Fault {
         Fault::NoMemory
@@ -81,10 +86,10 @@ impl From<AllocError> for Fault {
 }
 
 impl<T: Drop> From<AllocFailed<T>> for Fault {
-    ghost use Rattle.std.specs.Prelude.{◌≡◌, false};
-    ghost use Rattle.host.specs.Faults.{is_early};
+    ghost use Rattle.std.specs.Prelude.{◌≡◌, true};
+    ghost use Rattle.host.specs.Faults.{is_late};
 
-    ghost from_gives = { λ _ e. is_early e ≡ false };
+    ghost from_gives = { λ _ e. is_late e ≡ true };
 
     fn from(_error: AllocFailed<T>) -> Fault {
         Fault::NoMemory
@@ -92,10 +97,10 @@ impl<T: Drop> From<AllocFailed<T>> for Fault {
 }
 
 impl From<wire_frame::Fault> for Fault {
-    ghost use Rattle.std.specs.Prelude.{◌≡◌, false};
-    ghost use Rattle.host.specs.Faults.{is_early};
+    ghost use Rattle.std.specs.Prelude.{◌≡◌, true};
+    ghost use Rattle.host.specs.Faults.{is_late};
 
-    ghost from_gives = { λ _ e. is_early e ≡ false };
+    ghost from_gives = { λ _ e. is_late e ≡ true };
 
     // The makers of memories and devices are given what a script may ask for, so only memory can be refused.
     fn from(_fault: wire_frame::Fault) -> Fault {

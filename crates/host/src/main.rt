@@ -12,32 +12,42 @@ mod fault;
 mod keep;
 mod making;
 mod mode;
+mod report;
 mod run;
 mod status;
 #[cfg(test)]
 mod tests;
+mod threads;
 
 use crate::drive::drive;
 use crate::fault::Fault;
-use crate::mode::Mode;
+use crate::mode::Command;
 use crate::status::status;
+use crate::threads::drive_threads;
 use std::env;
 use std::io::ErrorKind;
 use std::process::ExitCode;
+use std::sync::Wait;
+use std::thread::Threads;
 
-// Does what the words of the command line ask for.
-fn execute(rt: &HostRuntime) -> Result<(), Fault> {
+// Does what the words of the command line ask for. The handle of threads is the runtime.
+fn execute<T: Threads + Wait + Copy + Send + 'static>(
+    rt: &HostRuntime,
+    threads: T,
+) -> Result<(), Fault> {
     let words = match env::args(rt) {
         Ok(words) => words.skip(1).collect::<Vec<String>>(rt.alloc())?,
         Err(e) if e.kind() == ErrorKind::OutOfMemory => return Err(Fault::NoMemory),
         Err(_) => return Err(Fault::Usage),
     };
-    let mode = Mode::from_words(words.as_slice())?;
-    drive(rt.alloc(), mode, &mut rt.stdin(), &mut rt.stdout())
+    match Command::from_words(words.as_slice())? {
+        Command::Alone(mode) => drive(rt.alloc(), mode, &mut rt.stdin(), &mut rt.stdout()),
+        Command::Threads => drive_threads(threads, rt.alloc(), &mut rt.stdin(), &mut rt.stdout()),
+    }
 }
 
 fn main(rt: HostRuntime) -> ExitCode {
-    match execute(&rt) {
+    match execute(&rt, rt) {
         Ok(()) => ExitCode::SUCCESS,
         Err(fault) => {
             let _ = eprintln!(rt; "{fault}");

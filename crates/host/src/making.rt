@@ -1,7 +1,8 @@
 //! The device that a script asks for.
 ghost use Rattle.std.specs.Prelude.{◌≡◌, true, false, length, map, replicate, IfOk, IfErr};
 ghost use Rattle.device.specs.Lone.{alone};
-ghost use Rattle.host.specs.Faults.{is_early};
+ghost use Rattle.script.specs.Shapes.{asked_by};
+ghost use Rattle.host.specs.Faults.{is_late};
 ghost use Rattle.host.specs.Program.{device_of};
 
 use crate::fault::Fault;
@@ -20,8 +21,8 @@ pub fn make_device<M: GuestMem>(
     shape: Shape,
     memories: Vec<M>,
 ) -> Result<Box<Device<M>>, Fault>
-    ensures ok { IfOk result (λ d. d.value ≡ device_of shape) }
-    ensures err { IfErr result (λ e. is_early e ≡ false) }
+    ensures ok { IfOk result (λ d. d.value ≡ device_of (asked_by shape)) }
+    ensures err { IfErr result (λ e. is_late e ≡ true) }
 {
     if !are_of_size(memories.as_slice(), shape.functions, shape.memory_size) {
         return Err(Fault::NoMemory);
@@ -60,7 +61,7 @@ pub fn make_watch<M: GuestMem>(
     pool: PoolId,
 ) -> Result<Box<Watch<M>>, Fault>
     ensures ok { IfOk result (λ w. w.value ≡ record { world = device.value; pool = pool }) }
-    ensures err { IfErr result (λ e. is_early e ≡ false) }
+    ensures err { IfErr result (λ e. is_late e ≡ true) }
 {
     Ok(Box::new(alloc, Watch::new(Box::into_inner(device), pool))?)
 }
@@ -73,7 +74,7 @@ pub fn make_lone<M: GuestMem>(
     limit: FrameLimit,
 ) -> Result<Box<Lone<M>>, Fault>
     ensures ok { IfOk result (λ l. l.value ≡ alone limit (length (M.bytes memory))) }
-    ensures err { IfErr result (λ e. is_early e ≡ false) }
+    ensures err { IfErr result (λ e. is_late e ≡ true) }
 {
     Ok(Box::new(alloc, Lone::new(memory, limit))?)
 }

@@ -17,6 +17,25 @@ pub enum Mode {
     Lone(u64),
 }
 
+/// What the program is to do.
+#[derive(Clone, Copy, Debug, PartialEq, Eq)]
+pub enum Command {
+    /// Do the script by one thread, in a mode.
+    Alone(Mode),
+    /// Do it by a thread for each guest.
+    Threads,
+}
+
+impl Command {
+    /// What the words after the program's name ask for: `threads`, or a mode. Any others are [`Fault::Usage`].
+    pub fn from_words(words: &[String]) -> Result<Command, Fault> {
+        match words {
+            [name] if name.as_bytes() == b"threads".as_slice() => Ok(Command::Threads),
+            _ => Ok(Command::Alone(Mode::from_words(words)?)),
+        }
+    }
+}
+
 /// The same, of a pool that has a function.
 #[derive(Clone, Copy, Debug, PartialEq, Eq)]
 pub enum Task {
@@ -50,7 +69,7 @@ impl Mode {
     pub fn task(self, functions: u8) -> Result<Task, Fault>
         requires { functions ≤ 64 }
         ensures ok { IfOk result (λ task. (task ≡ task_of self) × NamesBelow functions task) }
-        ensures err { IfErr result (λ e. e ≡ Fault.NoSuchVf) }
+        ensures err { IfErr result (λ e. (e ≡ Fault.NoSuchVf) × (NamesBelow functions (task_of self) → ⊥)) }
     {
         match self {
             Mode::Run => Ok(Task::Run),
@@ -64,7 +83,7 @@ impl Mode {
 fn pool_below(pool: u64, functions: u8) -> Result<PoolId, Fault>
     requires { functions ≤ 64 }
     ensures ok { IfOk result (λ p. (p ≡ pool) × (p < functions)) }
-    ensures err { IfErr result (λ e. e ≡ Fault.NoSuchVf) }
+    ensures err { IfErr result (λ e. (e ≡ Fault.NoSuchVf) × (functions ≤ pool)) }
 {
     if pool >= u64::from(functions) {
         return Err(Fault::NoSuchVf);

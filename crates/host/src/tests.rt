@@ -12,4 +12,5 @@ mod limits;
 mod one_function;
 mod receiving;
 mod sending;
+mod threads;
 mod wire_out;

@@ -8,15 +8,15 @@ use std::io::{Error, ErrorKind, Read, Write};
 use std::process::Abort;
 use std::test::Fail;
 
-// A reader of a text in parts. It fails at the call of that number, counted from 0.
+/// A reader of a text in parts. It fails at the call of that number, counted from 0.
 #[derive(Drop)]
-struct Parts<'a> {
-    rest: &'a [u8],
-    part: usize,
-    calls: usize,
-    fails_at: usize,
-    // The fault that comes before each part, as a signal that breaks a read off.
-    is_interrupted: bool,
+pub struct Parts<'a> {
+    pub rest: &'a [u8],
+    pub part: usize,
+    pub calls: usize,
+    pub fails_at: usize,
+    /// The fault that comes before each part, as a signal that breaks a read off.
+    pub is_interrupted: bool,
 }
 
 impl Read for Parts<'_> {
@@ -37,13 +37,13 @@ impl Read for Parts<'_> {
     }
 }
 
-// A writer that takes parts. It fails at the call of that number, counted from 0.
+/// A writer that takes parts. It fails at the call of that number, counted from 0.
 #[derive(Drop)]
-struct Taken {
-    taken: Vec<u8>,
-    part: usize,
-    calls: usize,
-    fails_at: usize,
+pub struct Taken {
+    pub taken: Vec<u8>,
+    pub part: usize,
+    pub calls: usize,
+    pub fails_at: usize,
 }
 
 impl Taken {
@@ -74,8 +74,8 @@ impl Write for Taken {
 const SCRIPT: &str =
     "vfs 8 65536\n@pools\n@receiver 3\nwire 0200000000030200000000990800.00*46\nmr 3 0x1000 16\nr 3 0x101c\nr 3 0x1010\n";
 
-// How many bytes a call moves.
-const PART: usize = 7;
+/// How many bytes a call moves.
+pub const PART: usize = 7;
 
 // Each mode, those for one function with the function that the script gives a frame to.
 const MODES: [Mode; 3] = [Mode::Run, Mode::Keep(3), Mode::Lone(3)];

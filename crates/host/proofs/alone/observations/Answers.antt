@@ -1,12 +1,12 @@
 -- One event more.
-use Rattle.std.proofs.Common.{rules, ◌≡◌, ◌∙◌, ◌<◌, length}
+use Rattle.std.proofs.Common.{rules, ◌∙◌, ◌<◌, length}
 use Rattle.transcript.proofs.Known.{began_next, on_err, sent_next}
 use Rattle.host.proofs.Left.{seen_next}
 use Rattle.host.proofs.alone.observations.Goals as goal
 
 pub returns-in_err-observation-clause-err : goal.returns-in_err-observation-clause-err
 returns-in_err-observation-clause-err g c =
-    let es = c.args.script.now in
+    let es = c.args.script.now.events in
     let i = c.loop-index.index in
     let less : i < length es = search rules in
     let step = c.follow-seen.ensures in
@@ -16,7 +16,7 @@ returns-in_err-observation-clause-err g c =
 
 pub loop-index-preserved : goal.loop-index-preserved
 loop-index-preserved g c =
-    let es = c.args.script.now in
+    let es = c.args.script.now.events in
     let i = c.loop-index.index in
     let less : i < length es = search rules in
     let step = c.follow-seen.ensures in

@@ -6,7 +6,7 @@ use Rattle.host.proofs.alone.observations.Given as goal
 
 abbrev pub invariant-loop-index : goal.invariant-loop-index
 invariant-loop-index g l = record {
-  sent : Sent (g.W.Write.contents l.fn.writer) (g.W.Write.contents l.writer) (l.fn.output ++ lone_text l.pool l.fn.lone l.fn.watch.world l.script)
-      (l.output ++ seen_lines (l.index + 1) l.pool l.lone l.watch.world (drop l.index l.script));
+  sent : Sent (g.W.Write.contents l.fn.writer) (g.W.Write.contents l.writer) (l.fn.output ++ lone_text l.pool l.fn.lone l.fn.watch.world l.script.events)
+      (l.output ++ seen_lines (l.index + 1) l.pool l.lone l.watch.world (drop l.index l.script.events));
   pool : l.watch.pool ≡ l.pool;
 }

@@ -1,6 +1,5 @@
 -- The output is new, and what it holds at the end is sent.
-use Rattle.std.proofs.Common.{rules}
-use Rattle.transcript.proofs.Known.{began_end, on_err, sent_end}
+use Rattle.transcript.proofs.Known.{began_end, on_err}
 use Rattle.host.proofs.drive.play.Goals as goal
 
 pub returns-in_err-finish-clause-err : goal.returns-in_err-finish-clause-err

@@ -1,12 +1,12 @@
 -- One event more.
-use Rattle.std.proofs.Common.{rules, ◌≡◌, ◌<◌, length}
+use Rattle.std.proofs.Common.{rules, ◌<◌, length}
 use Rattle.transcript.proofs.Known.{began_next, on_err, sent_next}
 use Rattle.host.proofs.Left.{kept_next}
 use Rattle.host.proofs.keep.items.Goals as goal
 
 pub returns-in_err-item-clause-err : goal.returns-in_err-item-clause-err
 returns-in_err-item-clause-err g c =
-    let es = c.args.script.now in
+    let es = c.args.script.now.events in
     let i = c.loop-index.index in
     let less : i < length es = search rules in
     let step = c.step-given.ensures in
@@ -15,7 +15,7 @@ returns-in_err-item-clause-err g c =
 
 pub loop-index-preserved : goal.loop-index-preserved
 loop-index-preserved g c =
-    let es = c.args.script.now in
+    let es = c.args.script.now.events in
     let i = c.loop-index.index in
     let less : i < length es = search rules in
     let step = c.step-given.ensures in

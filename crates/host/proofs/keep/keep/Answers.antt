@@ -1,4 +1,5 @@
 -- The device is that of the shape, watched for the pool.
+use Rattle.std.proofs.Common.{ap, ◌∙◌}
 use Rattle.transcript.proofs.Known.{began_none, on_err}
 use Rattle.host.specs.Program.{device_of}
 use Rattle.host.proofs.Left.{began_as, kept_whole, sent_as}
@@ -12,8 +13,8 @@ returns-in_err-watch-clause-err g c = on_err c.from_residual-in_err-watch.result
 
 pub returns-in_err-items-clause-err : goal.returns-in_err-items-clause-err
 returns-in_err-items-clause-err g c = on_err c.from_residual-in_err-items.result
-    (began_as _ _ _ _ (kept_whole c.args.output.now _ _ _ (device_of c.args.shape) c.args.pool c.args.script.now c.deref_mut.ensures.value c.in_ok-watch.ensures.ok c.in_ok-device.ensures.ok) c.in_err-items.ensures.err)
+    (began_as _ _ _ _ (kept_whole c.args.output.now _ _ _ (device_of c.args.script.now.device) c.args.pool c.args.script.now.events c.deref_mut.ensures.value c.in_ok-watch.ensures.ok (c.in_ok-device.ensures.ok ∙ ap device_of c.shape-shape.ensures)) c.in_err-items.ensures.err)
 
 pub returns-clause-ok : goal.returns-clause-ok
 returns-clause-ok g c =
-    sent_as _ _ _ _ _ (kept_whole c.args.output.now _ _ _ (device_of c.args.shape) c.args.pool c.args.script.now c.deref_mut.ensures.value c.in_ok-watch.ensures.ok c.in_ok-device.ensures.ok) c.in_ok-items.ensures.ok
+    sent_as _ _ _ _ _ (kept_whole c.args.output.now _ _ _ (device_of c.args.script.now.device) c.args.pool c.args.script.now.events c.deref_mut.ensures.value c.in_ok-watch.ensures.ok (c.in_ok-device.ensures.ok ∙ ap device_of c.shape-shape.ensures)) c.in_ok-items.ensures.ok

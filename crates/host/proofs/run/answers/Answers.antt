@@ -1,13 +1,12 @@
 -- One answer more.
-use Rattle.std.proofs.Common.{rules, ◌≡◌, ◌∙◌, sym, ◌<◌, length}
-use Rattle.std.specs.Prelude.{slice_index_or}
+use Rattle.std.proofs.Common.{rules, ◌∙◌, ◌<◌, length}
 use Rattle.transcript.proofs.Known.{began_next, on_err, sent_next}
 use Rattle.host.proofs.Left.{answers_next, world_next}
 use Rattle.host.proofs.run.answers.Goals as goal
 
 pub returns-in_err-answer-clause-err : goal.returns-in_err-answer-clause-err
 returns-in_err-answer-clause-err g c =
-    let es = c.args.script.now in
+    let es = c.args.script.now.events in
     let i = c.loop-index.index in
     let less : i < length es = search rules in
     on_err c.from_residual.result
@@ -15,7 +14,7 @@ returns-in_err-answer-clause-err g c =
 
 pub loop-index-preserved : goal.loop-index-preserved
 loop-index-preserved g c =
-    let es = c.args.script.now in
+    let es = c.args.script.now.events in
     let i = c.loop-index.index in
     let less : i < length es = search rules in
     record {

@@ -7,7 +7,7 @@ use Rattle.host.proofs.run.answers.Given as goal
 
 abbrev pub invariant-loop-index : goal.invariant-loop-index
 invariant-loop-index g l = record {
-  sent : Sent (g.W.Write.contents l.fn.writer) (g.W.Write.contents l.writer) (l.fn.output ++ lines 1 (answers l.fn.device l.script))
-      (l.output ++ lines (l.index + 1) (answers l.device (drop l.index l.script)));
-  world : world_after l.device (drop l.index l.script) ≡ world_after l.fn.device l.script;
+  sent : Sent (g.W.Write.contents l.fn.writer) (g.W.Write.contents l.writer) (l.fn.output ++ lines 1 (answers l.fn.device l.script.events))
+      (l.output ++ lines (l.index + 1) (answers l.device (drop l.index l.script.events)));
+  world : world_after l.device (drop l.index l.script.events) ≡ world_after l.fn.device l.script.events;
 }

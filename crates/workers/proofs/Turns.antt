@@ -1,0 +1,160 @@
+-- What a caller's own events are: those that it may make.
+use Rattle.std.proofs.Common.{◌≡◌, ◌≢◌, ℕ, ◌<◌, ◌≤◌, ◌==◌, ◌||◌, ◌&&◌, Bool, true, false, nat_lt, nat_le, List, [], ◌∷◌, ◌++◌, ◌+◌, length, map, take, get_or, slice_index, if◌then◌else◌, refl, sym, ap, ◌∙◌, subst, arith}
+use Rattle.std.specs.Prelude.{slice_index_or}
+use Rattle.std.proofs.lemmas.Bool.{false≢true}
+use Rattle.std.proofs.lemmas.Bool.Decides.{nat_tests}
+use Rattle.std.proofs.lemmas.List.{get_or-map, get_or_past, map_more, take_all}
+use Rattle.device.specs.declared.event.Event.{Event}
+use Rattle.device.specs.declared.event.Event.TheVariants.{Open, End, VfRead, VfWrite, MemRead, MemWrite, Serve, Flr, PfRead, PfWrite, PfReset, Wire}
+use Rattle.device_lock.specs.Callers.{may, is_port, is_pf, is_pump, is_service}
+use Rattle.device_lock.specs.Read.{bytes_asked}
+use Rattle.workers.specs.Callers.{caller_before, caller_of, port_or_service}
+use Rattle.guest_port.specs.Calls.{CallingPort, one_more_call}
+use Rattle.workers.specs.Calls.{IsPortEvent, called, one_call}
+use Rattle.workers.specs.Plans.{IsOwn, Planned}
+
+-- ---- events before `go`
+
+pub may_before : (e : Event) → may (caller_before e) e ≡ true
+may_before (Open p) = refl
+may_before (End p) = refl
+may_before (VfRead p offset) = refl
+may_before (VfWrite p offset x) = refl
+may_before (MemRead p at count) = refl
+may_before (MemWrite p at bytes) = refl
+may_before (Serve p q) = refl
+may_before (Flr p) = refl
+may_before (PfRead offset) = refl
+may_before (PfWrite offset x) = refl
+may_before PfReset = refl
+may_before (Wire frame) = refl
+
+-- ---- events after `go`
+
+-- a pool whose caller is a port is that port's
+own_pool : (ports : List Bool) (q p : ℕ) → p < 64 → port_or_service ports q ≡ p → q ≡ p
+own_pool ports q p below is = go (slice_index_or ports q false) refl
+  where
+    go : (has : Bool) → slice_index_or ports q false ≡ has → q ≡ p
+    go true is-true = rw is-true at is
+    go false is-false = let other : 66 ≡ p = rw is-false at is in absurd (omega (arith, other))
+
+pub port_event : (ports : List Bool) (e : Event) (p : ℕ) → p < 64 → caller_of ports e ≡ p → IsPortEvent p e
+port_event ports (Open q) p below is = absurd (omega (arith, is))
+port_event ports (End q) p below is = own_pool ports q p below is
+port_event ports (VfRead q offset) p below is = own_pool ports q p below is
+port_event ports (VfWrite q offset x) p below is = own_pool ports q p below is
+port_event ports (MemRead q at count) p below is = own_pool ports q p below is
+port_event ports (MemWrite q at bytes) p below is = own_pool ports q p below is
+port_event ports (Serve q n) p below is = absurd (omega (arith, is))
+port_event ports (Flr q) p below is = own_pool ports q p below is
+port_event ports (PfRead offset) p below is = absurd (omega (arith, is))
+port_event ports (PfWrite offset x) p below is = absurd (omega (arith, is))
+port_event ports PfReset p below is = absurd (omega (arith, is))
+port_event ports (Wire frame) p below is = absurd (omega (arith, is))
+
+pub own_port_event : (plan : Planned) (at p : ℕ) (e : Event) → p < 64 → IsOwn plan p at → e ≡ slice_index_or plan.events at PfReset → IsPortEvent p e
+own_port_event plan at p e below own is = subst (IsPortEvent p) (sym is) (port_event plan.ports (slice_index_or plan.events at PfReset) p below own)
+
+-- a pool that has a port is one of 64
+port_below : (ports : List Bool) (q : ℕ) → length ports ≡ 64 → slice_index_or ports q false ≡ true → q < 64
+port_below ports q many has = go (nat_lt q 64) refl
+  where
+    go : (less : Bool) → nat_lt q 64 ≡ less → q < 64
+    go true is-true = grind (arith, nat_tests)
+    go false is-false = absurd (false≢true (sym (get_or_past ports q false (grind (arith, nat_tests, many))) ∙ has))
+
+not_port : (ports : List Bool) (q c : ℕ) → length ports ≡ 64 → 64 ≤ c → port_or_service ports q ≡ c → c ≡ 66
+not_port ports q c many high is = go (slice_index_or ports q false) refl
+  where
+    go : (has : Bool) → slice_index_or ports q false ≡ has → c ≡ 66
+    go true is-true = let same : q ≡ c = rw is-true at is in let low = port_below ports q many is-true in absurd (omega (arith, same, low))
+    go false is-false = sym (rw is-false at is)
+
+service_may_port : (c p : ℕ) → c ≡ 66 → (is_port c p || is_service c) ≡ true
+service_may_port c p is = grind (arith, nat_tests)
+
+driver_may : (ports : List Bool) (e : Event) (c : ℕ) → length ports ≡ 64 → 64 ≤ c → caller_of ports e ≡ c → may c e ≡ true
+driver_may ports (Open q) c many high is = ap (λ (n : ℕ). is_service n) (sym is)
+driver_may ports (End q) c many high is = ap (λ (n : ℕ). is_service n) (not_port ports q c many high is)
+driver_may ports (VfRead q offset) c many high is = service_may_port c q (not_port ports q c many high is)
+driver_may ports (VfWrite q offset x) c many high is = service_may_port c q (not_port ports q c many high is)
+driver_may ports (MemRead q at count) c many high is = service_may_port c q (not_port ports q c many high is)
+driver_may ports (MemWrite q at bytes) c many high is = service_may_port c q (not_port ports q c many high is)
+driver_may ports (Serve q n) c many high is = ap (λ (n : ℕ). is_service n) (sym is)
+driver_may ports (Flr q) c many high is = service_may_port c q (not_port ports q c many high is)
+driver_may ports (PfRead offset) c many high is = ap (λ (n : ℕ). is_pf n || is_service n) (sym is)
+driver_may ports (PfWrite offset x) c many high is = ap (λ (n : ℕ). is_pf n || is_service n) (sym is)
+driver_may ports PfReset c many high is = ap (λ (n : ℕ). is_pf n || is_service n) (sym is)
+driver_may ports (Wire frame) c many high is = ap (λ (n : ℕ). is_pump n || is_service n) (sym is)
+
+pub own_may : (plan : Planned) (at c : ℕ) (e : Event) → length plan.ports ≡ 64 → 64 ≤ c → IsOwn plan c at → e ≡ slice_index_or plan.events at PfReset → may c e ≡ true
+own_may plan at c e many high own is = subst (λ (x : Event). may c x ≡ true) (sym is) (driver_may plan.ports (slice_index_or plan.events at PfReset) c many high own)
+
+pub may_first : (c : ℕ) (e : Event) → c ≡ caller_before e → may c e ≡ true
+may_first c e is = ap (λ (n : ℕ). may n e) is ∙ may_before e
+
+-- ---- bytes that an event reads
+
+pub few_asked : (e : Event) → bytes_asked e ≤ 2048
+few_asked (Open p) = omega arith
+few_asked (End p) = omega arith
+few_asked (VfRead p offset) = omega arith
+few_asked (VfWrite p offset x) = omega arith
+few_asked (MemRead p at count) = go (nat_le count 2048) refl
+  where
+    go : (few : Bool) → nat_le count 2048 ≡ few → (if nat_le count 2048 then count else 0) ≤ 2048
+    go true is-true = rw is-true (grind (arith, nat_tests))
+    go false is-false = rw is-false (omega arith)
+few_asked (MemWrite p at bytes) = omega arith
+few_asked (Serve p q) = omega arith
+few_asked (Flr p) = omega arith
+few_asked (PfRead offset) = omega arith
+few_asked (PfWrite offset x) = omega arith
+few_asked PfReset = omega arith
+few_asked (Wire frame) = omega arith
+
+pub room_for : (e : Event) (read : List ℕ) → length read ≡ 2048 → bytes_asked e ≤ length read
+room_for e read long = let few = few_asked e in omega (arith, few, long)
+
+-- ---- the callers of a script's events
+
+pub callers_more : (ports : List Bool) (es : List Event) (i : ℕ) (e : Event) (c : ℕ) (old new : List ℕ) → i < length es → e ≡ slice_index_or es i PfReset → c ≡ caller_of ports e
+    → old ≡ map (caller_of ports) (take i es) → new ≡ old ++ c ∷ [] → new ≡ map (caller_of ports) (take (i + 1) es)
+callers_more ports es i e c old new less is by before more =
+    more ∙ (λ k. before k ++ (by ∙ ap (caller_of ports) is) k ∷ []) ∙ sym (map_more (caller_of ports) es i PfReset less)
+
+pub callers_all : (ports : List Bool) (es : List Event) (i : ℕ) (callers : List ℕ) → length es ≤ i → callers ≡ map (caller_of ports) (take i es)
+    → callers ≡ map (caller_of ports) es
+callers_all ports es i callers end before = before ∙ ap (map (caller_of ports)) (take_all i es end)
+
+pub caller_at : (plan : Planned) (callers : List ℕ) (at c : ℕ) → callers ≡ map (caller_of plan.ports) plan.events → at < length plan.events
+    → c ≡ slice_index callers at → IsOwn plan c at
+caller_at plan callers at c are inside is =
+    sym (is ∙ ap (λ (xs : List ℕ). get_or xs at 0) are ∙ get_or-map (caller_of plan.ports) plan.events at PfReset 0 inside)
+
+-- ---- the pool of a port
+
+one_call_pool : (c : CallingPort) → (one_call c).port.pool ≡ c.port.pool
+one_call_pool c = go c.port.is_open
+  where
+    go : (is_open : Bool) → (if is_open then one_more_call c else c).port.pool ≡ c.port.pool
+    go true = refl
+    go false = refl
+
+called_pool : (e : Event) (c : CallingPort) → (called e c).port.pool ≡ c.port.pool
+called_pool (Open p) c = one_call_pool c
+called_pool (End p) c = refl
+called_pool (VfRead p offset) c = one_call_pool c
+called_pool (VfWrite p offset x) c = one_call_pool c
+called_pool (MemRead p at count) c = one_call_pool c
+called_pool (MemWrite p at bytes) c = one_call_pool c
+called_pool (Serve p q) c = one_call_pool c
+called_pool (Flr p) c = one_call_pool c
+called_pool (PfRead offset) c = one_call_pool c
+called_pool (PfWrite offset x) c = one_call_pool c
+called_pool PfReset c = one_call_pool c
+called_pool (Wire frame) c = one_call_pool c
+
+pub same_pool : (e : Event) (old new : CallingPort) (p : ℕ) → new ≡ called e old → old.port.pool ≡ p → new.port.pool ≡ p
+same_pool e old new p is before = ap (λ (c : CallingPort). c.port.pool) is ∙ called_pool e old ∙ before

@@ -1,0 +1,6 @@
+-- No call was made so far.
+use Rattle.std.proofs.Common.{◌≡◌, length}
+use Rattle.workers.proofs.calling.call.Given as goal
+
+abbrev pub invariant-loop : goal.invariant-loop
+invariant-loop g l = l.port ≡ l.fn.port

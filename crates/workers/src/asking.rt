@@ -1,0 +1,44 @@
+//! One event by a share.
+ghost use Rattle.std.specs.Prelude.{◌≡◌, ◌≤◌, true, length, IfErr, OnOk, OnErr};
+ghost use Rattle.device.specs.Request.{event_of};
+ghost use Rattle.wire_frame.specs.declared.fault.Fault.{Fault};
+ghost use Rattle.device_lock.specs.Callers.{may};
+ghost use Rattle.device_lock.specs.Held.{one_more};
+ghost use Rattle.device_lock.specs.Read.{bytes_asked};
+
+use device::{Outcome, Request};
+use device_lock::{LockedDevice, Share};
+use guest_memory::GuestMem;
+use std::sync::Wait;
+use std::sync::ledger::Ledger;
+use wire_frame::{Fault, FrameBuf};
+
+/// Takes the event that a request stands for, and answers what came of it. Where the history is full it is folded, and the
+/// event is taken once there is room. [`Fault::HistoryFull`] where it can't be folded: nothing was taken.
+///
+/// `frame` and `read` are lent for what the event sends and reads.
+pub fn ask<M: GuestMem, L: Ledger, R: Wait>(
+    rt: &R,
+    device: &LockedDevice<M, L>,
+    share: &mut Share<L>,
+    request: Request<'_>,
+    frame: &mut FrameBuf,
+    read: &mut [u8],
+) -> Result<Outcome, Fault>
+    requires may { may share.old.caller (event_of request) ≡ true }
+    requires room { bytes_asked (event_of request) ≤ length read.old }
+    ensures counted { OnOk result (share.new ≡ one_more share.old) }
+    ensures uncounted { OnErr result (share.new ≡ share.old) }
+    ensures full { IfErr result (λ e. e ≡ Fault.HistoryFull) }
+    ensures read { length read.new ≡ length read.old }
+{
+    for _ in rt.forever() {
+        if let Some(taken) = device.act_request(rt, share, request, frame, read) {
+            return Ok(taken.outcome);
+        }
+        if device.fold(rt).is_none() {
+            return Err(Fault::HistoryFull);
+        }
+    }
+    unreachable!()
+}

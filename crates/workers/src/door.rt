@@ -1,0 +1,82 @@
+//! The pump's door, with its gate and its folds.
+ghost use Rattle.std.specs.Prelude.{◌≡◌, ◌++◌, ◌∷◌, [], map, if◌then◌else◌};
+ghost use Rattle.device.specs.declared.event.Event.TheVariants.{Wire};
+
+use crate::gate::Gate;
+use device_lock::{LockedDevice, PUMP, Share};
+use guest_memory::GuestMem;
+use std::sync::ledger::Ledger;
+use std::sync::{Arc, Wait};
+use wire_frame::FrameBuf;
+use wire_pump::{Door, LockedDoor};
+
+/// The door to a device that threads share. Where the history is full it is folded, and the frame is given again until it is
+/// taken, between one call before and one after of the gate.
+#[derive(Drop)]
+pub struct GatedDoor<M: GuestMem, L: Ledger, G: Gate + Drop> {
+    inner: LockedDoor<M, L>,
+    device: Arc<LockedDevice<M, L>>,
+    gate: Arc<G>,
+    // how many frames came
+    n: u32,
+}
+
+impl<M: GuestMem, L: Ledger, G: Gate + Drop> GatedDoor<M, L, G> {
+    /// A door that took nothing yet.
+    pub fn new(
+        inner: LockedDoor<M, L>,
+        device: Arc<LockedDevice<M, L>>,
+        gate: Arc<G>,
+    ) -> GatedDoor<M, L, G> {
+        GatedDoor {
+            inner,
+            device,
+            gate,
+            n: 0,
+        }
+    }
+
+    /// The share, after all that the door took.
+    pub fn into_share(self) -> Share<L> {
+        let GatedDoor {
+            inner,
+            device: _,
+            gate: _,
+            n: _,
+        } = self;
+        inner.into_share()
+    }
+}
+
+impl<M: GuestMem, L: Ledger, G: Gate + Drop> Door for GatedDoor<M, L, G> {
+    ghost taken = { λ d. map Wire d.inner.frames };
+
+    fn act<R: Wait>(&mut self, rt: &R, frame: &FrameBuf) -> bool {
+        self.n = self.n.wrapping_add(1);
+        self.gate.before(PUMP, self.n);
+        let taken = take(rt, &self.device, &mut self.inner, frame);
+        self.gate.after(PUMP, self.n);
+        taken
+    }
+}
+
+// Gives a frame to the door until it is taken, and folds the history where it is full. It is not taken where the history
+// can't be folded.
+fn take<M: GuestMem, L: Ledger, R: Wait>(
+    rt: &R,
+    device: &LockedDevice<M, L>,
+    door: &mut LockedDoor<M, L>,
+    frame: &FrameBuf,
+) -> bool
+    ensures { map Wire door.new.frames ≡ (if result then map Wire door.old.frames ++ Wire frame.now ∷ [] else map Wire door.old.frames) }
+{
+    for _ in rt.forever() {
+        if door.act(rt, frame) {
+            return true;
+        }
+        if device.fold(rt).is_none() {
+            return false;
+        }
+    }
+    unreachable!()
+}

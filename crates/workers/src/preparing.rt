@@ -1,0 +1,144 @@
+//! The events before `go`.
+ghost use Rattle.std.specs.Prelude.{◌≡◌, ◌≤◌, length, IfErr, IfOk};
+ghost use Rattle.device.specs.Request.{event_of};
+ghost use Rattle.workers.specs.Callers.{caller_before, pf, service};
+ghost use Rattle.workers.specs.Opens.{opened, pools_from, with_pool};
+
+use crate::asking::ask;
+use crate::plan::caller_before;
+use device::bytes::MOST_BYTES;
+use device::{Outcome, Request};
+use device_lock::{LockedDevice, PF, Shares};
+use guest_memory::GuestMem;
+use script::{Room, Script};
+use std::alloc::{AllocError, Global};
+use std::sync::Wait;
+use std::sync::ledger::Ledger;
+use wire_frame::{Fault, FrameBuf, PoolId};
+
+/// Records the events before `go`, and all where there is none, in order: those of the physical function by its driver's
+/// share, and all others by the service's. Answers the pools that are open at `go`, rising, and none where there is none.
+///
+/// A call that finds the history full folds it and is made again. [`Fault::HistoryFull`] where it can't be folded, and then
+/// the events from that one on are not recorded; [`Fault::NoMemory`] where the host refused the room for the answer.
+pub fn prepare<M: GuestMem, L: Ledger, R: Wait>(
+    rt: &R,
+    alloc: Global,
+    script: &Script,
+    device: &LockedDevice<M, L>,
+    shares: &mut Shares<L>,
+) -> Result<Vec<u8>, Fault>
+    requires pf { shares.old.pf.caller ≡ pf }
+    requires service { shares.old.service.caller ≡ service }
+    ensures pf { shares.new.pf.caller ≡ pf }
+    ensures service { shares.new.service.caller ≡ service }
+    ensures others { (shares.new.pump ≡ shares.old.pump) × (shares.new.ports ≡ shares.old.ports) }
+{
+    let Some(go) = script.go() else {
+        record_first(rt, script, script.len(), device, shares)?;
+        return Ok(Vec::new(alloc));
+    };
+    let open = record_first(rt, script, go, device, shares)?;
+    match pools_in(alloc, &open) {
+        Ok(pools) => Ok(pools),
+        Err(AllocError) => Err(Fault::NoMemory),
+    }
+}
+
+// Records the first events of a script, and answers for each pool whether it is open after them.
+fn record_first<M: GuestMem, L: Ledger, R: Wait>(
+    rt: &R,
+    script: &Script,
+    count: usize,
+    device: &LockedDevice<M, L>,
+    shares: &mut Shares<L>,
+) -> Result<[bool; 64], Fault>
+    requires count { count ≤ length script.now.events }
+    requires pf { shares.old.pf.caller ≡ pf }
+    requires service { shares.old.service.caller ≡ service }
+    ensures pf { shares.new.pf.caller ≡ pf }
+    ensures service { shares.new.service.caller ≡ service }
+    ensures others { (shares.new.pump ≡ shares.old.pump) × (shares.new.ports ≡ shares.old.ports) }
+    ensures full { IfErr result (λ e. e ≡ Fault.HistoryFull) }
+    ensures open { IfOk result (λ pools. length pools ≡ 64) }
+{
+    let mut room = Room::new();
+    let mut frame = FrameBuf::blank();
+    let mut read = [0; MOST_BYTES];
+    let mut pools = [false; 64];
+    for at in 0..count {
+        let request = script.request(at, &mut room);
+        let outcome = record(rt, device, shares, request, &mut frame, &mut read)?;
+        note(request, outcome, &mut pools);
+    }
+    Ok(pools)
+}
+
+// Records an event before `go`, and answers what came of it.
+#[tactic(auto, using(crate::proofs::Turns::may_first, crate::proofs::Turns::room_for))]
+fn record<M: GuestMem, L: Ledger, R: Wait>(
+    rt: &R,
+    device: &LockedDevice<M, L>,
+    shares: &mut Shares<L>,
+    request: Request<'_>,
+    frame: &mut FrameBuf,
+    read: &mut [u8; MOST_BYTES],
+) -> Result<Outcome, Fault>
+    requires read { length read.old ≡ 2048 }
+    requires pf { shares.old.pf.caller ≡ pf }
+    requires service { shares.old.service.caller ≡ service }
+    ensures pf { shares.new.pf.caller ≡ pf }
+    ensures service { shares.new.service.caller ≡ service }
+    ensures others { (shares.new.pump ≡ shares.old.pump) × (shares.new.ports ≡ shares.old.ports) }
+    ensures full { IfErr result (λ e. e ≡ Fault.HistoryFull) }
+    ensures read { length read.new ≡ 2048 }
+{
+    let caller = caller_before(request);
+    if caller == PF {
+        ask(rt, device, &mut shares.pf, request, frame, read)
+    } else {
+        ask(rt, device, &mut shares.service, request, frame, read)
+    }
+}
+
+// Notes which pools an event leaves open.
+fn note(request: Request<'_>, outcome: Outcome, is_open: &mut [bool; 64])
+    requires { length is_open.old ≡ 64 }
+    ensures open { is_open.new ≡ opened (event_of request.entry) outcome is_open.old }
+    ensures len { length is_open.new ≡ 64 }
+{
+    if !matches!(outcome, Outcome::Done) {
+        return;
+    }
+    match request {
+        Request::Open(pool) => set(is_open, pool, true),
+        Request::End(pool) => set(is_open, pool, false),
+        Request::PfReset => *is_open = [false; 64],
+        _ => {}
+    }
+}
+
+// Notes whether a pool is open.
+fn set(is_open: &mut [bool; 64], pool: u8, value: bool)
+    requires { length is_open.old ≡ 64 }
+    ensures open { is_open.new ≡ with_pool pool value is_open.old }
+    ensures len { length is_open.new ≡ 64 }
+{
+    if pool < PoolId::COUNT {
+        is_open[usize::from(pool)] = value;
+    }
+}
+
+// The pools that are open, rising.
+fn pools_in(alloc: Global, is_open: &[bool; 64]) -> Result<Vec<u8>, AllocError>
+    requires { length is_open.now ≡ 64 }
+    ensures { IfOk result (λ pools. pools.items ≡ pools_from 0 is_open.now) }
+{
+    let mut pools = Vec::with_capacity(alloc, 64)?;
+    for pool in 0..PoolId::COUNT {
+        if is_open[usize::from(pool)] {
+            pools.push(pool)?;
+        }
+    }
+    Ok(pools)
+}

@@ -1,9 +1,10 @@
 //! A memory on the heap.
-ghost use Rattle.std.specs.Prelude.{◌≡◌, ℕ, ◌+◌, ◌-◌, ◌≤◌, ◌↔◌, ◌++◌, true, false, List, length, take, drop, max, replicate, slice_range, vec_capacity, IfOk, IfErr};
-ghost use Rattle.guest_memory.specs.Memory.{overwrite, padded, is_memory_size};
+ghost use Rattle.std.specs.Prelude.{◌≡◌, ℕ, ◌+◌, ◌-◌, ◌*◌, ◌/◌, ◌%◌, ◌<◌, ◌≤◌, ◌↔◌, ◌++◌, true, false, List, [], ◌∷◌, length, set, replicate, slice_range, vec_capacity, IfOk, IfErr};
+ghost use Rattle.guest_memory.specs.Memory.{overwrite, is_memory_size};
+ghost use Rattle.guest_memory.specs.Pages.{Paired, Listed};
 
 use crate::GuestMem;
-use std::alloc::Global;
+use std::alloc::{AllocError, Global};
 use std::marker::Model;
 use wire_frame::Fault;
 
@@ -22,36 +23,43 @@ pub fn is_memory_size(size: u64) -> bool
     size.is_multiple_of(SIZE_STEP) && size >= LEAST_SIZE && size <= GREATEST_SIZE
 }
 
+/// The bytes of a page.
+const PAGE: usize = 4096;
+/// The mark of a page that isn't stored.
+const UNSTORED: u16 = u16::MAX;
+
 /// A memory on the heap, of 4096 to 16,777,216 bytes, a multiple of 128.
 ///
-/// The room is taken when the memory is made, and none later. Of it, the bytes from a base up to the last one written are
-/// stored; those below and above are zero. The base is where the first write since the memory was made or cleared begins.
-/// So making, clearing and that write cost the same whatever the size and the address, and the host holds as much as lies
-/// between the base and the last byte written. A first write further up fills the gap with zeros. The first write below
-/// the base makes the base 0: what is stored moves up, and zeros fill the bytes below it. So it costs as much as all bytes
-/// up to the last one written, once until the next clear.
+/// The room is taken when the memory is made, and none later. Of it, the pages of 4096 bytes that were written since the
+/// memory was made or cleared are stored, one behind another in the order of their first write; the others are zero. So
+/// the host holds as much as those pages and a table of two bytes a page. An access costs as much as its bytes, and the
+/// first write to a page as much as the page; clearing costs as much as the number of the pages that were written.
 #[derive(Drop)]
 pub struct FlatMem {
-    base: usize,
+    // where each page is stored; there is one entry more than pages, so that an access of no bytes at the end has one
+    table: Vec<u16>,
+    // the stored pages, in the order of their first write
+    stored: Vec<u16>,
+    // the bytes of the stored pages
     cells: Vec<u8>,
     size: usize,
 }
 
 impl Model for FlatMem {
-    ghost use Rattle.std.specs.Prelude.{List, ℕ, ◌+◌, ◌≤◌, ◌++◌, length, replicate, vec_capacity};
-    ghost use Rattle.guest_memory.specs.Memory.{padded};
+    ghost use Rattle.std.specs.Prelude.{List, ℕ, length, vec_capacity};
+    ghost use Rattle.guest_memory.specs.Pages.{paged, IsPaged};
 
     ghost Value = { List ℕ };
 
-    ghost view = { λ m. padded m.size (replicate m.base 0 ++ m.cells.items) };
+    ghost view = { λ m. paged m.size m.table.items m.cells.items };
 
-    ghost invariant = { λ m. (m.base + length m.cells.items ≤ m.size) × (m.size ≤ vec_capacity m.cells) };
+    ghost invariant = { λ m. IsPaged m.size m.table.items m.stored.items (length m.cells.items) (vec_capacity m.cells) (vec_capacity m.stored) };
 }
 
 impl FlatMem {
     /// A memory of `size` zero bytes. A size outside the limits is [`Fault::BadMake`]; [`Fault::NoMemory`] comes only where
     /// the host refused the room.
-    #[tactic(auto, using(crate::proofs::PaddedLemmas::padded_none))]
+    #[tactic(auto, using(crate::proofs::PagesLemmas::paged_none))]
     pub fn new(alloc: Global, size: u64) -> Result<FlatMem, Fault>
         ensures ok { IfOk result (λ m. m ≡ replicate size 0) }
         ensures bad_make { (result ≡ Err Fault.BadMake) ↔ (is_memory_size size ≡ false) }
@@ -61,9 +69,17 @@ impl FlatMem {
             return Err(Fault::BadMake);
         }
         let size = size as usize;
-        match Vec::with_capacity(alloc, size) {
+        let pages = size / PAGE + 1;
+        let Ok(table) = empty_table(alloc, pages) else {
+            return Err(Fault::NoMemory);
+        };
+        let Ok(stored) = Vec::with_capacity(alloc, pages) else {
+            return Err(Fault::NoMemory);
+        };
+        match Vec::with_capacity(alloc, pages * PAGE) {
             Ok(cells) => Ok(FlatMem {
-                base: 0,
+                table,
+                stored,
                 cells,
                 size,
             }),
@@ -71,89 +87,180 @@ impl FlatMem {
         }
     }
 
-    // A read of bytes that are not all stored.
-    #[cold]
-    #[inline(never)]
-    #[tactic(auto, using(crate::proofs::PaddedLemmas::length_padded, crate::proofs::PaddedLemmas::read_padded))]
-    fn read_beyond(&self, start: usize, out: &mut [u8])
-        requires { start + length out.old ≤ length self.now }
+    // A read within a page.
+    #[inline]
+    #[tactic(auto, using(crate::proofs::PagesLemmas::length_paged, crate::proofs::PagesLemmas::read_paged, crate::proofs::PagesLemmas::read_unstored))]
+    fn read_page(&self, start: usize, out: &mut [u8])
+        requires fits { start + length out.old ≤ length self.now }
+        requires one { start % 4096 + length out.old ≤ 4096 }
         ensures { out.new ≡ slice_range self.now start (start + length out.old) }
     {
         let cells = self.cells.as_slice();
-        let below = self.base.saturating_sub(start).min(out.len());
-        let (zeros, rest) = out.split_at_mut(below);
-        blank(zeros);
-        copy_padded(cells, start.saturating_sub(self.base), rest);
+        let at = self.table[start / PAGE] as usize * PAGE + start % PAGE;
+        if at < cells.len() {
+            out.copy_from_slice(&cells[at..at + out.len()]);
+        } else {
+            blank(out);
+        }
     }
 
-    // A write to bytes that are not all stored.
+    // A write within a page.
+    #[inline]
+    #[tactic(auto, using(crate::proofs::PagesLemmas::length_paged, crate::proofs::PagesLemmas::write_paged, crate::proofs::PagesLemmas::is_paged_same))]
+    fn write_page(&mut self, start: usize, source: &[u8])
+        requires fits { start + length source.now ≤ length self.old }
+        requires one { start % 4096 + length source.now ≤ 4096 }
+        ensures { self.new ≡ overwrite start source.now self.old }
+    {
+        let page = start / PAGE;
+        let place = self.table[page];
+        if place == UNSTORED {
+            store(&mut self.table, &mut self.stored, page);
+            write_first(&mut self.cells, start % PAGE, source);
+        } else {
+            let at = place as usize * PAGE + start % PAGE;
+            write_within(&mut self.cells, at, source);
+        }
+    }
+
+    // A read across pages.
     #[cold]
     #[inline(never)]
-    #[tactic(auto, using(crate::proofs::PaddedLemmas::length_padded, crate::proofs::PaddedLemmas::write_padded_first, crate::proofs::PaddedLemmas::write_padded))]
-    fn write_beyond(&mut self, start: usize, source: &[u8])
+    #[tactic(auto, using(crate::proofs::PagesLemmas::length_paged))]
+    fn read_pages(&self, start: usize, out: &mut [u8])
+        requires { start + length out.old ≤ length self.now }
+        ensures { out.new ≡ slice_range self.now start (start + length out.old) }
+    {
+        let _size = self.size;
+        let end = start + out.len();
+        for page in start / PAGE..end.div_ceil(PAGE) {
+            let from = start.max(page * PAGE);
+            let to = end.min(page * PAGE + PAGE);
+            self.read_page(from, &mut out[from - start..to - start]);
+        }
+    }
+
+    // A write across pages.
+    #[cold]
+    #[inline(never)]
+    #[tactic(auto, using(crate::proofs::PagesLemmas::length_paged))]
+    fn write_pages(&mut self, start: usize, source: &[u8])
         requires { start + length source.now ≤ length self.old }
         ensures { self.new ≡ overwrite start source.now self.old }
     {
-        if self.cells.is_empty() {
-            self.base = start;
-        } else if start < self.base {
-            fill_below(&mut self.cells, self.base);
-            self.base = 0;
+        let _size = self.size;
+        let end = start + source.len();
+        for page in start / PAGE..end.div_ceil(PAGE) {
+            let from = start.max(page * PAGE);
+            let to = end.min(page * PAGE + PAGE);
+            self.write_page(from, &source[from - start..to - start]);
         }
-        write_cells(&mut self.cells, start - self.base, source);
     }
+}
+
+// Gives the page the next place. There is room, so nothing is allocated.
+#[cold]
+#[inline(never)]
+fn store(table: &mut Vec<u16>, stored: &mut Vec<u16>, page: usize)
+    requires page { page < length table.old.items }
+    requires few { length table.old.items ≤ 4097 }
+    requires free { length stored.old.items < length table.old.items }
+    requires room { length stored.old.items < vec_capacity stored.old }
+    ensures table { table.new.items ≡ set table.old.items page (length stored.old.items) }
+    ensures stored { stored.new.items ≡ stored.old.items ++ page ∷ [] }
+    ensures capacity { vec_capacity stored.old ≤ vec_capacity stored.new }
+{
+    table[page] = stored.len() as u16;
+    match stored.push(page as u16) {
+        Ok(()) => {}
+        Err(_) => unreachable!(),
+    }
+}
+
+// One page more, whose bytes are zero but for `source` from `start` on. There is room, so nothing is allocated.
+#[cold]
+#[inline(never)]
+fn write_first(cells: &mut Vec<u8>, start: usize, source: &[u8])
+    requires within { start + length source.now ≤ 4096 }
+    requires room { length cells.old.items + 4096 ≤ vec_capacity cells.old }
+    ensures cells { cells.new.items ≡ overwrite (length cells.old.items + start) source.now (cells.old.items ++ replicate 4096 0) }
+    ensures len { length cells.new.items ≡ length cells.old.items + 4096 }
+    ensures capacity { vec_capacity cells.old ≤ vec_capacity cells.new }
+{
+    let count = cells.len();
+    add_zeros(cells, PAGE);
+    write_within(cells, count + start, source);
 }
 
 impl GuestMem for FlatMem {
     ghost bytes = { λ m. m };
 
-    #[tactic(auto, using(crate::proofs::PaddedLemmas::length_padded))]
+    #[tactic(auto, using(crate::proofs::PagesLemmas::length_paged))]
     fn size(&self) -> u64 {
         self.size as u64
     }
 
-    #[tactic(auto, using(crate::proofs::PaddedLemmas::length_padded, crate::proofs::PaddedLemmas::read_padded_within))]
     fn read_at(&self, addr: u64, out: &mut [u8]) {
-        let cells = self.cells.as_slice();
         let start = addr as usize;
-        if start >= self.base && start - self.base + out.len() <= cells.len() {
-            let at = start - self.base;
-            out.copy_from_slice(&cells[at..at + out.len()]);
+        if start % PAGE + out.len() <= PAGE {
+            self.read_page(start, out);
         } else {
-            self.read_beyond(start, out);
+            self.read_pages(start, out);
         }
     }
 
-    #[tactic(auto, using(crate::proofs::PaddedLemmas::length_padded, crate::proofs::PaddedLemmas::write_padded_within))]
     fn write_at(&mut self, addr: u64, source: &[u8]) {
         let start = addr as usize;
-        if start >= self.base && start - self.base + source.len() <= self.cells.len() {
-            write_within(&mut self.cells, start - self.base, source);
+        if start % PAGE + source.len() <= PAGE {
+            self.write_page(start, source);
         } else {
-            self.write_beyond(start, source);
+            self.write_pages(start, source);
         }
     }
 
-    #[tactic(auto, using(crate::proofs::PaddedLemmas::length_padded, crate::proofs::PaddedLemmas::padded_none))]
+    #[tactic(auto, using(crate::proofs::PagesLemmas::length_paged, crate::proofs::PagesLemmas::paged_none))]
     fn clear(&mut self) {
+        forget(&mut self.table, &self.stored);
+        self.stored.clear();
         self.cells.clear();
-        self.base = 0;
     }
 }
 
-// Copies the cells from `start` on to the front of `out`, and fills the rest of it with zeros.
-#[tactic(auto, using(crate::proofs::PaddedLemmas::copied_padded))]
-fn copy_padded(cells: &[u8], start: usize, out: &mut [u8])
-    ensures { out.new ≡ slice_range (padded (start + length out.old) cells.now) start (start + length out.old) }
+// A table of the mark of a page that isn't stored.
+fn empty_table(alloc: Global, pages: usize) -> Result<Vec<u16>, AllocError>
+    ensures { IfOk result (λ v. v.items ≡ replicate pages 65535) }
 {
-    let from = start.min(cells.len());
-    let count = out.len().min(cells.len() - from);
-    let (front, rest) = out.split_at_mut(count);
-    front.copy_from_slice(&cells[from..from + count]);
-    blank(rest);
+    vec![in alloc; UNSTORED; pages]
+}
+
+// Puts the mark of a page that isn't stored in the place of each stored page, so that the table has nothing else.
+#[tactic(auto, using(crate::proofs::PagesLemmas::all_unstored))]
+fn forget(table: &mut Vec<u16>, stored: &[u16])
+    requires listed { Listed table.old.items stored.now }
+    requires paired { Paired table.old.items stored.now }
+    ensures { table.new.items ≡ replicate (length table.old.items) 65535 }
+{
+    for page in stored {
+        table[*page as usize] = UNSTORED;
+    }
+}
+
+// Adds zeros to the cells. There is room, so nothing is allocated.
+fn add_zeros(cells: &mut Vec<u8>, count: usize)
+    requires { length cells.old.items + count ≤ vec_capacity cells.old }
+    ensures cells { cells.new.items ≡ cells.old.items ++ replicate count 0 }
+    ensures len { length cells.new.items ≡ length cells.old.items + count }
+    ensures capacity { vec_capacity cells.old ≤ vec_capacity cells.new }
+{
+    match cells.resize(cells.len() + count, 0) {
+        Ok(()) => {}
+        Err(_) => unreachable!(),
+    }
 }
 
 // Fills `out` with zeros.
+#[cold]
+#[inline(never)]
 fn blank(out: &mut [u8])
     ensures { out.new ≡ replicate (length out.old) 0 }
 {
@@ -169,66 +276,5 @@ fn write_within(cells: &mut Vec<u8>, start: usize, source: &[u8])
     ensures capacity { vec_capacity cells.new ≡ vec_capacity cells.old }
 {
     let cells = cells.as_mut_slice();
-    let end = start + source.len();
-    cells[start..end].copy_from_slice(source);
-}
-
-// Writes `source` over the cells from `start` on, which it ends. There is room, so nothing is allocated.
-fn write_past(cells: &mut Vec<u8>, start: usize, source: &[u8])
-    requires { start + length source.now ≤ vec_capacity cells.old }
-    ensures cells { cells.new.items ≡ (take start cells.old.items ++ replicate (start - length cells.old.items) 0) ++ source.now }
-    ensures len { length cells.new.items ≡ start + length source.now }
-    ensures capacity { vec_capacity cells.old ≤ vec_capacity cells.new }
-{
-    match cells.resize(start, 0) {
-        Ok(()) => {}
-        Err(_) => unreachable!(),
-    }
-    match cells.extend_from_slice(source) {
-        Ok(()) => {}
-        Err(_) => unreachable!(),
-    }
-}
-
-// Writes `source` over the cells from `start` on; where it begins past their end, zeros fill the gap.
-#[tactic(auto, using(crate::proofs::PaddedLemmas::written_within, crate::proofs::PaddedLemmas::written_past))]
-fn write_cells(cells: &mut Vec<u8>, start: usize, source: &[u8])
-    requires { start + length source.now ≤ vec_capacity cells.old }
-    ensures cells { cells.new.items ≡ overwrite start source.now (padded (start + length source.now) cells.old.items) }
-    ensures len { length cells.new.items ≡ max (length cells.old.items) (start + length source.now) }
-    ensures capacity { vec_capacity cells.old ≤ vec_capacity cells.new }
-{
-    if start + source.len() <= cells.len() {
-        write_within(cells, start, source);
-    } else {
-        write_past(cells, start, source);
-    }
-}
-
-// Moves the cells up by `base` and fills the places below them with zeros. There is room, so nothing is allocated.
-fn fill_below(cells: &mut Vec<u8>, base: usize)
-    requires { base + length cells.old.items ≤ vec_capacity cells.old }
-    ensures cells { cells.new.items ≡ replicate base 0 ++ cells.old.items }
-    ensures len { length cells.new.items ≡ base + length cells.old.items }
-    ensures capacity { vec_capacity cells.old ≤ vec_capacity cells.new }
-{
-    let count = cells.len();
-    match cells.resize(base + count, 0) {
-        Ok(()) => {}
-        Err(_) => unreachable!(),
-    }
-    move_up(cells.as_mut_slice(), count);
-}
-
-// Moves the first `count` cells to the end, where the others are zero, and fills the places before them with zeros.
-#[tactic(auto, using(crate::proofs::PaddedLemmas::moved_up))]
-fn move_up(cells: &mut [u8], count: usize)
-    requires count { count ≤ length cells.old }
-    requires zeros { drop count cells.old ≡ replicate (length cells.old - count) 0 }
-    ensures { cells.new ≡ replicate (length cells.old - count) 0 ++ take count cells.old }
-{
-    let base = cells.len() - count;
-    cells.copy_within(..count, base);
-    let (left, _) = cells.split_at_mut(base.min(count));
-    blank(left);
+    cells[start..start + source.len()].copy_from_slice(source);
 }

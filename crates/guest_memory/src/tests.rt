@@ -4,6 +4,8 @@ use std::alloc::Global;
 use std::test::Fail;
 use wire_frame::Fault;
 
+mod pages;
+
 #[test]
 fn makes_memories_within_limits(rt: HostRuntime) {
     for (size, fault) in [
@@ -41,7 +43,7 @@ fn reads_what_was_written(rt: HostRuntime) -> Result<(), Fail> {
 }
 
 // Eight bytes of a memory of 64 KiB, read over bytes that are not zero.
-fn eight<M: GuestMem>(memory: &M, addr: u64) -> [u8; 8] {
+pub fn eight<M: GuestMem>(memory: &M, addr: u64) -> [u8; 8] {
     let mut bytes = [0xFFu8; 8];
     if memory.size() == 65_536 && addr <= 65_528 {
         read_bytes(memory, addr, &mut bytes);
@@ -127,7 +129,7 @@ fn boxes_are_memories(rt: HostRuntime) -> Result<(), Fail> {
 
 // Takes all the room that the host gives, in ever smaller parts. It gives up at a heap that does not run out, as that of
 // a sanitizer; there, let the allocations of `FlatMem::new` fail in turn.
-fn all_room(alloc: Global) -> Option<Vec<Vec<u8>>> {
+pub fn all_room(alloc: Global) -> Option<Vec<Vec<u8>>> {
     let mut taken = Vec::with_capacity(alloc, 40_000).ok()?;
     let mut size = 1usize << 46;
     for _ in 0..35 {

@@ -1,3 +1,2 @@
-pub mod EntryLemmas
-pub mod IndexLemmas
 pub mod MaskLemmas
+pub mod WriteLemmas

@@ -1,5 +1,5 @@
 -- A mask of 64 pools is 0 exactly where no pool passes the test that its bits are.
-use Rattle.std.proofs.Common.{arith, ◌≡◌, ℕ, zero, suc, ◌+◌, ◌<◌, ◌^◌, Bool, true, false, not, refl, sym, ap, ◌∙◌, eqb, get_or}
+use Rattle.std.proofs.Common.{arith, ◌≡◌, ℕ, zero, suc, ◌<◌, ◌^◌, Bool, true, false, not, sym, ap, ◌∙◌, eqb, get_or}
 use Rattle.std.specs.Int.{w64, trailing_zeros}
 use Rattle.std.specs.List.{list_any, range_with_len}
 use Rattle.std.proofs.lemmas.Bool.Decides.{nat_tests}
@@ -8,10 +8,7 @@ use Rattle.std.proofs.lemmas.List.FromFn.{length-range_with_len, get_or-range_wi
 use Rattle.std.proofs.lemmas.Nat.Bits.{bit_at-trailing_zeros}
 use Rattle.wire_frame.specs.Bits.{has_bit}
 use Rattle.wire_frame.proofs.BitLemmas.{has_bit_zero}
-
-none_passes : (t : ℕ → Bool) (a n : ℕ) → ((p : ℕ) → p < a + n → t p ≡ false) → list_any t (range_with_len a n) ≡ false
-none_passes t a zero fails = refl
-none_passes t a (suc n) fails = rw (fails a (omega arith)) (none_passes t (a + 1) n (λ p h. fails p (omega arith)))
+use Rattle.pool_index.proofs.EntryLemmas.{none_passes}
 
 one_passes : (t : ℕ → Bool) (n p : ℕ) → p < n → t p ≡ true → list_any t (range_with_len 0 n) ≡ true
 one_passes t n p h passes =

@@ -5,6 +5,7 @@ use Rattle.std.specs.List.{list_any, range_with_len}
 use Rattle.wire_frame.specs.declared.row.Row.{Row}
 use Rattle.wire_frame.specs.Row.{◌or◌, word_at, words_after, one_at, one_after}
 use Rattle.wire_frame.specs.Bits.{has_bit, has_bit_in, two_words, field}
+use Rattle.pool_index.specs.Entries.{Entries}
 
 -- the words of RAL, RAH, MPSAR, MTA and MCSTCTRL
 pub record Addresses : Type 0 where
@@ -74,6 +75,10 @@ has_address a pool address = list_any (entry_gives a pool address) (range_with_l
 -- some pool has the address
 unfoldable pub is_held : Addresses → ℕ → Bool
 is_held a address = list_any (λ pool. has_address a pool address) (range_with_len 0 64)
+
+-- the entries as they are kept in an index: by their addresses
+abbrev pub address_entries : Addresses → Entries
+address_entries a = record { is_valid = λ e. has_bit (slice_index a.high e) 31; key = entry_address a; has_pool = entry_has_pool a }
 
 -- ---- the multicast table
 

@@ -4,8 +4,8 @@ ghost use Rattle.byteorder.specs.Endian.{little_number};
 ghost use Rattle.wire_frame.specs.Bits.{has_bit};
 ghost use Rattle.addr_tables.specs.Addresses.{initial_addresses, addresses_at, addresses_after, entry_address, entry_has_pool, has_address, is_held, multicast_hit};
 
-use crate::index::Index;
-use crate::words::Words;
+use crate::words::{Words, entry_of};
+use pool_index::PoolIndex;
 use std::marker::Model;
 use wire_frame::{Mac, PoolId, has_bit};
 
@@ -13,18 +13,18 @@ use wire_frame::{Mac, PoolId, has_bit};
 #[derive(Drop)]
 pub struct AddrTables {
     words: Words,
-    index: Index,
+    index: PoolIndex<128>,
 }
 
 impl Model for AddrTables {
-    ghost use Rattle.addr_tables.specs.Addresses.{Addresses};
-    ghost use Rattle.addr_tables.specs.Index.{IsIndexOf};
+    ghost use Rattle.pool_index.specs.Entries.{IsIndexOf};
+    ghost use Rattle.addr_tables.specs.Addresses.{Addresses, address_entries};
 
     ghost Value = { Addresses };
 
     ghost view = { λ t. t.words };
 
-    ghost invariant = { λ t. IsIndexOf t.index t.words };
+    ghost invariant = { λ t. IsIndexOf t.index 128 (address_entries t.words) };
 }
 
 impl Default for AddrTables {
@@ -44,7 +44,7 @@ impl AddrTables {
     {
         AddrTables {
             words: Words::new(),
-            index: Index::new(),
+            index: PoolIndex::new(),
         }
     }
 
@@ -60,9 +60,16 @@ impl AddrTables {
     pub fn write(&mut self, offset: u32, value: u32)
         ensures { self.new ≡ addresses_after self.old offset value }
     {
+        let Some(e) = entry_of(offset) else {
+            self.words.write(offset, value);
+            return;
+        };
+        let former = self.words.entry_address(e);
         self.words.write(offset, value);
-        if self.words.is_of_entry(offset) {
-            self.index.rebuild(&self.words);
+        let address = self.words.entry_address(e);
+        self.index.set(former, self.words.found(former));
+        if address != former {
+            self.index.set(address, self.words.found(address));
         }
     }
 }

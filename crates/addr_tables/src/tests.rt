@@ -129,6 +129,57 @@ fn many_addresses_take_few_comparisons(rt: HostRuntime) {
     }
 }
 
+// Tables in which each of the 128 entries holds an address of its own, 02:00:00:00:00:00 to 02:00:00:00:00:7F, for the pool
+// with the entry's number, counted from 0 again after 63.
+fn full_tables() -> AddrTables {
+    let mut tables = AddrTables::new();
+    for e in 0..128 {
+        tables.write(0xA200 + 8 * e, 0x2);
+        tables.write(0xA204 + 8 * e, 0x8000_0000 + 256 * e);
+        tables.write(0xA600 + 4 * (2 * e + e / 32 % 2), 1 << (e % 32));
+    }
+    tables
+}
+
+/// 128 addresses, of which each entry in turn gets another, whose last byte is 128 more. The former one is then no pool's,
+/// and the new one is found with the pool of its entry, by at most 8 comparisons.
+#[test]
+fn full_tables_are_rewritten(rt: HostRuntime) {
+    let mut tables = full_tables();
+    for e in 0..128u8 {
+        tables.write(0xA204 + 8 * u32::from(e), 0x8000_8000 + 256 * u32::from(e));
+        let former = tables.probe(Mac([2, 0, 0, 0, 0, e]));
+        assert_eq!(rt; former.0, 0, "entry {e}");
+        assert!(rt; former.1 <= 8, "entry {e}");
+        let (pools, compared) = tables.probe(Mac([2, 0, 0, 0, 0, 128 + e]));
+        assert_eq!(rt; pools, 1 << (e % 64), "entry {e}");
+        assert!(rt; 1 <= compared && compared <= 8, "entry {e}: {compared}");
+    }
+}
+
+/// 128 addresses, of which each entry in turn gets one and the same, which gathers their pools; it is then the only one,
+/// and found by one comparison. It stays with the pools of the rest while the entries cease to be valid.
+#[test]
+fn one_address_gathers_all_pools(rt: HostRuntime) {
+    let mut tables = full_tables();
+    let address = Mac([2, 0, 0, 0, 0, 0xEE]);
+    for e in 0..128 {
+        tables.write(0xA204 + 8 * e, 0x8000_EE00);
+    }
+    assert_eq!(rt; tables.probe(address), (u64::MAX, 1));
+    assert_eq!(rt; tables.probe(Mac([2, 0, 0, 0, 0, 0x7F])), (0, 1));
+    for e in 0..64 {
+        tables.write(0xA204 + 8 * e, 0xEE00);
+    }
+    assert_eq!(rt; tables.probe(address), (u64::MAX, 1));
+    for e in 64..127 {
+        tables.write(0xA204 + 8 * e, 0xEE00);
+    }
+    assert_eq!(rt; tables.probe(address), (0x8000_0000_0000_0000, 1));
+    tables.write(0xA5FC, 0xEE00);
+    assert_eq!(rt; tables.probe(address), (0, 0));
+}
+
 /// What an entry gives a pool. The first entry is for pool 1, the last for pool 34, the second is not valid and the third
 /// has no pools.
 #[test]

@@ -1,9 +1,10 @@
 //! The words of the registers, and what they say.
-ghost use Rattle.std.specs.Prelude.{◌≡◌, ℕ, ◌%◌, ◌<◌, ◌||◌, Some, None, slice_index, if◌then◌else◌};
+ghost use Rattle.std.specs.Prelude.{◌≡◌, ℕ, ◌/◌, ◌%◌, ◌<◌, ◌==◌, ◌&&◌, true, Some, None, IfSome, slice_index, if◌then◌else◌};
 ghost use Rattle.byteorder.specs.Endian.{little_number};
 ghost use Rattle.wire_frame.specs.Bits.{has_bit, has_bit_in, two_words};
-ghost use Rattle.wire_frame.specs.Row.{is_in};
-ghost use Rattle.addr_tables.specs.Addresses.{initial_addresses, addresses_at, addresses_after, low_row, high_row, pools_row, entry_address, entry_has_pool, hash_low, multicast_hit};
+ghost use Rattle.wire_frame.specs.Row.{is_in, place};
+ghost use Rattle.pool_index.specs.Entries.{IsAnswer};
+ghost use Rattle.addr_tables.specs.Addresses.{initial_addresses, addresses_at, addresses_after, low_row, high_row, pools_row, entry_address, entry_has_pool, address_entries, hash_low, multicast_hit};
 
 use crate::registers::{MCSTCTRL, MCSTCTRL_KEPT, MFE, MPSAR, MTA, RAH, RAL, VALID};
 use std::marker::Model;
@@ -68,17 +69,6 @@ impl Words {
         write_word(&mut self.hashes, MTA, offset, value);
         write_one(&mut self.control, MCSTCTRL, MCSTCTRL_KEPT, offset, value);
     }
-
-    /// Whether the offset names a word of an entry: of RAL, RAH or MPSAR.
-    #[inline]
-    #[tactic(auto, unfolding(wire_frame::specs::Row::word_at))]
-    pub(crate) fn is_of_entry(&self, offset: u32) -> bool
-        ensures { result ≡ (is_in low_row offset || (is_in high_row offset || is_in pools_row offset)) }
-    {
-        read_word(&self.low, RAL, offset).is_some()
-            || read_word(&self.high, RAH, offset).is_some()
-            || read_word(&self.pools, MPSAR, offset).is_some()
-    }
 }
 
 /// One entry.
@@ -99,6 +89,15 @@ impl Words {
         ensures { result ≡ entry_address self.now e }
     {
         u64::from(self.low[e]) + u64::from(self.high[e] % 0x1_0000) * 0x1_0000_0000
+    }
+
+    /// Whether an entry is valid and holds the address.
+    #[inline]
+    pub(crate) fn holds(&self, e: usize, address: u64) -> bool
+        requires { e < 128 }
+        ensures { result ≡ (has_bit (slice_index self.now.high e) 31 && (entry_address self.now e == address)) }
+    {
+        self.is_valid(e) && self.entry_address(e) == address
     }
 
     /// The pools of an entry, as a mask with bit p for pool p.
@@ -122,6 +121,42 @@ impl Words {
             None
         }
     }
+}
+
+/// All entries.
+impl Words {
+    /// The pools of all valid entries that hold the address; `None` where no valid entry does. It looks at every entry.
+    pub(crate) fn found(&self, address: u64) -> Option<u64>
+        ensures { IsAnswer result 128 (address_entries self.now) address }
+    {
+        let mut found = None;
+        for e in 0..128 {
+            if self.holds(e, address) {
+                found = Some(found.unwrap_or(0) | self.entry_pools(e));
+            }
+        }
+        found
+    }
+}
+
+/// The entry of which the offset names a word, one of RAL, RAH or MPSAR. An entry's words of RAL and RAH stand in 8 bytes,
+/// and so do its two of MPSAR.
+#[inline]
+pub(crate) fn entry_of(offset: u32) -> Option<usize>
+    ensures low { is_in low_row offset ≡ true → result ≡ Some (place low_row offset) }
+    ensures high { is_in high_row offset ≡ true → result ≡ Some (place high_row offset) }
+    ensures pools { is_in pools_row offset ≡ true → result ≡ Some (place pools_row offset / 2) }
+    ensures below { IfSome result (λ e. e < 128) }
+{
+    let first = if offset < MPSAR.first {
+        RAL.first
+    } else {
+        MPSAR.first
+    };
+    if offset < first || offset - first >= 1024 {
+        return None;
+    }
+    Some(((offset - first) / 8) as usize)
 }
 
 /// The multicast table.

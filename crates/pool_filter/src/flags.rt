@@ -1,7 +1,5 @@
 //! The flags of a pool.
-ghost use Rattle.std.specs.Prelude.{⊤, ◌≡◌, ℕ, ◌<◌, [], ◌∷◌, codes, slice_index};
-ghost use Rattle.wire_frame.specs.Bits.{has_bit};
-ghost use Rattle.pool_filter.specs.Flags.{has_flags};
+ghost use Rattle.std.specs.Prelude.{⊤, [], ◌∷◌, codes};
 
 use bitflags::{Flag, Flags, bitflag_items};
 
@@ -43,17 +41,4 @@ impl Flags for PoolFlags {
     fn from_bits_retain(bits: u32) -> PoolFlags {
         PoolFlags(bits)
     }
-}
-
-// The pools whose word has all of the flags, of one word a pool.
-pub(crate) fn pools_with(words: &[u32; 64], flags: PoolFlags) -> u64
-    ensures { (p : ℕ) → p < 64 → has_bit result p ≡ has_flags (slice_index words.now p) flags.0 }
-{
-    let mut pools = 0u64;
-    for p in 0..64 {
-        if PoolFlags::from_bits_retain(words[p]).contains(flags) {
-            pools |= 1 << p;
-        }
-    }
-    pools
 }

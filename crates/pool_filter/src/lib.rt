@@ -11,6 +11,7 @@
 pub mod filter;
 pub mod flags;
 pub mod laws;
+mod masks;
 pub mod own;
 pub mod registers;
 pub mod tables;

@@ -8,11 +8,12 @@ ghost use Rattle.pool_filter.specs.Settings.{initial_settings, pools_at, setting
 ghost use Rattle.pool_filter.specs.Accepts.{flags_of, takes_untagged, takes_hashed, takes_broadcast, takes_multicast, default_pool, loops_back, may_receive};
 ghost use Rattle.pool_filter.specs.Own.{own, contains, port_vlan_of};
 
-use crate::flags::{PoolFlags, pools_with};
+use crate::flags::PoolFlags;
+use crate::masks::FlagMasks;
 use crate::own::{Own, port_vlan_of, put_addresses, put_vlan_ids};
 use crate::registers::{
     DEFAULT_POOL_OFF, LOOPBACK, PF_VT_CTL, PF_VT_CTL_INITIAL, PF_VT_CTL_KEPT, PF_VT_CTL_SET,
-    PFDTXGSWC, PFDTXGSWC_KEPT, PFVFRE, PFVFSPOOF, PFVFTE, VMOLR, VMVIR,
+    PFDTXGSWC, PFDTXGSWC_KEPT, PFVFRE, PFVFSPOOF, PFVFTE, VMVIR,
 };
 use addr_tables::AddrTables;
 use bitflags::Flags;
@@ -33,7 +34,7 @@ pub struct Tables {
     port_vlans: [u32; 64],
     sender_checks: [u32; 8],
     loopback: u32,
-    pool_flags: [u32; 64],
+    pool_flags: FlagMasks,
 }
 
 impl Model for Tables {
@@ -79,7 +80,7 @@ impl Tables {
             port_vlans: [0; 64],
             sender_checks: [0; 8],
             loopback: 0,
-            pool_flags: [0; 64],
+            pool_flags: FlagMasks::new(),
         }
     }
 
@@ -102,7 +103,7 @@ impl Tables {
             .or(read_word(&self.port_vlans, VMVIR, offset))
             .or(read_word(&self.sender_checks, PFVFSPOOF, offset))
             .or(read_one(self.loopback, PFDTXGSWC, offset))
-            .or(read_word(&self.pool_flags, VMOLR, offset))
+            .or(self.pool_flags.read(offset))
     }
 
     /// The register at an offset; 0 where none of these stands.
@@ -142,7 +143,7 @@ impl Tables {
         write_word(&mut self.port_vlans, VMVIR, offset, value);
         write_word(&mut self.sender_checks, PFVFSPOOF, offset, value);
         write_one(&mut self.loopback, PFDTXGSWC, PFDTXGSWC_KEPT, offset, value);
-        write_word(&mut self.pool_flags, VMOLR, offset, value);
+        self.pool_flags.write(offset, value);
     }
 }
 
@@ -189,35 +190,35 @@ impl Tables {
     }
 
     // The pools that take untagged frames where VLANs are filtered.
-    #[tactic(auto, using(crate::proofs::FlagLemmas::flag_24))]
+    #[inline]
     pub(crate) fn untagged_pools(&self) -> u64
         ensures { (p : ℕ) → p < 64 → has_bit result p ≡ takes_untagged self.now p }
     {
-        pools_with(&self.pool_flags, PoolFlags::AUPE)
+        self.pool_flags.untagged()
     }
 
     // The pools that take the multicast frames whose destination the multicast table has.
-    #[tactic(auto, using(crate::proofs::FlagLemmas::flag_25))]
+    #[inline]
     pub(crate) fn hashed_pools(&self) -> u64
         ensures { (p : ℕ) → p < 64 → has_bit result p ≡ takes_hashed self.now p }
     {
-        pools_with(&self.pool_flags, PoolFlags::ROMPE)
+        self.pool_flags.hashed()
     }
 
     // The pools that take broadcast frames.
-    #[tactic(auto, using(crate::proofs::FlagLemmas::flag_27))]
+    #[inline]
     pub(crate) fn broadcast_pools(&self) -> u64
         ensures { (p : ℕ) → p < 64 → has_bit result p ≡ takes_broadcast self.now p }
     {
-        pools_with(&self.pool_flags, PoolFlags::BAM)
+        self.pool_flags.broadcast()
     }
 
     // The pools that take all multicast frames.
-    #[tactic(auto, using(crate::proofs::FlagLemmas::flag_28))]
+    #[inline]
     pub(crate) fn multicast_pools(&self) -> u64
         ensures { (p : ℕ) → p < 64 → has_bit result p ≡ takes_multicast self.now p }
     {
-        pools_with(&self.pool_flags, PoolFlags::MPE)
+        self.pool_flags.multicast()
     }
 }
 
@@ -319,7 +320,7 @@ impl Tables {
     pub fn flags(&self, pool: PoolId) -> PoolFlags
         ensures { result.0 ≡ flags_of self.now pool }
     {
-        PoolFlags(self.pool_flags[usize::from(pool.get())])
+        PoolFlags(self.pool_flags.word(pool))
     }
 
     /// Whether the pool takes untagged frames.

@@ -79,6 +79,58 @@ fn broadcast_by_its_flag(rt: HostRuntime) -> Result<(), Fail> {
     Ok(())
 }
 
+/// The words of VMOLR of pools 31, 32 and 33, of which some are written twice, and of pools 0 and 63: the pools with AUPE,
+/// ROMPE, BAM and MPE after each write. The flags are bits 24, 25, 27 and 28; no other bit of the word is one.
+#[test]
+fn flags_of_neighbours(rt: HostRuntime) {
+    let mut tables = Tables::new();
+    let steps = [
+        (0xF080, 0x0900_0000, [0x1_0000_0000, 0, 0x1_0000_0000, 0]),
+        (
+            0xF07C,
+            0x1200_0000,
+            [0x1_0000_0000, 0x8000_0000, 0x1_0000_0000, 0x8000_0000],
+        ),
+        (
+            0xF084,
+            0x1B00_0000,
+            [0x3_0000_0000, 0x2_8000_0000, 0x3_0000_0000, 0x2_8000_0000],
+        ),
+        (
+            0xF080,
+            0x1000_0000,
+            [0x2_0000_0000, 0x2_8000_0000, 0x2_0000_0000, 0x3_8000_0000],
+        ),
+        (
+            0xF07C,
+            0x0,
+            [0x2_0000_0000, 0x2_0000_0000, 0x2_0000_0000, 0x3_0000_0000],
+        ),
+        (0xF084, 0xE4FF_FFFF, [0, 0, 0, 0x1_0000_0000]),
+        (0xF000, 0x0800_0000, [0, 0, 0x1, 0x1_0000_0000]),
+        (
+            0xF0FC,
+            0x0800_0000,
+            [0, 0, 0x8000_0000_0000_0001, 0x1_0000_0000],
+        ),
+        (
+            0xF100,
+            0x1B00_0000,
+            [0, 0, 0x8000_0000_0000_0001, 0x1_0000_0000],
+        ),
+    ];
+    for (offset, value, want) in steps {
+        tables.write(offset, value);
+        let masks = [
+            tables.untagged_pools(),
+            tables.hashed_pools(),
+            tables.broadcast_pools(),
+            tables.multicast_pools(),
+        ];
+        assert_eq!(rt; masks, want, "after {offset} was {value}");
+    }
+}
+
 /// The bit of the multicast table for an address under each value of MO, worked out by hand from its last two bytes: 0x00
 /// and 0xFB, then 0x12 and 0x03. Pool 1 has ROMPE, and takes the frame where the table is on.
 #[test]

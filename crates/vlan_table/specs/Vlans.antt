@@ -4,6 +4,7 @@ use Rattle.std.specs.List.{list_any, range_with_len}
 use Rattle.wire_frame.specs.declared.row.Row.{Row}
 use Rattle.wire_frame.specs.Row.{◌or◌, word_at, words_after, one_at, one_after}
 use Rattle.wire_frame.specs.Bits.{has_bit, has_bit_in, two_words}
+use Rattle.pool_index.specs.Entries.{Entries}
 
 -- the words of VLNCTRL, VFTA, VLVF and VLVFB
 pub record Vlans : Type 0 where
@@ -71,3 +72,7 @@ is_in_entries v pool id = list_any (entry_gives v pool id) (range_with_len 0 64)
 -- the pool has the id: the VLAN table has it, and some entry gives it
 unfoldable pub has_vlan : Vlans → ℕ → ℕ → Bool
 has_vlan v pool id = has_bit_in v.table id && is_in_entries v pool id
+
+-- the entries as they are kept in an index: by their ids
+abbrev pub vlan_entries : Vlans → Entries
+vlan_entries v = record { is_valid = λ e. has_bit (slice_index v.entries e) 31; key = entry_id v; has_pool = entry_has_pool v }

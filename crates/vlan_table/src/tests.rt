@@ -38,6 +38,104 @@ fn entries_with_one_id_are_united(rt: HostRuntime) {
     }
 }
 
+// The pools of an id, and how many ids were compared with it.
+fn found(table: &VlanTable, id: u16) -> (u64, u8) {
+    table.probe(Vid::of_tag(id))
+}
+
+/// One entry, as its words change one after another: the pools of ids 100 and 200, both in the VLAN table, after each write.
+/// It becomes valid, gets another id and other pools, is not valid for a while, and is then without pools.
+#[test]
+fn a_valid_entry_follows_its_words(rt: HostRuntime) {
+    let mut table = VlanTable::new();
+    table.write(0xA00C, 0x10);
+    table.write(0xA018, 0x100);
+    let steps = [
+        (0xF200, 0x8, [0, 0]),
+        (0xF100, 0x8000_0064, [0x8, 0]),
+        (0xF100, 0x8000_00C8, [0, 0x8]),
+        (0xF204, 0x8000_0000, [0, 0x8000_0000_0000_0008]),
+        (0xF200, 0x10, [0, 0x8000_0000_0000_0010]),
+        (0xF100, 0xC8, [0, 0]),
+        (0xF204, 0x0, [0, 0]),
+        (0xF100, 0x8000_00C8, [0, 0x10]),
+        (0xF200, 0x0, [0, 0]),
+    ];
+    for (offset, value, want) in steps {
+        table.write(offset, value);
+        let pools = [found(&table, 100).0, found(&table, 200).0];
+        assert_eq!(rt; pools, want, "after {offset} was {value}");
+    }
+}
+
+/// Three entries for one id, each with another pool, between entries for two others. As one after another ceases to be
+/// valid, the id keeps the pools of the rest.
+#[test]
+fn repeated_ids_lose_one_entry(rt: HostRuntime) {
+    let mut table = VlanTable::new();
+    table.write(0xA008, 0x700);
+    for (e, id, pools) in [(0, 73, 1), (1, 74, 2), (2, 73, 4), (3, 72, 8), (4, 73, 16)] {
+        table.write(0xF200 + 8 * e, pools);
+        table.write(0xF100 + 4 * e, 0x8000_0000 + id);
+    }
+    for (offset, want) in [(0xF1FC, 21), (0xF100, 20), (0xF110, 4), (0xF108, 0)] {
+        table.write(offset, 73);
+        assert_eq!(rt; found(&table, 73).0, want, "after {offset}");
+        assert_eq!(rt; found(&table, 72).0, 8);
+        assert_eq!(rt; found(&table, 74).0, 2);
+    }
+}
+
+/// The first and the last id, in the first and the last entry. The VLAN table counts as it is when an id is looked for,
+/// whether its words were written before the entries' or after.
+#[test]
+fn the_table_counts_at_each_lookup(rt: HostRuntime) {
+    let mut table = VlanTable::new();
+    table.write(0xF100, 0x8000_0000);
+    table.write(0xF200, 0x2);
+    table.write(0xF1FC, 0x8000_0FFF);
+    table.write(0xF3FC, 0x4);
+    let steps = [
+        (0xA000, 0xFFFF_FFFE, [0, 0]),
+        (0xA1FC, 0x8000_0000, [0, 0x4_0000_0000]),
+        (0xA000, 0x1, [0x2, 0x4_0000_0000]),
+        (0xA1FC, 0x7FFF_FFFF, [0x2, 0]),
+        (0xA000, 0x0, [0, 0]),
+    ];
+    for (offset, value, want) in steps {
+        table.write(offset, value);
+        let pools = [found(&table, 0).0, found(&table, 4095).0];
+        assert_eq!(rt; pools, want, "after {offset} was {value}");
+    }
+}
+
+/// 64 ids, written from the highest, 4095, to the lowest, 0, each 65 below the one before. Each is found with the pool of
+/// its entry, and its neighbour is not, all with at most 7 comparisons.
+#[test]
+fn many_ids_take_few_comparisons(rt: HostRuntime) {
+    let mut table = VlanTable::new();
+    for word in 0..128 {
+        table.write(0xA000 + 4 * word, 0xFFFF_FFFF);
+    }
+    assert_eq!(rt; found(&table, 0), (0, 0));
+    for e in 0..64 {
+        table.write(0xF100 + 4 * e, 0x8000_0FFF - 65 * e);
+        table.write(0xF200 + 8 * e + 4 * (e / 32), 1 << (e % 32));
+    }
+    for e in 0..64u16 {
+        let id = 4095 - 65 * e;
+        let (pools, compared) = found(&table, id);
+        assert_eq!(rt; pools, 1 << e, "id {id}");
+        assert!(rt; 1 <= compared && compared <= 7, "id {id}: {compared}");
+        let (pools, compared) = found(&table, id ^ 1);
+        assert_eq!(rt; pools, 0, "beside id {id}");
+        assert!(rt;
+            6 <= compared && compared <= 7,
+            "beside id {id}: {compared}"
+        );
+    }
+}
+
 /// What an entry gives a pool. The first entry is for pool 1, the last for pool 34, the second is not valid, and the id of
 /// the third, 101, is not in the VLAN table.
 #[test]

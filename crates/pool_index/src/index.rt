@@ -1,0 +1,123 @@
+//! The index, and the search in it.
+ghost use Rattle.std.specs.Prelude.{◌≡◌, ℕ, ◌+◌, ◌^◌, ◌<◌, ◌≤◌, ◌==◌, [], length, true, Some, None, is_some, if◌then◌else◌, MatchResult};
+ghost use Rattle.pool_index.specs.Index.{kept_pools, pools_in, Rises, IsPlace, IsGap};
+
+use arrayvec::ArrayVec;
+use std::marker::Model;
+
+/// A key that is kept, and its pools.
+#[derive(Clone, Copy, Debug, Default)]
+pub struct Known {
+    /// The key.
+    pub key: u64,
+    /// The set of its pools, as a mask with bit p for pool p.
+    pub pools: u64,
+}
+
+/// At most `N` keys that strictly rise, each with its pools.
+#[derive(Drop)]
+pub struct PoolIndex<const N: usize> {
+    known: ArrayVec<Known, N>,
+}
+
+impl<const N: usize> Model for PoolIndex<N> {
+    ghost use Rattle.std.specs.Prelude.{List};
+    ghost use Rattle.pool_index.specs.declared.index.Known.{Known};
+    ghost use Rattle.pool_index.specs.Index.{Rises};
+
+    ghost Value = { List Known };
+
+    ghost view = { λ x. x.known.items };
+
+    ghost invariant = { λ x. Rises 0 x.known.items };
+}
+
+impl<const N: usize> PoolIndex<N> {
+    /// No key.
+    pub fn new() -> PoolIndex<N>
+        ensures { result ≡ [] }
+    {
+        PoolIndex {
+            known: ArrayVec::new(),
+        }
+    }
+
+    /// The pools of a key, and how many of the kept keys were compared with it: no more than `N` has binary digits. A key
+    /// that is not kept has no pools.
+    #[inline]
+    pub fn probe(&self, key: u64) -> (u64, u8)
+        ensures pools { result.0 ≡ pools_in self.now key }
+        ensures few { (digits : ℕ) → N < 2 ^ digits → result.1 ≤ digits }
+    {
+        let known = self.known.as_slice();
+        match find(known, key) {
+            (Ok(place), compared) => (known[place].pools, compared),
+            (Err(_), compared) => (0, compared),
+        }
+    }
+
+    /// Keeps the key with these pools, whatever pools it had. Every other key stays as it is. A key that is not kept yet
+    /// takes one of the `N` places.
+    pub fn put(&mut self, key: u64, pools: u64)
+        requires { kept_pools self.old key ≡ None → length self.old < N }
+        ensures kept { (k : ℕ) → kept_pools self.new k ≡ (if key == k then Some pools else kept_pools self.old k) }
+        ensures rises { Rises 0 self.new }
+        ensures more { length self.new ≤ length self.old + 1 }
+    {
+        match find(self.known.as_slice(), key).0 {
+            Ok(place) => self.known[place].pools = pools,
+            Err(place) => self.known.insert(place, Known { key, pools }),
+        }
+    }
+
+    /// Takes the key out, where it is kept. Every other key stays as it is.
+    pub fn take_out(&mut self, key: u64)
+        ensures kept { (k : ℕ) → kept_pools self.new k ≡ (if key == k then None else kept_pools self.old k) }
+        ensures rises { Rises 0 self.new }
+        ensures fewer { length self.new ≤ length self.old }
+    {
+        if let Ok(place) = find(self.known.as_slice(), key).0 {
+            self.known.remove(place);
+        }
+    }
+
+    /// Makes what is kept of the key what was found of it: these pools, or nothing. Every other key stays as it is.
+    pub fn set(&mut self, key: u64, found: Option<u64>)
+        requires { is_some found ≡ true → kept_pools self.old key ≡ None → length self.old < N }
+        ensures kept { (k : ℕ) → kept_pools self.new k ≡ (if key == k then found else kept_pools self.old k) }
+        ensures rises { Rises 0 self.new }
+        ensures more { length self.new ≤ length self.old + 1 }
+    {
+        match found {
+            Some(pools) => self.put(key, pools),
+            None => self.take_out(key),
+        }
+    }
+}
+
+// The place of the key, or else the place where it would stand, and how many keys were compared with it.
+#[inline]
+fn find(known: &[Known], key: u64) -> (Result<usize, usize>, u8)
+    requires rises { Rises 0 known.now }
+    requires fits { length known.now < 2 ^ 64 }
+    ensures place { MatchResult result.0 (IsPlace known.now key) (IsGap known.now key) }
+    ensures few { (digits : ℕ) → length known.now < 2 ^ digits → result.1 ≤ digits }
+{
+    let mut low = 0;
+    let mut high = known.len();
+    let mut compared = 0u8;
+    while low < high {
+        let middle = (low + high) / 2;
+        let here = known[middle].key;
+        compared += 1;
+        if here == key {
+            return (Ok(middle), compared);
+        }
+        if here < key {
+            low = middle + 1;
+        } else {
+            high = middle;
+        }
+    }
+    (Err(low), compared)
+}

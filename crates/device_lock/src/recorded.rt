@@ -107,8 +107,10 @@ impl<M: GuestMem, L: Ledger> Recorded<M, L> {
         if !is_same_make(&live, &twin) {
             return Err(Fault::BadMake);
         }
-        let journal = Journal::new(alloc, live, Some(twin), line, cap)?;
-        shared(alloc, blank, journal)
+        match Journal::new(alloc, live, Some(twin), line, cap) {
+            Ok(journal) => shared(alloc, blank, journal),
+            Err(fault) => Err(fault),
+        }
     }
 
     /// Takes the event that a request stands for on the device, raises its messages in the line and keeps the call, which the

@@ -130,20 +130,32 @@ fn assert_scripted<R: Abort>(rt: &R, index: usize, answer: &Answer) {
     }
 }
 
-// A recorded device with so many functions, each with a memory of that size, and the seats of its line.
+// A recorded device, the shares of its callers, and the seats of its guests.
+#[derive(Drop)]
+struct Stage<L: Ledger> {
+    recorded: Recorded<FlatMem, L>,
+    shares: Shares<L>,
+    guests: Vec<GuestSeat>,
+}
+
+// A recorded device with so many functions, each with a memory of that size.
 fn recorded<L: Ledger>(
     alloc: Global,
     blank: Blank,
     functions: (usize, u64),
     cap: usize,
-) -> Result<(Recorded<FlatMem, L>, Shares<L>, Vec<GuestSeat>), Fail>
+) -> Result<Stage<L>, Fail>
     requires name { blank.name ≡ L.name }
     requires parts { (blank.parts ≡ L.parts) × (blank.parts ≡ 67) }
 {
     let (line, guests) = make(alloc)?;
     let live = fresh(alloc, functions)?;
     let (recorded, shares) = Recorded::<FlatMem, L>::new(alloc, blank, live, line, cap)?;
-    Ok((recorded, shares, guests))
+    Ok(Stage {
+        recorded,
+        shares,
+        guests,
+    })
 }
 
 // The same with a twin.
@@ -152,7 +164,7 @@ fn with_twin<L: Ledger>(
     blank: Blank,
     functions: (usize, u64),
     cap: usize,
-) -> Result<(Recorded<FlatMem, L>, Shares<L>, Vec<GuestSeat>), Fail>
+) -> Result<Stage<L>, Fail>
     requires name { blank.name ≡ L.name }
     requires parts { (blank.parts ≡ L.parts) × (blank.parts ≡ 67) }
 {
@@ -162,7 +174,11 @@ fn with_twin<L: Ledger>(
     let (recorded, shares) = Recorded::<FlatMem, L>::with_twin(
         alloc, blank, live, twin, line, cap,
     )?;
-    Ok((recorded, shares, guests))
+    Ok(Stage {
+        recorded,
+        shares,
+        guests,
+    })
 }
 
 // A device as it is made.
@@ -181,17 +197,26 @@ fn take(guests: &mut [GuestSeat], pool: usize) -> Option<u8> {
 }
 
 // One event of the service, which is answered.
-fn ask<L: Ledger>(
-    recorded: &mut Recorded<FlatMem, L>,
-    shares: &mut Shares<L>,
-    event: Event,
-) -> Result<Answer, Full> {
+fn ask<L: Ledger>(stage: &mut Stage<L>, event: Event) -> Result<Answer, Full> {
     let request = event.as_request();
-    let may = shares.service.may(request);
+    let may = stage.shares.service.may(request);
     if !may {
         return Err(Full(event));
     }
-    recorded.record(&mut shares.service, event)
+    stage.recorded.record(&mut stage.shares.service, event)
+}
+
+// The shares that were not handed out, which are so many.
+fn left<R: Abort, L: Ledger>(
+    rt: &R,
+    alloc: Global,
+    shares: Shares<L>,
+    count: usize,
+) -> Result<Vec<Share<L>>, Fail> {
+    let mut all = Vec::new(alloc);
+    shares.put_back(&mut all)?;
+    assert_eq!(rt; all.len(), count);
+    Ok(all)
 }
 
 // Takes all the room that the host gives, in ever smaller parts. It gives up at a heap that does not run out, as that of

@@ -3,7 +3,7 @@ use Rattle.std.specs.Prelude.{◌≡◌, ℕ, ◌<◌, ◌≤◌, true, drop, ta
 use Rattle.irq_line.specs.Line.{GuestEnd, after_take, after_peek}
 use Rattle.guest_port.specs.declared.irq_port.IrqPort.TheInside.{Inside}
 use Rattle.guest_port.specs.Notes.{new_note}
-use Rattle.guest_port.specs.Port.{Port, new_port, having_taken, ended, closed}
+use Rattle.guest_port.specs.Port.{Port, new_port, having_taken, having_peeked, ended, closed}
 
 pub record SeatedPort : Type 0 where
   -- what any port has
@@ -32,7 +32,10 @@ irq_taken p answer = record p {
 }
 
 abbrev pub irq_peeked : SeatedPort → ℕ → SeatedPort
-irq_peeked p answer = record p { seat = if p.port.is_closed then p.seat else seat_peeked p.seat answer }
+irq_peeked p answer = record p {
+  port = having_peeked p.port answer;
+  seat = if p.port.is_closed then p.seat else seat_peeked p.seat answer;
+}
 
 abbrev pub irq_ended : SeatedPort → SeatedPort
 irq_ended p = record p { port = ended p.port }
@@ -50,6 +53,7 @@ seated_of s = record {
     is_closed = is_none s.tokens;
     note = s.last.value.note;
     taken = drop (length s.made.value.view.takes) s.last.value.seat.view.takes;
+    peeked = s.last.value.seat.view.peeked;
   };
   made = s.made.value;
   seat = s.last.value.seat;

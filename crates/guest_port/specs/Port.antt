@@ -1,5 +1,5 @@
 -- What contracts see of a guest's port.
-use Rattle.std.specs.Prelude.{ℕ, Bool, true, false, List, [], ◌∷◌, ◌++◌, if◌then◌else◌}
+use Rattle.std.specs.Prelude.{ℕ, Bool, true, false, List, [], ◌∷◌, ◌++◌, if◌then◌else◌, bit_or}
 use Rattle.guest_port.specs.Notes.{Known, having_found}
 
 pub record Port : Type 0 where
@@ -12,14 +12,23 @@ pub record Port : Type 0 where
   pub note : Known
   -- the messages that it took: the answers of its takes, in order
   pub taken : List ℕ
+  -- the bits that its peeks answered since its last take: they stand until it takes them
+  pub peeked : ℕ
 
 -- a port that was just made, with a note
 abbrev pub new_port : ℕ → Known → Port
-new_port pool note = record { pool = pool; is_open = true; is_closed = false; note = note; taken = [] }
+new_port pool note = record { pool = pool; is_open = true; is_closed = false; note = note; taken = []; peeked = 0 }
 
 -- after a take, which counts until the port is closed
 abbrev pub having_taken : Port → ℕ → Port
-having_taken port answer = record port { taken = if port.is_closed then port.taken else (port.taken ++ answer ∷ []) }
+having_taken port answer = record port {
+  taken = if port.is_closed then port.taken else (port.taken ++ answer ∷ []);
+  peeked = if port.is_closed then port.peeked else 0;
+}
+
+-- after a peek, which counts until the port is closed
+abbrev pub having_peeked : Port → ℕ → Port
+having_peeked port answer = record port { peeked = if port.is_closed then port.peeked else bit_or port.peeked answer }
 
 -- after its end, which its note knows
 abbrev pub ended : Port → Port

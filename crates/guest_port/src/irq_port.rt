@@ -3,7 +3,7 @@ ghost use Rattle.std.specs.Prelude.{◌≡◌, ℕ, ◌<◌, ◌++◌, true, fal
 ghost use Rattle.wire_frame.specs.declared.fault.Fault.TheVariants.{NoMemory};
 ghost use Rattle.irq_line.specs.Line.{StandsIn};
 ghost use Rattle.guest_port.specs.Notes.{new_note, having_found};
-ghost use Rattle.guest_port.specs.Port.{having_taken, ended, closed};
+ghost use Rattle.guest_port.specs.Port.{having_taken, having_peeked, ended, closed};
 ghost use Rattle.guest_port.specs.Irq.{seat_taken, seated, irq_taken, irq_peeked, irq_ended, irq_closed};
 
 use crate::note::{End, EndNote};
@@ -109,10 +109,12 @@ impl IrqPort {
         }
     }
 
-    /// A law: what the port's seat has taken is what it had when the port was made, and then what the port took; a port that
-    /// is not open has a note that found its end; and the seat is that of the pool. The call does nothing.
+    /// A law: what the port's seat has taken is what it had when the port was made, and then what the port took, and what the
+    /// seat has peeked the port has; a port that is not open has a note that found its end; and the seat is that of the pool.
+    /// The call does nothing.
     pub fn agrees(&self)
         ensures takes { self.now.seat.view.takes ≡ self.now.made.view.takes ++ self.now.port.taken }
+        ensures peeked { self.now.seat.view.peeked ≡ self.now.port.peeked }
         ensures known { self.now.port.is_open ≡ false → self.now.port.note.found ≡ true }
         ensures pool { self.now.seat.view.pool ≡ self.now.port.pool }
     {
@@ -156,7 +158,7 @@ impl GuestPort for IrqPort {
         ensures taken { self.new.port ≡ having_taken self.old.port result }
         ensures closed { self.old.port.is_closed ≡ true → result ≡ 0 }
         ensures seat { self.new ≡ irq_taken self.old result }
-        ensures peeked { self.old.port.is_closed ≡ false → StandsIn self.old.seat.view.peeked result }
+        ensures stood { self.old.port.is_closed ≡ false → StandsIn self.old.port.peeked result }
     {
         match &mut self.tokens {
             Some(tokens) => {
@@ -170,10 +172,10 @@ impl GuestPort for IrqPort {
 
     /// The seat makes one peek.
     fn peek_irqs(&mut self) -> u8
-        ensures same { self.new.port ≡ self.old.port }
+        ensures peeked { self.new.port ≡ having_peeked self.old.port result }
         ensures closed { self.old.port.is_closed ≡ true → result ≡ 0 }
         ensures seat { self.new ≡ irq_peeked self.old result }
-        ensures again { self.old.port.is_closed ≡ false → StandsIn self.old.seat.view.peeked result }
+        ensures stood { self.old.port.is_closed ≡ false → StandsIn self.old.port.peeked result }
     {
         match &mut self.tokens {
             Some(tokens) => {

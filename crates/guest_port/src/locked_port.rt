@@ -7,7 +7,8 @@ ghost use Rattle.device.specs.Request.{event_of};
 ghost use Rattle.device.specs.Outcome.{reply_by, done_or_refused, value_or_refused, bytes_or_refused};
 ghost use Rattle.device_lock.specs.Callers.{may};
 ghost use Rattle.device_lock.specs.Read.{bytes_asked, bytes_told};
-ghost use Rattle.guest_port.specs.Port.{having_taken, ended, closed};
+ghost use Rattle.irq_line.specs.Line.{StandsIn};
+ghost use Rattle.guest_port.specs.Port.{having_taken, having_peeked, ended, closed};
 ghost use Rattle.guest_port.specs.Calls.{one_more_call, MayReply, is_full, read_or_refused, IsDone, IsValue, IsRead};
 
 use crate::port::{GuestPort, Tokens};
@@ -232,11 +233,12 @@ impl<M: GuestMem, L: Ledger, P: GuestPort> LockedPort<M, L, P> {
         }
     }
 
-    /// Takes the interrupt messages that stand for the pool: bit v for vector v, and none stands any more. One step, which
-    /// waits for nobody; 0 once the port was closed.
+    /// Takes the interrupt messages that stand for the pool, those that were peeked among them: bit v for vector v, and none
+    /// stands any more. One step, which waits for nobody; 0 once the port was closed.
     pub fn take_irqs(&mut self) -> u8
         ensures taken { self.new ≡ record { port = having_taken self.old.port result; calls = self.old.calls } }
         ensures closed { self.old.port.is_closed ≡ true → result ≡ 0 }
+        ensures stood { self.old.port.is_closed ≡ false → StandsIn self.old.port.peeked result }
     {
         self.inner.take_irqs()
     }
@@ -244,8 +246,9 @@ impl<M: GuestMem, L: Ledger, P: GuestPort> LockedPort<M, L, P> {
     /// The interrupt messages that stand for the pool, bit v for vector v; they stand on. One step, which waits for nobody; 0
     /// once the port was closed.
     pub fn peek_irqs(&mut self) -> u8
-        ensures same { self.new ≡ self.old }
+        ensures peeked { self.new ≡ record { port = having_peeked self.old.port result; calls = self.old.calls } }
         ensures closed { self.old.port.is_closed ≡ true → result ≡ 0 }
+        ensures stood { self.old.port.is_closed ≡ false → StandsIn self.old.port.peeked result }
     {
         self.inner.peek_irqs()
     }

@@ -1,6 +1,7 @@
 //! Ports, as contracts see them.
 ghost use Rattle.std.specs.Prelude.{◌≡◌, ◌<◌, true, false, MatchOption};
-ghost use Rattle.guest_port.specs.Port.{Port, having_taken, ended, closed};
+ghost use Rattle.irq_line.specs.Line.{StandsIn};
+ghost use Rattle.guest_port.specs.Port.{Port, having_taken, having_peeked, ended, closed};
 
 use crate::note::EndNote;
 use irq_line::GuestSeat;
@@ -16,7 +17,8 @@ pub struct Tokens {
 
 /// A guest's port, by the calls that wait for nobody. It is open until it ends, and ends when it is closed or dropped.
 ///
-/// Its meaning is its pool, whether it is open, whether it was closed, its note, and the messages that it took.
+/// Its meaning is its pool, whether it is open, whether it was closed, its note, the messages that it took, and those that it
+/// has peeked since.
 pub trait GuestPort: Drop {
     ghost meaning: { Self → Port };
 
@@ -30,17 +32,19 @@ pub trait GuestPort: Drop {
         ensures open { result ≡ (meaning self.now).is_open }
         ensures closed { (meaning self.now).is_closed ≡ true → result ≡ false };
 
-    /// Takes the interrupt messages that stand for the pool: bit v for vector v, and none stands any more. One step; 0 once
-    /// the port was closed.
+    /// Takes the interrupt messages that stand for the pool, those that were peeked among them: bit v for vector v, and none
+    /// stands any more. One step; 0 once the port was closed.
     fn take_irqs(&mut self) -> u8
         ensures taken { meaning self.new ≡ having_taken (meaning self.old) result }
-        ensures closed { (meaning self.old).is_closed ≡ true → result ≡ 0 };
+        ensures closed { (meaning self.old).is_closed ≡ true → result ≡ 0 }
+        ensures stood { (meaning self.old).is_closed ≡ false → StandsIn (meaning self.old).peeked result };
 
     /// The interrupt messages that stand for the pool, bit v for vector v; they stand on. One step; 0 once the port was
     /// closed.
     fn peek_irqs(&mut self) -> u8
-        ensures same { meaning self.new ≡ meaning self.old }
-        ensures closed { (meaning self.old).is_closed ≡ true → result ≡ 0 };
+        ensures peeked { meaning self.new ≡ having_peeked (meaning self.old) result }
+        ensures closed { (meaning self.old).is_closed ≡ true → result ≡ 0 }
+        ensures stood { (meaning self.old).is_closed ≡ false → StandsIn (meaning self.old).peeked result };
 
     /// Ends the port: its notes can find the end from now on, and its own knows it. Again, it does nothing.
     fn end(&mut self)

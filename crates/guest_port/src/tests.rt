@@ -38,13 +38,8 @@ fn line_with_port(alloc: Global) -> Result<(DeviceSeat, IrqPort, EndNote), Fail>
     Ok((device, port, note))
 }
 
-// A message that was raised before the port was made belongs to an earlier guest.
-#[test]
-fn a_port_sees_no_earlier_message(rt: HostRuntime) -> Result<(), Fail> {
-    let (mut device, seats) = make(rt.alloc())?;
-    let seat = seat_of(seats, 3).ok_or("no seat of pool 3")?;
-    device.raise(3, 5);
-    let (mut port, _note) = IrqPort::new(rt.alloc(), 3, seat)?;
+// The port of pool 3 has no message yet, and then takes its own alone.
+fn assert_takes_its_own<R: Abort>(rt: &R, device: &mut DeviceSeat, port: &mut IrqPort) {
     assert_eq!(rt; port.peek_irqs(), 0);
     assert_eq!(rt; port.take_irqs(), 0);
     device.raise(3, 4);
@@ -53,6 +48,16 @@ fn a_port_sees_no_earlier_message(rt: HostRuntime) -> Result<(), Fail> {
     assert_eq!(rt; port.peek_irqs(), 4, "a peek takes nothing");
     assert_eq!(rt; port.take_irqs(), 4);
     assert_eq!(rt; port.take_irqs(), 0);
+}
+
+// A message that was raised before the port was made belongs to an earlier guest.
+#[test]
+fn a_port_sees_no_earlier_message(rt: HostRuntime) -> Result<(), Fail> {
+    let (mut device, seats) = make(rt.alloc())?;
+    let seat = seat_of(seats, 3).ok_or("no seat of pool 3")?;
+    device.raise(3, 5);
+    let (mut port, _note) = IrqPort::new(rt.alloc(), 3, seat)?;
+    assert_takes_its_own(&rt, &mut device, &mut port);
     Ok(())
 }
 

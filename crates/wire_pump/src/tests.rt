@@ -13,6 +13,7 @@ use wire_frame::{Fault, FrameBuf};
 
 mod locked;
 mod making;
+mod received;
 mod recorded;
 mod threads;
 

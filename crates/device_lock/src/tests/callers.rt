@@ -57,25 +57,46 @@ fn assert_rows<R: Abort, L: Ledger>(
     assert_row(rt, shares, ports, Request::Serve(3, Queue::Q0), nobody);
 }
 
-fn assert_rights<R: Abort, L: Ledger>(rt: &R, alloc: Global, blank: Blank) -> Result<(), Fail>
-    requires name { blank.name ≡ L.name }
-    requires parts { (blank.parts ≡ L.parts) × (blank.parts ≡ 67) }
-{
-    let (_recorded, mut shares, _guests) = recorded::<L>(alloc, blank, (1, 4096), 1)?;
-    let port = shares.port(3).ok_or("no share")?;
+// The shares of the ports of pools 3 and 63: each is handed out once, and there is none of pool 64.
+fn ports_once<R: Abort, L: Ledger>(rt: &R, shares: &mut Shares<L>) -> Option<(Share<L>, Share<L>)> {
+    let port = shares.port(3)?;
     assert!(rt; shares.port(3).is_none(), "once");
     assert!(rt; shares.port(64).is_none());
-    let last = shares.port(63).ok_or("no share")?;
-    assert_eq!(rt; (port.caller(), last.caller()), (3, 63));
+    let last = shares.port(63)?;
+    Some((port, last))
+}
+
+fn assert_numbers<R: Abort, L: Ledger>(rt: &R, shares: &Shares<L>, ports: (&Share<L>, &Share<L>)) {
+    assert_eq!(rt; (ports.0.caller(), ports.1.caller()), (3, 63));
     let numbers = (
         shares.pf.caller(),
         shares.pump.caller(),
         shares.service.caller(),
     );
     assert_eq!(rt; numbers, (PF, PUMP, SERVICE));
+}
+
+fn assert_all_rows<R: Abort, L: Ledger>(
+    rt: &R,
+    shares: &Shares<L>,
+    ports: (&Share<L>, &Share<L>),
+) -> Result<(), Fail> {
+    assert_numbers(rt, shares, ports);
     let bytes = MemSlice::new(&[1, 2])?;
-    assert_rows(rt, &shares, (&port, &last), bytes, &frame_to_3()?);
+    let frame = frame_to_3()?;
+    assert_rows(rt, shares, ports, bytes, &frame);
     Ok(())
+}
+
+fn assert_rights<R: Abort, L: Ledger>(rt: &R, alloc: Global, blank: Blank) -> Result<(), Fail>
+    requires name { blank.name ≡ L.name }
+    requires parts { (blank.parts ≡ L.parts) × (blank.parts ≡ 67) }
+{
+    let mut stage = recorded::<L>(alloc, blank, (1, 4096), 1)?;
+    match ports_once(rt, &mut stage.shares) {
+        Some((port, last)) => assert_all_rows(rt, &stage.shares, (&port, &last)),
+        None => Err(Fail::from("no share")),
+    }
 }
 
 #[test]
@@ -98,57 +119,88 @@ fn ask_request<R: Abort, L: Ledger>(
     }
 }
 
-// Two callers' calls are counted apart, and their sum is what was kept; without one of the shares there is no tally.
-fn assert_tallies<R: Abort, L: Ledger>(rt: &R, alloc: Global, blank: Blank) -> Result<(), Fail>
-    requires name { blank.name ≡ L.name }
-    requires parts { (blank.parts ≡ L.parts) × (blank.parts ≡ 67) }
-{
-    let (mut recorded, mut shares, _guests) = recorded::<L>(alloc, blank, (1, 4096), 8)?;
-    let mut port = shares.port(0).ok_or("no share")?;
+// The function of pool 0 is opened, and its port reads a register three times.
+fn reads_thrice<R: Abort, L: Ledger>(rt: &R, stage: &mut Stage<L>, port: &mut Share<L>) {
     let mut frame = FrameBuf::blank();
-    assert!(rt; ask(&mut recorded, &mut shares, Event::Open(0)).is_ok());
+    assert!(rt; ask(stage, Event::Open(0)).is_ok());
     for _ in 0..3 {
         let read = ask_request(
             rt,
-            &mut recorded,
-            &mut port,
+            &mut stage.recorded,
+            port,
             Request::VfRead(0, 0x101C),
             &mut frame,
         );
         assert_eq!(rt; read, Some(Outcome::Value(0)));
     }
-    let set = ask_request(
+}
+
+// The driver resets the physical function.
+fn resets<R: Abort, L: Ledger>(rt: &R, stage: &mut Stage<L>) {
+    let mut frame = FrameBuf::blank();
+    let reset = ask_request(
         rt,
-        &mut recorded,
-        &mut shares.pf,
+        &mut stage.recorded,
+        &mut stage.shares.pf,
         Request::PfReset,
         &mut frame,
     );
-    assert_eq!(rt; set, Some(Outcome::Done));
-    assert_eq!(rt;
-        (
-            port.count(),
-            shares.pf.count(),
-            shares.service.count(),
-            shares.pump.count()
-        ),
-        (3, 1, 1, 0)
+    assert_eq!(rt; reset, Some(Outcome::Done));
+}
+
+fn assert_counts<R: Abort, L: Ledger>(rt: &R, shares: &Shares<L>, port: &Share<L>) {
+    let counts = (
+        port.count(),
+        shares.pf.count(),
+        shares.service.count(),
+        shares.pump.count(),
     );
-    let mut all = Vec::new(alloc);
-    shares.put_back(&mut all)?;
-    assert_eq!(rt; all.len(), 66);
-    all.push(port)?;
-    let tally = recorded.gather(all).ok_or("no tally")?;
-    let entries = tally.entries;
+    assert_eq!(rt; counts, (3, 1, 1, 0));
+}
+
+fn assert_entries<R: Abort>(rt: &R, tally: &Tally) {
     for caller in 0..CALLERS {
         let want = match caller {
             0 => 3,
             64 | 66 => 1,
             _ => 0,
         };
-        assert_eq!(rt; entries[caller], want, "of {caller}");
+        assert_eq!(rt; tally.entries[caller], want, "of {caller}");
+    }
+}
+
+// The tally of all shares, of which the one of pool 0's port was handed out.
+fn assert_gathered<R: Abort, L: Ledger>(
+    rt: &R,
+    alloc: Global,
+    stage: Stage<L>,
+    port: Share<L>,
+) -> Result<(), Fail> {
+    let Stage {
+        mut recorded,
+        shares,
+        ..
+    } = stage;
+    let mut all = left(rt, alloc, shares, 66)?;
+    all.push(port)?;
+    match &recorded.gather(all) {
+        Some(tally) => assert_entries(rt, tally),
+        None => assert!(rt; false, "no tally"),
     }
     Ok(())
+}
+
+// Two callers' calls are counted apart, and their sum is what was kept; without one of the shares there is no tally.
+fn assert_tallies<R: Abort, L: Ledger>(rt: &R, alloc: Global, blank: Blank) -> Result<(), Fail>
+    requires name { blank.name ≡ L.name }
+    requires parts { (blank.parts ≡ L.parts) × (blank.parts ≡ 67) }
+{
+    let mut stage = recorded::<L>(alloc, blank, (1, 4096), 8)?;
+    let mut port = stage.shares.port(0).ok_or("no share")?;
+    reads_thrice(rt, &mut stage, &mut port);
+    resets(rt, &mut stage);
+    assert_counts(rt, &stage.shares, &port);
+    assert_gathered(rt, alloc, stage, port)
 }
 
 #[test]
@@ -156,19 +208,31 @@ fn calls_are_counted_by_caller(rt: HostRuntime) -> Result<(), Fail> {
     assert_tallies::<HostRuntime, Brand>(&rt, rt.alloc(), Blank::new(67))
 }
 
+// The shares that were not handed out are 66, and give no tally; nor does none of them.
+fn assert_no_tally<R: Abort, L: Ledger>(
+    rt: &R,
+    alloc: Global,
+    stage: Stage<L>,
+) -> Result<(), Fail> {
+    let Stage {
+        mut recorded,
+        shares,
+        ..
+    } = stage;
+    let all = left(rt, alloc, shares, 66)?;
+    assert_eq!(rt; recorded.gather(all), None);
+    assert_eq!(rt; recorded.gather(Vec::new(alloc)), None);
+    Ok(())
+}
+
 // Without the share of one port.
 fn gather_66<R: Abort, L: Ledger>(rt: &R, alloc: Global, blank: Blank) -> Result<(), Fail>
     requires name { blank.name ≡ L.name }
     requires parts { (blank.parts ≡ L.parts) × (blank.parts ≡ 67) }
 {
-    let (mut recorded, mut shares, _guests) = recorded::<L>(alloc, blank, (1, 4096), 8)?;
-    let _port = shares.port(0).ok_or("no share")?;
-    let mut all = Vec::new(alloc);
-    shares.put_back(&mut all)?;
-    assert_eq!(rt; all.len(), 66);
-    assert_eq!(rt; recorded.gather(all), None);
-    assert_eq!(rt; recorded.gather(Vec::new(alloc)), None);
-    Ok(())
+    let mut stage = recorded::<L>(alloc, blank, (1, 4096), 8)?;
+    let _port = stage.shares.port(0).ok_or("no share")?;
+    assert_no_tally(rt, alloc, stage)
 }
 
 #[test]

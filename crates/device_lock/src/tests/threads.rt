@@ -56,8 +56,65 @@ fn arrives<R: Abort + Wait, L: Ledger>(
     }
 }
 
-// The driver of the physical function makes the settings on a thread of its own while the service opens function 3. Once both
-// are done, a frame comes and is read.
+// A recorded device behind a lock, the shares of its callers, and the seats of its guests.
+#[derive(Drop)]
+struct Locked<L: Ledger> {
+    device: Arc<LockedDevice<FlatMem, L>>,
+    shares: Shares<L>,
+    guests: Vec<GuestSeat>,
+}
+
+fn behind_lock<L: Ledger>(alloc: Global, stage: Stage<L>) -> Result<Locked<L>, Fault> {
+    let Stage {
+        recorded,
+        shares,
+        guests,
+    } = stage;
+    let device = LockedDevice::new(alloc, recorded)?;
+    Ok(Locked {
+        device,
+        shares,
+        guests,
+    })
+}
+
+// The driver of the physical function makes the settings on a thread of its own while the service opens function 3. The
+// driver's share comes back.
+fn sets_while_opening<
+    R: Abort + Threads + Wait + Copy + Send + Sync + 'static,
+    L: Ledger + Send + Sync + 'static,
+>(
+    rt: R,
+    alloc: Global,
+    device: &Arc<LockedDevice<FlatMem, L>>,
+    mut pf: Share<L>,
+    service: &mut Share<L>,
+) -> Result<Share<L>, Fail> {
+    let events = settings(alloc)?;
+    let opens = opening(alloc)?;
+    let there = Arc::try_clone(device)?;
+    let driver = thread::spawn(&rt, move || {
+        let answered = act_all(&rt, &*there, &mut pf, events);
+        (answered, pf)
+    })?;
+    let opened = act_all(&rt, &**device, service, opens);
+    let (set, pf) = driver.join(&rt);
+    assert_eq!(rt; (opened, set), (9, 5));
+    Ok(pf)
+}
+
+// All calls are kept, without a twin to move the base, and a fresh device gives their answers.
+fn assert_all_kept<R: Abort + Wait, L: Ledger>(
+    rt: &R,
+    device: &LockedDevice<FlatMem, L>,
+    other: &mut Device<FlatMem>,
+) {
+    assert_eq!(rt; (device.kept(rt), device.folded(rt)), (18, 0));
+    assert_eq!(rt; device.fold(rt), None);
+    assert!(rt; device.replays(rt, other));
+}
+
+// Once the settings are made and function 3 is open, a frame comes and is read.
 fn two_threads<
     R: Abort + Threads + Wait + Copy + Send + Sync + 'static,
     L: Ledger + Send + Sync + 'static,
@@ -65,31 +122,24 @@ fn two_threads<
     requires name { blank.name ≡ L.name }
     requires parts { (blank.parts ≡ L.parts) × (blank.parts ≡ 67) }
 {
-    let (recorded, shares, mut guests) = recorded::<L>(alloc, blank, (8, 65_536), 18)?;
-    let locked = LockedDevice::new(alloc, recorded)?;
-    let there = Arc::try_clone(&locked)?;
+    let mut other = fresh(alloc, (8, 65_536))?;
+    let events = arrival(alloc)?;
+    let Locked {
+        device,
+        shares,
+        mut guests,
+    } = behind_lock(alloc, recorded::<L>(alloc, blank, (8, 65_536), 18)?)?;
     let Shares {
-        mut pf,
+        pf,
         mut pump,
         mut service,
         ..
     } = shares;
-    let events = settings(alloc)?;
-    let driver = thread::spawn(&rt, move || {
-        let answered = act_all(&rt, &*there, &mut pf, events);
-        (answered, pf)
-    })?;
-    let opens = opening(alloc)?;
-    let opened = act_all(&rt, &*locked, &mut service, opens);
-    let (set, pf) = driver.join(&rt);
-    assert_eq!(rt; (opened, set), (9, 5));
-    arrives(&rt, &*locked, &mut pump, &mut service, arrival(alloc)?);
+    let pf = sets_while_opening(rt, alloc, &device, pf, &mut service)?;
+    arrives(&rt, &*device, &mut pump, &mut service, events);
     assert_eq!(rt; take(&mut guests, 3), Some(1));
     assert_eq!(rt; (pf.count(), pump.count(), service.count()), (5, 1, 12));
-    assert_eq!(rt; (locked.kept(&rt), locked.folded(&rt)), (18, 0));
-    assert_eq!(rt; locked.fold(&rt), None);
-    let mut other = fresh(alloc, (8, 65_536))?;
-    assert!(rt; locked.replays(&rt, &mut other));
+    assert_all_kept(&rt, &*device, &mut other);
     Ok(())
 }
 
@@ -129,48 +179,53 @@ fn read_count<R: Abort + Wait, L: Ledger>(
     }
 }
 
-// A port writes to its memory and reads it back: the bytes stand at the front of what is handed in, and the rest stays.
+// A port reads nothing from a closed function. Once it is open, the port writes two bytes to its memory and reads them back:
+// they stand at the front of what is handed in, and the rest stays.
+fn assert_written<R: Abort + Wait, L: Ledger>(
+    rt: &R,
+    stage: &mut Locked<L>,
+    port: &mut Share<L>,
+    written: MemSlice<'_>,
+    read: &mut [u8; 2048],
+) {
+    let device = &*stage.device;
+    assert_eq!(rt; read_count(rt, device, port, 0, 3, read), None);
+    assert!(rt; act_one(rt, device, &mut stage.shares.service, Event::Open(3)).is_some());
+    let request = Request::MemWrite(3, 4094, written);
+    let wrote = act_request(rt, device, port, request, read);
+    assert_eq!(rt; wrote, Some((Outcome::Done, false)));
+    assert_eq!(rt; read_count(rt, device, port, 4093, 3, read), Some(3));
+    assert_eq!(rt; &read[..5], [0, 7, 8, 9, 9].as_slice());
+}
+
+// Nothing is read past the end of the memory, nor of more than 2048 bytes; and there is room for six calls.
+fn assert_unread<R: Abort + Wait, L: Ledger>(
+    rt: &R,
+    stage: &Locked<L>,
+    port: &mut Share<L>,
+    read: &mut [u8; 2048],
+) {
+    let device = &*stage.device;
+    assert_eq!(rt; read_count(rt, device, port, 4094, 3, read), None);
+    assert_eq!(rt; read_count(rt, device, port, 0, 2049, read), None);
+    assert_eq!(rt; (port.count(), stage.shares.service.count()), (5, 1));
+    assert_eq!(rt;
+        act_request(rt, device, port, Request::VfRead(3, 0), read),
+        None
+    );
+    assert_eq!(rt; (device.kept(rt), port.count()), (6, 5));
+}
+
 fn reads_back<R: Abort + Wait, L: Ledger>(rt: &R, alloc: Global, blank: Blank) -> Result<(), Fail>
     requires name { blank.name ≡ L.name }
     requires parts { (blank.parts ≡ L.parts) × (blank.parts ≡ 67) }
 {
-    let (recorded, mut shares, _guests) = recorded::<L>(alloc, blank, (4, 4096), 6)?;
-    let locked = LockedDevice::new(alloc, recorded)?;
-    let mut port = shares.port(3).ok_or("no share")?;
-    let mut read = [9; 2048];
-    // closed still
-    assert_eq!(rt; read_count(rt, &*locked, &mut port, 0, 3, &mut read), None);
-    assert!(rt; act_one(rt, &*locked, &mut shares.service, Event::Open(3)).is_some());
     let written = MemSlice::new(&[7, 8])?;
-    let wrote = act_request(
-        rt,
-        &*locked,
-        &mut port,
-        Request::MemWrite(3, 4094, written),
-        &mut read,
-    );
-    assert_eq!(rt; wrote, Some((Outcome::Done, false)));
-    assert_eq!(rt;
-        read_count(rt, &*locked, &mut port, 4093, 3, &mut read),
-        Some(3)
-    );
-    assert_eq!(rt; &read[..5], [0, 7, 8, 9, 9].as_slice());
-    // past the end, and too many
-    assert_eq!(rt;
-        read_count(rt, &*locked, &mut port, 4094, 3, &mut read),
-        None
-    );
-    assert_eq!(rt;
-        read_count(rt, &*locked, &mut port, 0, 2049, &mut read),
-        None
-    );
-    assert_eq!(rt; (port.count(), shares.service.count()), (5, 1));
-    // and there is room for six calls
-    assert_eq!(rt;
-        act_request(rt, &*locked, &mut port, Request::VfRead(3, 0), &mut read),
-        None
-    );
-    assert_eq!(rt; (locked.kept(rt), port.count()), (6, 5));
+    let mut stage = behind_lock(alloc, recorded::<L>(alloc, blank, (4, 4096), 6)?)?;
+    let mut port = stage.shares.port(3).ok_or("no share")?;
+    let mut read = [9; 2048];
+    assert_written(rt, &mut stage, &mut port, written, &mut read);
+    assert_unread(rt, &stage, &mut port, &mut read);
     Ok(())
 }
 
@@ -189,29 +244,58 @@ fn without_memory<R: Abort + Wait, L: Ledger>(
     requires name { blank.name ≡ L.name }
     requires parts { (blank.parts ≡ L.parts) × (blank.parts ≡ 67) }
 {
-    let (recorded, mut shares, mut guests) = with_twin::<L>(alloc, blank, (8, 65_536), 4)?;
-    let locked = LockedDevice::new(alloc, recorded)?;
-    let mut other = fresh(alloc, (8, 65_536))?;
-    let mut all = Vec::with_capacity(alloc, CALLERS)?;
+    let other = fresh(alloc, (8, 65_536))?;
+    let all = Vec::with_capacity(alloc, CALLERS)?;
     let events = script(alloc)?;
+    let stage = behind_lock(alloc, with_twin::<L>(alloc, blank, (8, 65_536), 4)?)?;
     let taken = all_room(alloc).ok_or("the heap does not run out")?;
-    act_script(rt, &*locked, &mut shares.service, events);
-    assert_eq!(rt; take(&mut guests, 3), Some(1));
-    assert!(rt; !locked.replays(rt, &mut other));
-    let mut port = shares.port(3).ok_or("no share")?;
+    let done = does_its_work(rt, stage, events, other, all);
+    drop(taken);
+    done
+}
+
+fn does_its_work<R: Abort + Wait, L: Ledger>(
+    rt: &R,
+    mut stage: Locked<L>,
+    events: Vec<Event>,
+    mut other: Device<FlatMem>,
+    mut all: Vec<Share<L>>,
+) -> Result<(), Fail> {
+    act_script(rt, &*stage.device, &mut stage.shares.service, events);
+    assert_eq!(rt; take(&mut stage.guests, 3), Some(1));
+    assert!(rt; !stage.device.replays(rt, &mut other));
+    let mut port = stage.shares.port(3).ok_or("no share")?;
+    assert_reads_frame(rt, &*stage.device, &mut port);
+    all.push(port)?;
+    let Locked { device, shares, .. } = stage;
+    shares.put_back(&mut all)?;
+    assert_tally(rt, &*device, all);
+    Ok(())
+}
+
+// The port of pool 3 reads 2048 bytes, from the second word of its function's first descriptor on.
+fn assert_reads_frame<R: Abort + Wait, L: Ledger>(
+    rt: &R,
+    device: &LockedDevice<FlatMem, L>,
+    port: &mut Share<L>,
+) {
     let mut read = [0; 2048];
     assert_eq!(rt;
-        read_count(rt, &*locked, &mut port, 0x1008, 2048, &mut read),
+        read_count(rt, device, port, 0x1008, 2048, &mut read),
         Some(2048)
     );
     assert_eq!(rt; &read[..4], [3, 0, 0, 0].as_slice());
-    shares.put_back(&mut all)?;
-    all.push(port)?;
-    let tally = locked.tally(rt, all).ok_or("no tally")?;
-    let entries = tally.entries;
-    assert_eq!(rt; (entries[3], entries[66]), (1, 18));
-    drop(taken);
-    Ok(())
+}
+
+fn assert_tally<R: Abort + Wait, L: Ledger>(
+    rt: &R,
+    device: &LockedDevice<FlatMem, L>,
+    all: Vec<Share<L>>,
+) {
+    match &device.tally(rt, all) {
+        Some(tally) => assert_eq!(rt; (tally.entries[3], tally.entries[66]), (1, 18)),
+        None => assert!(rt; false, "no tally"),
+    }
 }
 
 // The whole script under the lock, of which four calls are kept at most.

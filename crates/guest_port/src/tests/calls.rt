@@ -138,10 +138,18 @@ fn refuses<M: GuestMem, L: Ledger, R: Wait + Abort>(
     assert_eq!(rt; device.kept(rt), 1, "no call was made");
     assert_refused(rt, &mut port);
     assert_eq!(rt; device.kept(rt), 7);
+    assert_full(rt, &mut port)
+}
+
+// A full history keeps no call more.
+fn assert_full<M: GuestMem, L: Ledger, R: Wait + Abort>(
+    rt: &R,
+    port: &mut LockedPort<M, L, IrqPort>,
+) -> Option<()> {
     assert_eq!(rt; port.reg_read(rt, 0x10), Err(Fault::HistoryFull));
-    assert_too_long(rt, &mut port, Fault::TooLong);
+    assert_too_long(rt, port, Fault::TooLong);
     port.end();
-    assert_too_long(rt, &mut port, Fault::NotOpen);
+    assert_too_long(rt, port, Fault::NotOpen);
     let (share, _tokens) = port.close()?;
     assert_eq!(rt; share.count(), 6, "the calls that were kept");
     Some(())
@@ -173,7 +181,20 @@ fn assert_takes<M: GuestMem, L: Ledger, R: Wait + Abort>(
     assert_eq!(rt; port.take_irqs(), 0);
 }
 
-// A port that ends and closes hands its share and its tokens back, once.
+// A port hands its share, which counted two calls, and its tokens back, once.
+fn assert_closes<M: GuestMem, L: Ledger, R: Wait + Abort>(
+    rt: &R,
+    port: &mut LockedPort<M, L, IrqPort>,
+) -> Option<()> {
+    let (share, tokens) = port.close()?;
+    assert_eq!(rt; share.caller(), 3);
+    assert_eq!(rt; share.count(), 2);
+    assert_eq!(rt; tokens.seat.pool(), 3);
+    assert!(rt; port.close().is_none(), "a port closes once");
+    Some(())
+}
+
+// A port that ends makes no call any more, nor once it is closed.
 fn closes<M: GuestMem, L: Ledger, R: Wait + Abort>(
     rt: &R,
     alloc: Global,
@@ -188,12 +209,8 @@ fn closes<M: GuestMem, L: Ledger, R: Wait + Abort>(
     assert!(rt; !note.ended());
     port.end();
     assert_ended(rt, &mut port);
-    let (share, tokens) = port.close()?;
-    assert_eq!(rt; share.caller(), 3);
-    assert_eq!(rt; share.count(), 2);
-    assert_eq!(rt; tokens.seat.pool(), 3);
+    assert_closes(rt, &mut port)?;
     assert!(rt; note.ended());
-    assert!(rt; port.close().is_none(), "a port closes once");
     assert_ended(rt, &mut port);
     assert_eq!(rt; device.kept(rt), 3);
     Some(())

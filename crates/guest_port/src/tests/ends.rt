@@ -22,27 +22,33 @@ fn a_port_that_is_dropped_ends(rt: HostRuntime) -> Result<(), Fail> {
     Ok(())
 }
 
+// What a port does that was closed: it takes nothing.
+fn assert_closed<R: Abort>(rt: &R, port: &mut IrqPort) {
+    assert!(rt; port.close().is_none());
+    assert!(rt; !port.is_open());
+    assert_eq!(rt; port.peek_irqs(), 0);
+    assert_eq!(rt; port.take_irqs(), 0);
+}
+
+// What it handed back: the message that stood stands still, and the note knows the end.
+fn assert_tokens<R: Abort>(rt: &R, tokens: Tokens) {
+    let Tokens {
+        mut seat,
+        note: mut own,
+    } = tokens;
+    assert_eq!(rt; seat.pool(), 3);
+    assert_eq!(rt; seat.take(), 2, "a closed port takes nothing");
+    assert!(rt; own.ended());
+}
+
 #[test]
 fn a_port_closes_once(rt: HostRuntime) -> Result<(), Fail> {
     let (mut device, mut port, mut note) = line_with_port(rt.alloc())?;
     device.raise(3, 2);
     assert!(rt; !note.ended());
-    let Some(
-        Tokens {
-            mut seat,
-            note: mut own,
-        },
-    ) = port.close()
-    else {
-        return Err(Fail::from("no tokens"));
-    };
-    assert!(rt; port.close().is_none());
-    assert!(rt; !port.is_open());
-    assert_eq!(rt; port.peek_irqs(), 0);
-    assert_eq!(rt; port.take_irqs(), 0);
-    assert_eq!(rt; seat.pool(), 3);
-    assert_eq!(rt; seat.take(), 2, "a closed port takes nothing");
-    assert!(rt; own.ended());
+    let tokens = port.close().ok_or("no tokens")?;
+    assert_closed(&rt, &mut port);
+    assert_tokens(&rt, tokens);
     assert!(rt; note.ended());
     Ok(())
 }

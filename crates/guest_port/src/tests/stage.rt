@@ -20,7 +20,9 @@ pub fn locked<M: GuestMem, L: Ledger>(
     requires parts { (blank.parts ≡ L.parts) × (blank.parts ≡ 67) }
     requires line { line.raises ≡ [] }
 {
-    let device = Device::new(alloc, memories).ok()?;
+    let Ok(device) = Device::new(alloc, memories) else {
+        return None;
+    };
     let (recorded, shares) = Recorded::new(alloc, blank, device, line, cap).ok()?;
     let device = LockedDevice::new(alloc, recorded).ok()?;
     Some((device, shares))

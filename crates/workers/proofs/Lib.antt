@@ -1,1 +1,4 @@
 pub mod Turns
+pub mod Places
+pub mod First
+pub mod Wires

@@ -1,17 +1,18 @@
--- What a caller's own events are: those that it may make.
-use Rattle.std.proofs.Common.{◌≡◌, ◌≢◌, ℕ, ◌<◌, ◌≤◌, ◌==◌, ◌||◌, ◌&&◌, Bool, true, false, nat_lt, nat_le, List, [], ◌∷◌, ◌++◌, ◌+◌, length, map, take, get_or, slice_index, if◌then◌else◌, refl, sym, ap, ◌∙◌, subst, arith}
+-- What a caller's own events are: those that it may make, and what comes of them all.
+use Rattle.std.proofs.Common.{◌≡◌, ℕ, ◌<◌, ◌≤◌, ◌==◌, ◌||◌, Bool, true, false, nat_lt, nat_le, List, [], ◌∷◌, ◌++◌, ◌+◌, length, take, drop, if◌then◌else◌, refl, sym, ap, ◌∙◌, subst, arith}
 use Rattle.std.specs.Prelude.{slice_index_or}
-use Rattle.std.proofs.lemmas.Bool.{false≢true}
+use Rattle.std.proofs.lemmas.Bool.{eqb-true, false≢true}
 use Rattle.std.proofs.lemmas.Bool.Decides.{nat_tests}
-use Rattle.std.proofs.lemmas.List.{get_or-map, get_or_past, map_more, take_all}
+use Rattle.std.proofs.lemmas.List.{get_or_past, take_more}
+use Rattle.std.proofs.lemmas.List.Elements.{filter_passes}
 use Rattle.device.specs.declared.event.Event.{Event}
 use Rattle.device.specs.declared.event.Event.TheVariants.{Open, End, VfRead, VfWrite, MemRead, MemWrite, Serve, Flr, PfRead, PfWrite, PfReset, Wire}
 use Rattle.device_lock.specs.Callers.{may, is_port, is_pf, is_pump, is_service}
 use Rattle.device_lock.specs.Read.{bytes_asked}
 use Rattle.workers.specs.Callers.{caller_before, caller_of, port_or_service}
 use Rattle.guest_port.specs.Calls.{CallingPort, one_more_call}
-use Rattle.workers.specs.Calls.{IsPortEvent, called, one_call}
-use Rattle.workers.specs.Plans.{IsOwn, Planned}
+use Rattle.workers.specs.Calls.{IsPortEvent, called, called_all, one_call}
+use Rattle.workers.specs.Plans.{Planned, own_events, start_of}
 
 -- ---- events before `go`
 
@@ -53,8 +54,14 @@ port_event ports (PfWrite offset x) p below is = absurd (omega (arith, is))
 port_event ports PfReset p below is = absurd (omega (arith, is))
 port_event ports (Wire frame) p below is = absurd (omega (arith, is))
 
-pub own_port_event : (plan : Planned) (at p : ℕ) (e : Event) → p < 64 → IsOwn plan p at → e ≡ slice_index_or plan.events at PfReset → IsPortEvent p e
-own_port_event plan at p e below own is = subst (IsPortEvent p) (sym is) (port_event plan.ports (slice_index_or plan.events at PfReset) p below own)
+-- a caller's own event is the caller's
+pub own_at : (plan : Planned) (c k : ℕ) → k < length (own_events plan c) → caller_of plan.ports (slice_index_or (own_events plan c) k PfReset) ≡ c
+unfolding own_events
+own_at plan c k inside =
+    eqb-true _ _ (filter_passes (λ e. caller_of plan.ports e == c) (drop (start_of plan) plan.events) k PfReset inside)
+
+pub own_port_event : (plan : Planned) (turn p : ℕ) (e : Event) → p < 64 → turn < length (own_events plan p) → e ≡ slice_index_or (own_events plan p) turn PfReset → IsPortEvent p e
+own_port_event plan turn p e below inside is = subst (IsPortEvent p) (sym is) (port_event plan.ports _ p below (own_at plan p turn inside))
 
 -- a pool that has a port is one of 64
 port_below : (ports : List Bool) (q : ℕ) → length ports ≡ 64 → slice_index_or ports q false ≡ true → q < 64
@@ -64,7 +71,7 @@ port_below ports q many has = go (nat_lt q 64) refl
     go true is-true = grind (arith, nat_tests)
     go false is-false = absurd (false≢true (sym (get_or_past ports q false (grind (arith, nat_tests, many))) ∙ has))
 
-not_port : (ports : List Bool) (q c : ℕ) → length ports ≡ 64 → 64 ≤ c → port_or_service ports q ≡ c → c ≡ 66
+pub not_port : (ports : List Bool) (q c : ℕ) → length ports ≡ 64 → 64 ≤ c → port_or_service ports q ≡ c → c ≡ 66
 not_port ports q c many high is = go (slice_index_or ports q false) refl
   where
     go : (has : Bool) → slice_index_or ports q false ≡ has → c ≡ 66
@@ -88,8 +95,8 @@ driver_may ports (PfWrite offset x) c many high is = ap (λ (n : ℕ). is_pf n |
 driver_may ports PfReset c many high is = ap (λ (n : ℕ). is_pf n || is_service n) (sym is)
 driver_may ports (Wire frame) c many high is = ap (λ (n : ℕ). is_pump n || is_service n) (sym is)
 
-pub own_may : (plan : Planned) (at c : ℕ) (e : Event) → length plan.ports ≡ 64 → 64 ≤ c → IsOwn plan c at → e ≡ slice_index_or plan.events at PfReset → may c e ≡ true
-own_may plan at c e many high own is = subst (λ (x : Event). may c x ≡ true) (sym is) (driver_may plan.ports (slice_index_or plan.events at PfReset) c many high own)
+pub own_may : (plan : Planned) (turn c : ℕ) (e : Event) → length plan.ports ≡ 64 → 64 ≤ c → turn < length (own_events plan c) → e ≡ slice_index_or (own_events plan c) turn PfReset → may c e ≡ true
+own_may plan turn c e many high inside is = subst (λ (x : Event). may c x ≡ true) (sym is) (driver_may plan.ports _ c many high (own_at plan c turn inside))
 
 pub may_first : (c : ℕ) (e : Event) → c ≡ caller_before e → may c e ≡ true
 may_first c e is = ap (λ (n : ℕ). may n e) is ∙ may_before e
@@ -117,44 +124,54 @@ few_asked (Wire frame) = omega arith
 pub room_for : (e : Event) (read : List ℕ) → length read ≡ 2048 → bytes_asked e ≤ length read
 room_for e read long = let few = few_asked e in omega (arith, few, long)
 
--- ---- the callers of a script's events
+-- ---- whose a port is
 
-pub callers_more : (ports : List Bool) (es : List Event) (i : ℕ) (e : Event) (c : ℕ) (old new : List ℕ) → i < length es → e ≡ slice_index_or es i PfReset → c ≡ caller_of ports e
-    → old ≡ map (caller_of ports) (take i es) → new ≡ old ++ c ∷ [] → new ≡ map (caller_of ports) (take (i + 1) es)
-callers_more ports es i e c old new less is by before more =
-    more ∙ (λ k. before k ++ (by ∙ ap (caller_of ports) is) k ∷ []) ∙ sym (map_more (caller_of ports) es i PfReset less)
+-- the pool of a port, and whether it is closed
+abbrev Seat : Type 0
+Seat = ℕ × Bool
 
-pub callers_all : (ports : List Bool) (es : List Event) (i : ℕ) (callers : List ℕ) → length es ≤ i → callers ≡ map (caller_of ports) (take i es)
-    → callers ≡ map (caller_of ports) es
-callers_all ports es i callers end before = before ∙ ap (map (caller_of ports)) (take_all i es end)
+seat_of : CallingPort → Seat
+seat_of c = (c.port.pool, c.port.is_closed)
 
-pub caller_at : (plan : Planned) (callers : List ℕ) (at c : ℕ) → callers ≡ map (caller_of plan.ports) plan.events → at < length plan.events
-    → c ≡ slice_index callers at → IsOwn plan c at
-caller_at plan callers at c are inside is =
-    sym (is ∙ ap (λ (xs : List ℕ). get_or xs at 0) are ∙ get_or-map (caller_of plan.ports) plan.events at PfReset 0 inside)
-
--- ---- the pool of a port
-
-one_call_pool : (c : CallingPort) → (one_call c).port.pool ≡ c.port.pool
-one_call_pool c = go c.port.is_open
+one_call_seat : (c : CallingPort) → seat_of (one_call c) ≡ seat_of c
+unfolding seat_of
+one_call_seat c = go c.port.is_open
   where
-    go : (is_open : Bool) → (if is_open then one_more_call c else c).port.pool ≡ c.port.pool
+    go : (is_open : Bool) → seat_of (if is_open then one_more_call c else c) ≡ seat_of c
     go true = refl
     go false = refl
 
-called_pool : (e : Event) (c : CallingPort) → (called e c).port.pool ≡ c.port.pool
-called_pool (Open p) c = one_call_pool c
-called_pool (End p) c = refl
-called_pool (VfRead p offset) c = one_call_pool c
-called_pool (VfWrite p offset x) c = one_call_pool c
-called_pool (MemRead p at count) c = one_call_pool c
-called_pool (MemWrite p at bytes) c = one_call_pool c
-called_pool (Serve p q) c = one_call_pool c
-called_pool (Flr p) c = one_call_pool c
-called_pool (PfRead offset) c = one_call_pool c
-called_pool (PfWrite offset x) c = one_call_pool c
-called_pool PfReset c = one_call_pool c
-called_pool (Wire frame) c = one_call_pool c
+called_seat : (e : Event) (c : CallingPort) → seat_of (called e c) ≡ seat_of c
+unfolding seat_of
+called_seat (Open p) c = one_call_seat c
+called_seat (End p) c = refl
+called_seat (VfRead p offset) c = one_call_seat c
+called_seat (VfWrite p offset x) c = one_call_seat c
+called_seat (MemRead p at count) c = one_call_seat c
+called_seat (MemWrite p at bytes) c = one_call_seat c
+called_seat (Serve p q) c = one_call_seat c
+called_seat (Flr p) c = one_call_seat c
+called_seat (PfRead offset) c = one_call_seat c
+called_seat (PfWrite offset x) c = one_call_seat c
+called_seat PfReset c = one_call_seat c
+called_seat (Wire frame) c = one_call_seat c
 
 pub same_pool : (e : Event) (old new : CallingPort) (p : ℕ) → new ≡ called e old → old.port.pool ≡ p → new.port.pool ≡ p
-same_pool e old new p is before = ap (λ (c : CallingPort). c.port.pool) is ∙ called_pool e old ∙ before
+unfolding seat_of
+same_pool e old new p is before = ap (λ (c : CallingPort). c.port.pool) is ∙ ap (λ (s : Seat). s.0) (called_seat e old) ∙ before
+
+pub same_close : (e : Event) (old new : CallingPort) (closed : Bool) → new ≡ called e old → old.port.is_closed ≡ closed → new.port.is_closed ≡ closed
+unfolding seat_of
+same_close e old new closed is before = ap (λ (c : CallingPort). c.port.is_closed) is ∙ ap (λ (s : Seat). s.1) (called_seat e old) ∙ before
+
+-- ---- the events so far
+
+called_last : (es : List Event) (e : Event) (c : CallingPort) → called_all (es ++ e ∷ []) c ≡ called e (called_all es c)
+called_last [] e c = refl
+called_last (x ∷ es) e c = called_last es e (called x c)
+
+pub called_more : (es : List Event) (k : ℕ) (e : Event) (c old new : CallingPort) → k < length es → e ≡ slice_index_or es k PfReset → old ≡ called_all (take k es) c → new ≡ called e old
+    → new ≡ called_all (take (k + 1) es) c
+called_more es k e c old new less is before more =
+    more ∙ ap (called e) before ∙ sym (called_last (take k es) e c)
+    ∙ ap (λ (x : Event). called_all (take k es ++ x ∷ []) c) is ∙ ap (λ (xs : List Event). called_all xs c) (sym (take_more es k PfReset less))

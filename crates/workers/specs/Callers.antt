@@ -1,5 +1,5 @@
 -- Which caller does an event of a script.
-use Rattle.std.specs.Prelude.{ℕ, Bool, true, false, List, slice_index_or, if◌then◌else◌}
+use Rattle.std.specs.Prelude.{ℕ, Bool, false, List, slice_index_or, if◌then◌else◌}
 use Rattle.device.specs.declared.event.Event.{Event}
 use Rattle.device.specs.declared.event.Event.TheVariants.{Open, End, VfRead, VfWrite, MemRead, MemWrite, Serve, Flr, PfRead, PfWrite, PfReset, Wire}
 

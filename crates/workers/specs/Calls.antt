@@ -1,9 +1,9 @@
 -- What an event asks of a guest's port.
-use Rattle.std.specs.Prelude.{◌≡◌, ℕ, if◌then◌else◌}
+use Rattle.std.specs.Prelude.{◌≡◌, ℕ, List, [], ◌∷◌, if◌then◌else◌}
 use Rattle.device.specs.declared.event.Event.{Event}
-use Rattle.device.specs.declared.event.Event.TheVariants.{Open, End, VfRead, VfWrite, MemRead, MemWrite, Serve, Flr, PfRead, PfWrite, PfReset, Wire}
+use Rattle.device.specs.declared.event.Event.TheVariants.{End, VfRead, VfWrite, MemRead, MemWrite, Flr}
 use Rattle.guest_port.specs.Calls.{CallingPort, one_more_call}
-use Rattle.guest_port.specs.Port.{ended}
+use Rattle.guest_port.specs.Port.{closed, ended}
 
 -- the events of pool p that its port may do
 abbrev pub IsPortEvent : ℕ → Event → Type 0
@@ -23,3 +23,12 @@ one_call c = if c.port.is_open then one_more_call c else c
 abbrev pub called : Event → CallingPort → CallingPort
 called (End p) c = record { port = ended c.port; calls = c.calls }
 called _ c = one_call c
+
+-- a port after events, in order
+abbrev pub called_all : List Event → CallingPort → CallingPort
+called_all [] c = c
+called_all (e ∷ events) c = called_all events (called e c)
+
+-- a port that is closed after them
+abbrev pub closed_after : CallingPort → CallingPort
+closed_after c = record { port = closed c.port; calls = c.calls }

@@ -1,9 +1,8 @@
 -- The events of a script, and whose they are.
-use Rattle.std.specs.Prelude.{◌≡◌, ℕ, Bool, List, Option, length, slice_index_or, unwrap_or}
+use Rattle.std.specs.Prelude.{ℕ, ◌==◌, Bool, List, Option, drop, filter, length, take, unwrap_or}
 use Rattle.device.specs.declared.event.Event.{Event}
-use Rattle.device.specs.declared.event.Event.TheVariants.{PfReset}
 use Rattle.script.specs.Reading.{Meaning}
-use Rattle.workers.specs.Callers.{caller_of}
+use Rattle.workers.specs.Callers.{caller_before, caller_of}
 
 pub record Planned : Type 0 where
   -- all events of the script
@@ -20,6 +19,14 @@ planned script ports = record { events = script.events; go = script.go; ports = 
 abbrev pub start_of : Planned → ℕ
 start_of plan = unwrap_or plan.go (length plan.events)
 
--- the event at a place is the caller's
-abbrev pub IsOwn : Planned → ℕ → ℕ → Type 0
-IsOwn plan caller at = caller_of plan.ports (slice_index_or plan.events at PfReset) ≡ caller
+-- a caller's events after `go`, in the order of the script
+unfoldable pub own_events : Planned → ℕ → List Event
+own_events plan caller = filter (λ e. caller_of plan.ports e == caller) (drop (start_of plan) plan.events)
+
+-- those of events before `go` that a caller does
+unfoldable pub first_events : ℕ → List Event → List Event
+first_events caller events = filter (λ e. caller_before e == caller) events
+
+-- the events before `go`: all, where there is none
+abbrev pub events_before : Meaning → List Event
+events_before script = take (unwrap_or script.go (length script.events)) script.events

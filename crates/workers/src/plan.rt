@@ -1,20 +1,61 @@
 //! Who does which event.
-ghost use Rattle.std.specs.Prelude.{◌≡◌, ◌<◌, ◌≤◌, length, map, slice_index_or, IfOk};
+ghost use Rattle.std.specs.Prelude.{◌≡◌, ◌<◌, ◌≤◌, [], ◌∷◌, ◌++◌, length, replicate, slice_index_or, slice_set, unwrap_or, IfOk, OnOk};
 ghost use Rattle.std.specs.Arc.{arc_value};
 ghost use Rattle.device.specs.Request.{event_of};
 ghost use Rattle.device.specs.declared.event.Event.TheVariants.{PfReset};
-ghost use Rattle.workers.specs.Callers.{caller_before, caller_of, port_or_service};
-ghost use Rattle.workers.specs.Plans.{IsOwn, planned, start_of};
+ghost use Rattle.workers.specs.Callers.{caller_before, caller_of, port_or_service, pump};
+ghost use Rattle.workers.specs.Frames.{frames_of};
+ghost use Rattle.workers.specs.Plans.{own_events, planned};
+ghost use Rattle.workers.specs.Turns.{AreTurns};
 
 use device::Request;
-use device_lock::{PF, PUMP, SERVICE};
+use device_lock::{CALLERS, PF, PUMP, SERVICE};
 use script::{Room, Script};
 use std::alloc::{AllocError, Global};
 use std::marker::Model;
 use std::sync::Arc;
+use wire_frame::FrameBuf;
 
 /// For each pool whether it has a port.
 pub type Ports = [bool; 64];
+
+// The places in a script of one caller's events after `go`, rising. Contracts see the list of them.
+#[derive(Drop)]
+struct Turns {
+    places: Vec<usize>,
+}
+
+impl Model for Turns {
+    ghost use Rattle.std.specs.Prelude.{ℕ, List};
+
+    ghost Value = { List ℕ };
+
+    ghost view = { λ t. t.places.items };
+}
+
+impl Turns {
+    // One more place.
+    fn add(&mut self, place: usize) -> Result<(), AllocError>
+        ensures { OnOk result (self.new ≡ self.old ++ place ∷ []) }
+    {
+        Ok(self.places.push(place)?)
+    }
+
+    // How many there are.
+    fn len(&self) -> usize
+        ensures { result ≡ length self.now }
+    {
+        self.places.len()
+    }
+
+    // The place of a turn, which is counted from 0.
+    fn at(&self, turn: usize) -> usize
+        requires { turn < length self.now }
+        ensures { result ≡ slice_index_or self.now turn 0 }
+    {
+        self.places[turn]
+    }
+}
 
 /// The events of a script, and who does each of them. Contracts see the events, where `go` stands, and the pools that have a
 /// port.
@@ -22,21 +63,21 @@ pub type Ports = [bool; 64];
 pub struct Plan {
     script: Arc<Script>,
     ports: Ports,
-    // of each event of the script
-    callers: Vec<u8>,
+    // of each caller
+    turns: Vec<Turns>,
 }
 
 impl Model for Plan {
-    ghost use Rattle.std.specs.Prelude.{◌≡◌, length, map};
     ghost use Rattle.std.specs.Arc.{arc_value};
-    ghost use Rattle.workers.specs.Callers.{caller_of};
     ghost use Rattle.workers.specs.Plans.{Planned, planned};
+    ghost use Rattle.workers.specs.Turns.{AreTurns};
+    ghost use Rattle.std.specs.Prelude.{◌≡◌, length};
 
     ghost Value = { Planned };
 
     ghost view = { λ p. planned (arc_value p.script) p.ports };
 
-    ghost invariant = { λ p. (length p.ports ≡ 64) × (p.callers.items ≡ map (caller_of p.ports) (arc_value p.script).events) };
+    ghost invariant = { λ p. (length p.ports ≡ 64) × AreTurns (planned (arc_value p.script) p.ports) p.turns.items };
 }
 
 impl Plan {
@@ -45,66 +86,113 @@ impl Plan {
         requires { length ports ≡ 64 }
         ensures { IfOk result (λ plan. plan ≡ planned (arc_value script) ports) }
     {
-        let callers = callers_of(alloc, &script, &ports)?;
+        let turns = turns_of(alloc, &script, &ports)?;
         Ok(Plan {
             script,
             ports,
-            callers,
+            turns,
         })
     }
 
-    /// Where the first event after `go` stands. Without a `go` no event comes after it.
-    pub fn start(&self) -> usize
-        ensures start { result ≡ start_of self.now }
-        ensures inside { result ≤ length self.now.events }
+    /// How many events after `go` a caller does.
+    #[tactic(auto, using(crate::proofs::Places::turns_count))]
+    pub fn turns(&self, caller: u8) -> usize
+        ensures turns { result ≡ length (own_events self.now caller) }
+        ensures pools { length self.now.ports ≡ 64 }
     {
-        match self.script.go() {
-            Some(go) => go,
-            None => self.script.len(),
+        match self.turns.get(usize::from(caller)) {
+            Some(turns) => turns.len(),
+            None => 0,
         }
     }
 
-    /// How many events the script has.
-    pub fn len(&self) -> usize
-        ensures { result ≡ length self.now.events }
+    /// One of the events after `go` that a caller does, as a device is asked it. Its bytes and its frame, where it has some,
+    /// may be laid out in `room`.
+    #[inline]
+    #[tactic(auto, using(crate::proofs::Places::turns_count, crate::proofs::Places::turn_inside, crate::proofs::Places::turn_event, crate::proofs::Places::turn_caller))]
+    pub fn request<'a>(&'a self, caller: u8, turn: usize, room: &'a mut Room) -> Request<'a>
+        requires { turn < length (own_events self.now caller) }
+        ensures { event_of result ≡ slice_index_or (own_events self.now caller) turn PfReset }
     {
-        self.callers.len()
+        let place = place_of(&self.turns, caller, turn);
+        self.script.request(place, room)
     }
 
-    /// The caller that does an event, if it comes after `go`.
-    #[inline]
-    #[tactic(auto, using(crate::proofs::Turns::caller_at))]
-    pub fn caller(&self, index: usize) -> u8
-        requires { index < length self.now.events }
-        ensures caller { IsOwn self.now result index }
-        ensures pools { length self.now.ports ≡ 64 }
+    /// How many frames come from the wire after `go`.
+    #[tactic(auto, using(crate::proofs::Wires::frames_count))]
+    pub fn frames(&self) -> usize
+        ensures { result ≡ length (frames_of (own_events self.now pump)) }
     {
-        self.callers[index]
+        self.turns(PUMP)
     }
 
-    /// An event, as a device is asked it. Its bytes and its frame, where it has some, may be laid out in `room`.
-    #[inline]
-    pub fn request<'a>(&'a self, index: usize, room: &'a mut Room) -> Request<'a>
-        requires { index < length self.now.events }
-        ensures { event_of result ≡ slice_index_or self.now.events index PfReset }
+    /// One of the frames that come from the wire after `go`. It may be laid out in `room`.
+    pub fn frame<'a>(&'a self, turn: usize, room: &'a mut Room) -> &'a FrameBuf
+        requires { turn < length (frames_of (own_events self.now pump)) }
+        ensures { result.now ≡ slice_index_or (frames_of (own_events self.now pump)) turn [] }
     {
-        self.script.request(index, room)
+        let _ = &self.ports;
+        match self.request(PUMP, turn, room) {
+            Request::Wire(frame) => frame,
+            _ => unreachable!(),
+        }
     }
 }
 
-// The caller of each event of a script.
-#[tactic(auto, using(crate::proofs::Turns::callers_more, crate::proofs::Turns::callers_all))]
-fn callers_of(alloc: Global, script: &Script, ports: &Ports) -> Result<Vec<u8>, AllocError>
+// The place of a caller's turn.
+fn place_of(turns: &[Turns], caller: u8, turn: usize) -> usize
+    requires caller { caller < length turns.now }
+    requires turn { turn < length (slice_index_or turns.now caller []) }
+    ensures { result ≡ slice_index_or (slice_index_or turns.now caller []) turn 0 }
+{
+    turns[usize::from(caller)].at(turn)
+}
+
+// The places of each caller's events after `go`, found in one pass over the script.
+#[tactic(auto, using(crate::proofs::Places::found_all))]
+fn turns_of(alloc: Global, script: &Script, ports: &Ports) -> Result<Vec<Turns>, AllocError>
     requires { length ports.now ≡ 64 }
-    ensures { IfOk result (λ callers. callers.items ≡ map (caller_of ports.now) script.now.events) }
+    ensures { IfOk result (λ turns. AreTurns (planned script.now ports.now) turns.items) }
 {
     let mut room = Room::new();
-    let mut callers = Vec::with_capacity(alloc, script.len())?;
-    for index in 0..script.len() {
-        let request = script.request(index, &mut room);
-        callers.push(caller_of(ports, request))?;
+    let mut turns = no_turns(alloc)?;
+    for place in start_of(script)..script.len() {
+        let caller = caller_of(ports, script.request(place, &mut room));
+        add_turn(&mut turns, caller, place)?;
     }
-    Ok(callers)
+    Ok(turns)
+}
+
+// One more place of a caller's events.
+fn add_turn(turns: &mut Vec<Turns>, caller: u8, place: usize) -> Result<(), AllocError>
+    requires { caller < length turns.old.items }
+    ensures { OnOk result (turns.new.items ≡ slice_set turns.old.items caller (slice_index_or turns.old.items caller [] ++ place ∷ [])) }
+{
+    turns[usize::from(caller)].add(place)
+}
+
+// Nobody has an event yet.
+fn no_turns(alloc: Global) -> Result<Vec<Turns>, AllocError>
+    ensures { IfOk result (λ turns. turns.items ≡ replicate 67 []) }
+{
+    let mut turns = Vec::with_capacity(alloc, CALLERS)?;
+    for _ in 0..CALLERS {
+        turns.push(Turns {
+            places: Vec::new(alloc),
+        })?;
+    }
+    Ok(turns)
+}
+
+// Where the first event after `go` stands. Without a `go` no event comes after it.
+fn start_of(script: &Script) -> usize
+    ensures start { result ≡ unwrap_or script.now.go (length script.now.events) }
+    ensures inside { result ≤ length script.now.events }
+{
+    match script.go() {
+        Some(go) => go,
+        None => script.len(),
+    }
 }
 
 /// The caller that does an event before `go`.
@@ -120,7 +208,8 @@ pub fn caller_before(request: Request<'_>) -> u8
 // The caller that does an event after `go`.
 fn caller_of(ports: &Ports, request: Request<'_>) -> u8
     requires { length ports.now ≡ 64 }
-    ensures { result ≡ caller_of ports.now (event_of request.entry) }
+    ensures caller { result ≡ caller_of ports.now (event_of request.entry) }
+    ensures below { result < 67 }
 {
     match request {
         Request::VfRead(pool, _) | Request::VfWrite(pool, _, _) => port_or_service(ports, pool),
@@ -137,7 +226,8 @@ fn caller_of(ports: &Ports, request: Request<'_>) -> u8
 // The pool's port, where it has one, or the service.
 fn port_or_service(ports: &Ports, pool: u8) -> u8
     requires { length ports.now ≡ 64 }
-    ensures { result ≡ port_or_service ports.now pool }
+    ensures caller { result ≡ port_or_service ports.now pool }
+    ensures below { result < 67 }
 {
     match ports.get(usize::from(pool)) {
         Some(true) => pool,

@@ -1,8 +1,11 @@
 //! The events before `go`.
-ghost use Rattle.std.specs.Prelude.{◌≡◌, ◌≤◌, length, IfErr, IfOk};
+ghost use Rattle.std.specs.Prelude.{◌≡◌, ℕ, ◌<◌, ◌≤◌, ◌⊎◌, List, [], ◌∷◌, Bool, length, take, unwrap_or, IfErr, IfOk, OnOk, OnErr, MatchOption};
+ghost use Rattle.wire_frame.specs.declared.fault.Fault.{Fault};
 ghost use Rattle.device.specs.Request.{event_of};
 ghost use Rattle.workers.specs.Callers.{caller_before, pf, service};
-ghost use Rattle.workers.specs.Opens.{opened, pools_from, with_pool};
+ghost use Rattle.workers.specs.Counts.{HaveRecorded};
+ghost use Rattle.workers.specs.Plans.{events_before};
+ghost use Rattle.workers.specs.Opens.{MayCome, MayLeave, all_closed, opened, pools_from, with_pool};
 
 use crate::asking::ask;
 use crate::plan::caller_before;
@@ -33,6 +36,14 @@ pub fn prepare<M: GuestMem, L: Ledger, R: Wait>(
     ensures pf { shares.new.pf.caller ≡ pf }
     ensures service { shares.new.service.caller ≡ service }
     ensures others { (shares.new.pump ≡ shares.old.pump) × (shares.new.ports ≡ shares.old.ports) }
+    ensures recorded { OnOk result (HaveRecorded (events_before script.now) shares.old shares.new) }
+    ensures faulted { IfErr result (λ e. (done : ℕ) × (done ≤ length (events_before script.now))
+        × (e ≡ Fault.HistoryFull → done < length (events_before script.now))
+        × (e ≡ Fault.NoMemory → done ≡ length (events_before script.now))
+        × HaveRecorded (take done (events_before script.now)) shares.old shares.new) }
+    ensures why { IfErr result (λ e. (e ≡ Fault.NoMemory) ⊎ (e ≡ Fault.HistoryFull)) }
+    ensures open { IfOk result (λ pools. MatchOption script.now.go (pools.items ≡ [])
+        (λ go. (left : List Bool) × MayLeave (take go script.now.events) all_closed left × (pools.items ≡ pools_from 0 left))) }
 {
     let Some(go) = script.go() else {
         record_first(rt, script, script.len(), device, shares)?;
@@ -60,18 +71,28 @@ fn record_first<M: GuestMem, L: Ledger, R: Wait>(
     ensures service { shares.new.service.caller ≡ service }
     ensures others { (shares.new.pump ≡ shares.old.pump) × (shares.new.ports ≡ shares.old.ports) }
     ensures full { IfErr result (λ e. e ≡ Fault.HistoryFull) }
-    ensures open { IfOk result (λ pools. length pools ≡ 64) }
+    ensures recorded { OnOk result (HaveRecorded (take count script.now.events) shares.old shares.new) }
+    ensures part { OnErr result ((done : ℕ) × (done < count) × HaveRecorded (take done script.now.events) shares.old shares.new) }
+    ensures open { IfOk result (λ pools. MayLeave (take count script.now.events) all_closed pools) }
+    ensures len { IfOk result (λ pools. length pools ≡ 64) }
 {
     let mut room = Room::new();
     let mut frame = FrameBuf::blank();
     let mut read = [0; MOST_BYTES];
-    let mut pools = [false; 64];
+    let mut pools = closed_pools();
     for at in 0..count {
         let request = script.request(at, &mut room);
         let outcome = record(rt, device, shares, request, &mut frame, &mut read)?;
         note(request, outcome, &mut pools);
     }
     Ok(pools)
+}
+
+// No pool is open.
+fn closed_pools() -> [bool; 64]
+    ensures { result ≡ all_closed }
+{
+    [false; 64]
 }
 
 // Records an event before `go`, and answers what came of it.
@@ -89,8 +110,10 @@ fn record<M: GuestMem, L: Ledger, R: Wait>(
     requires service { shares.old.service.caller ≡ service }
     ensures pf { shares.new.pf.caller ≡ pf }
     ensures service { shares.new.service.caller ≡ service }
-    ensures others { (shares.new.pump ≡ shares.old.pump) × (shares.new.ports ≡ shares.old.ports) }
+    ensures recorded { OnOk result (HaveRecorded (event_of request.entry ∷ []) shares.old shares.new) }
+    ensures unchanged { OnErr result (HaveRecorded [] shares.old shares.new) }
     ensures full { IfErr result (λ e. e ≡ Fault.HistoryFull) }
+    ensures answer { IfOk result (λ outcome. MayCome (event_of request.entry) outcome) }
     ensures read { length read.new ≡ 2048 }
 {
     let caller = caller_before(request);

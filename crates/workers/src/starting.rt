@@ -87,7 +87,10 @@ fn start_guest<
     if !crew.is_ready() {
         return;
     }
-    let work = move || guest(&rt, &mine.plan, &mine.device, port, &*mine.gate);
+    let work = move || {
+        let mut port = port;
+        guest(&rt, &mine.plan, &mine.device, &mut port, &*mine.gate)
+    };
     match thread::spawn(&rt, work) {
         Ok(thread) => crew.add(log, Worker::Port(pool), thread),
         Err(_) => crew.refuse(),
@@ -163,7 +166,11 @@ pub fn start_reader<
     if !crew.is_ready() {
         return;
     }
-    match thread::spawn(&rt, move || reader(&rt, &mine.plan, sender)) {
+    let work = move || {
+        let mut sender = sender;
+        reader(&rt, &mine.plan, &mut sender)
+    };
+    match thread::spawn(&rt, work) {
         Ok(thread) => crew.add(log, Worker::Reader, thread),
         Err(_) => crew.refuse(),
     }

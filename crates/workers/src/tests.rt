@@ -2,5 +2,6 @@
 //! are folded. The scripts and the numbers are worked out by hand.
 mod ends;
 mod gates;
+mod refused;
 mod rows;
 mod stage;

@@ -1,12 +1,18 @@
 //! The workers, and what each of them does in its thread.
-ghost use Rattle.std.specs.Prelude.{◌≤◌};
+ghost use Rattle.std.specs.Prelude.{◌≡◌, ℕ, ◌<◌, ◌≤◌, ◌++◌, true, false, length, take, Some, None, MatchOption};
+ghost use Rattle.wire_pump.specs.declared.feeding.FeedEnd.{FeedEnd};
+ghost use Rattle.wire_pump.specs.Ends.{fed, IsCounted};
+ghost use Rattle.workers.specs.Callers.{pump};
+ghost use Rattle.workers.specs.Calls.{called_all, closed_after};
+ghost use Rattle.workers.specs.Counts.{with_calls};
+ghost use Rattle.workers.specs.Frames.{frames_of};
+ghost use Rattle.workers.specs.Plans.{own_events};
 
 use crate::asking::ask;
 use crate::calling::call;
 use crate::door::GatedDoor;
 use crate::gate::Gate;
 use crate::plan::Plan;
-use device::Request;
 use device::bytes::MOST_BYTES;
 use device_lock::{LockedDevice, PUMP, Share};
 use guest_memory::GuestMem;
@@ -17,7 +23,7 @@ use std::fmt::{Display, Formatter, Write};
 use std::sync::Wait;
 use std::sync::ledger::Ledger;
 use wire_frame::FrameBuf;
-use wire_pump::{FrameReceiver, FrameSender, PumpEnd, pump};
+use wire_pump::{FeedEnd, FrameReceiver, FrameSender, PumpEnd, pump};
 
 /// A worker, which has a thread of its own.
 #[derive(Clone, Copy, Debug, PartialEq, Eq)]
@@ -60,10 +66,17 @@ pub fn guest<M: GuestMem, L: Ledger, P: GuestPort, G: Gate, R: Wait>(
     rt: &R,
     plan: &Plan,
     device: &LockedDevice<M, L>,
-    mut port: LockedPort<M, L, P>,
+    port: &mut LockedPort<M, L, P>,
     gate: &G,
-) -> Done<L> {
-    let was_full = !calls(rt, plan, device, &mut port, gate);
+) -> Done<L>
+    ensures all { result.was_full ≡ false →
+        port.new ≡ closed_after (called_all (own_events plan.now port.old.port.pool) port.old) }
+    ensures part { result.was_full ≡ true → (done : ℕ) × (done < length (own_events plan.now port.old.port.pool))
+        × (port.new ≡ closed_after (called_all (take done (own_events plan.now port.old.port.pool)) port.old)) }
+    ensures share { MatchOption result.share (port.old.port.is_closed ≡ true)
+        (λ share. (port.old.port.is_closed ≡ false) × (share.caller ≡ port.old.port.pool)) }
+{
+    let was_full = !calls(rt, plan, device, port, gate);
     let share = match port.close() {
         Some((share, tokens)) => {
             drop(tokens);
@@ -75,25 +88,28 @@ pub fn guest<M: GuestMem, L: Ledger, P: GuestPort, G: Gate, R: Wait>(
 }
 
 // Does a port's events, and tells whether all were done.
-#[tactic(auto, using(crate::proofs::Turns::own_port_event, crate::proofs::Turns::same_pool))]
+#[tactic(auto, using(crate::proofs::Turns::own_port_event, crate::proofs::Turns::called_more, crate::proofs::Turns::same_pool, crate::proofs::Turns::same_close))]
 fn calls<M: GuestMem, L: Ledger, P: GuestPort, G: Gate, R: Wait>(
     rt: &R,
     plan: &Plan,
     device: &LockedDevice<M, L>,
     port: &mut LockedPort<M, L, P>,
     gate: &G,
-) -> bool {
+) -> bool
+    ensures all { result ≡ true → port.new ≡ called_all (own_events plan.now port.old.port.pool) port.old }
+    ensures part { result ≡ false → (done : ℕ) × (done < length (own_events plan.now port.old.port.pool))
+        × (port.new ≡ called_all (take done (own_events plan.now port.old.port.pool)) port.old) }
+    ensures kept { (port.new.port.pool ≡ port.old.port.pool) × (port.new.port.is_closed ≡ port.old.port.is_closed) }
+{
     let caller = port.pool();
     let mut room = Room::new();
     let mut read = [0; MOST_BYTES];
     let mut n = 0u32;
-    for at in plan.start()..plan.len() {
-        if plan.caller(at) != caller {
-            continue;
-        }
+    for turn in 0..plan.turns(caller) {
         n = n.wrapping_add(1);
         gate.before(caller, n);
-        let done = call(rt, device, port, plan.request(at, &mut room), &mut read);
+        let request = plan.request(caller, turn, &mut room);
+        let done = call(rt, device, port, request, &mut read);
         gate.after(caller, n);
         if done.is_err() {
             return false;
@@ -111,6 +127,10 @@ pub fn driver<M: GuestMem, L: Ledger, G: Gate, R: Wait>(
     gate: &G,
 ) -> Done<L>
     requires { 64 ≤ share.caller }
+    ensures all { result.was_full ≡ false →
+        result.share ≡ Some (with_calls (length (own_events plan.now share.caller)) share) }
+    ensures part { result.was_full ≡ true → (done : ℕ) × (done < length (own_events plan.now share.caller))
+        × (result.share ≡ Some (with_calls done share)) }
 {
     let was_full = !events(rt, plan, device, &mut share, gate);
     Done {
@@ -129,26 +149,21 @@ fn events<M: GuestMem, L: Ledger, G: Gate, R: Wait>(
     gate: &G,
 ) -> bool
     requires { 64 ≤ share.old.caller }
+    ensures all { result ≡ true → share.new ≡ with_calls (length (own_events plan.now share.old.caller)) share.old }
+    ensures part { result ≡ false → (done : ℕ) × (done < length (own_events plan.now share.old.caller))
+        × (share.new ≡ with_calls done share.old) }
 {
+    let caller = share.caller();
     let mut room = Room::new();
     let mut frame = FrameBuf::blank();
     let mut read = [0; MOST_BYTES];
     let mut n = 0u32;
-    for at in plan.start()..plan.len() {
-        if plan.caller(at) != share.caller() {
-            continue;
-        }
+    for turn in 0..plan.turns(caller) {
         n = n.wrapping_add(1);
-        gate.before(share.caller(), n);
-        let done = ask(
-            rt,
-            device,
-            share,
-            plan.request(at, &mut room),
-            &mut frame,
-            &mut read,
-        );
-        gate.after(share.caller(), n);
+        gate.before(caller, n);
+        let request = plan.request(caller, turn, &mut room);
+        let done = ask(rt, device, share, request, &mut frame, &mut read);
+        gate.after(caller, n);
         if done.is_err() {
             return false;
         }
@@ -157,8 +172,13 @@ fn events<M: GuestMem, L: Ledger, G: Gate, R: Wait>(
 }
 
 /// Reads the frames of the wire from the script, and sends them and then `Last` to the pump.
-pub fn reader<L: Ledger, R: Wait>(rt: &R, plan: &Plan, mut sender: FrameSender) -> Done<L> {
-    send_frames(rt, plan, &mut sender);
+pub fn reader<L: Ledger, R: Wait>(rt: &R, plan: &Plan, sender: &mut FrameSender) -> Done<L>
+    ensures sent { (end : FeedEnd) × IsCounted (length (frames_of (own_events plan.now pump))) end
+        × (sender.new ≡ record sender.old { sent = sender.old.sent ++ fed (frames_of (own_events plan.now pump)) end }) }
+    ensures share { result.share ≡ None }
+    ensures full { result.was_full ≡ false }
+{
+    let _ = send_frames(rt, plan, sender);
     Done {
         share: None,
         was_full: false,
@@ -166,19 +186,23 @@ pub fn reader<L: Ledger, R: Wait>(rt: &R, plan: &Plan, mut sender: FrameSender) 
 }
 
 // Sends the frames and then `Last`. Where the pump is gone, no more are sent.
-fn send_frames<R: Wait>(rt: &R, plan: &Plan, sender: &mut FrameSender) {
+#[tactic(auto, using(crate::proofs::Wires::sent_more, crate::proofs::Wires::sent_all))]
+fn send_frames<R: Wait>(rt: &R, plan: &Plan, sender: &mut FrameSender) -> FeedEnd
+    ensures sent { sender.new ≡ record sender.old { sent = sender.old.sent ++ fed (frames_of (own_events plan.now pump)) result } }
+    ensures count { IsCounted (length (frames_of (own_events plan.now pump))) result }
+{
     let mut room = Room::new();
-    for at in plan.start()..plan.len() {
-        if plan.caller(at) != PUMP {
-            continue;
-        }
-        if let Request::Wire(frame) = plan.request(at, &mut room) {
-            if !sender.frame(rt, frame) {
-                return;
-            }
+    let count = plan.frames();
+    for sent in 0..count {
+        if !sender.frame(rt, plan.frame(sent, &mut room)) {
+            return FeedEnd::Gone(sent);
         }
     }
-    let _ = sender.last(rt);
+    if sender.last(rt) {
+        FeedEnd::All
+    } else {
+        FeedEnd::Gone(count)
+    }
 }
 
 /// Gives the frames that come to the device, by the pump's share.

@@ -1,8 +1,12 @@
-//! Guests that run beside each other, and one that ends while a frame for it is under way.
+//! Guests that run beside each other, and one that is dropped while a frame for it is under way.
 ghost use Rattle.std.specs.Prelude.{◌≡◌, []};
 
-use super::stage::{Seen, Setting, done};
-use crate::Gate;
+use super::stage::{
+    Begun, One, SET_UP_EVENTS, Seen, Setting, answer, begin, done, frame_to_3, port_of_three,
+};
+use crate::{Gate, sweep};
+use device::{Event, Reply};
+use device_lock::{PUMP, SERVICE, Shares};
 use guest_memory::{FlatMem, GuestMem};
 use guest_port::{EndNote, GuestPort, IrqPort};
 use irq_line::{DeviceSeat, make};
@@ -10,6 +14,7 @@ use log::sink::Memory as Sink;
 use log::{Level, Log, Logged};
 use std::alloc::Global;
 use std::marker::Brand;
+use std::process::Abort;
 use std::sync::atomic::{AtomicU64, Ordering};
 use std::sync::ledger::{Blank, Ledger};
 use std::sync::{Arc, Wait};
@@ -17,6 +22,7 @@ use std::test::Fail;
 use std::thread;
 use std::thread::Threads;
 use wire_frame::Fault;
+use wire_pump::{FeedEnd, LockedDoor, PumpEnd, channel, feed, pump};
 
 // Holds call 1 of port 1 until call 1 of port 2 is answered.
 #[derive(Drop)]
@@ -81,6 +87,113 @@ fn hold_two<
     done::<M, L, P, Hold, R, O>(rt, log, alloc, blank, setting, SCRIPT, gate)
 }
 
+// What is seen of a port that is dropped while a frame for its function is under way.
+#[derive(Debug, Drop, PartialEq, Eq)]
+struct UnderWay {
+    // the frame and `Last` were sent, and both came out
+    is_fed: bool,
+    is_pumped: bool,
+    // whether the note knew the end before the port was dropped, and after
+    before: bool,
+    after: bool,
+    // the function got the frame, since it is open until its end is recorded
+    received: Option<Reply>,
+    // how many ends were recorded, and what the function answers then
+    swept: Option<usize>,
+    last: Option<Reply>,
+    kept: usize,
+}
+
+// Feeds a frame and `Last`, drops the port of the frame's function, pumps, and sweeps.
+fn under_way<M: GuestMem, L: Ledger, P: GuestPort, R: Wait>(
+    rt: &R,
+    alloc: Global,
+    blank: Blank,
+    line: DeviceSeat,
+    port: P,
+    note: EndNote,
+    memories: Vec<M>,
+) -> Option<UnderWay>
+    requires blank { (blank.name ≡ L.name) × (blank.parts ≡ L.parts) × (blank.parts ≡ 67) }
+    requires line { line.raises ≡ [] }
+{
+    let one = One {
+        line,
+        port,
+        note,
+        memories,
+    };
+    let Begun {
+        device,
+        shares,
+        port,
+        mut note,
+    } = begin::<M, L, P, R>(rt, alloc, blank, one)?;
+    let Shares {
+        pump: share,
+        mut service,
+        ..
+    } = shares;
+    if share.caller() != PUMP || service.caller() != SERVICE {
+        return None;
+    }
+    let (mut sender, mut receiver) = channel(alloc).ok()?;
+    let frames = [frame_to_3().ok()?];
+    let is_fed = matches!(feed(&mut sender, rt, &frames), FeedEnd::All);
+    let before = note.ended();
+    drop(port);
+    let after = note.ended();
+    let mut door = LockedDoor::new(Arc::try_clone(&device).ok()?, share);
+    let is_pumped = matches!(pump(&mut receiver, rt, &mut door), PumpEnd::Last);
+    let received = answer(rt, &device, &mut service, Event::VfRead(3, 0x101c))?.reply;
+    let mut notes = Vec::new(alloc);
+    notes.push((3, note)).ok()?;
+    let swept = sweep(rt, &mut notes, &device, &mut service).ok();
+    let last = answer(rt, &device, &mut service, Event::VfRead(3, 0x10))?.reply;
+    Some(UnderWay {
+        is_fed,
+        is_pumped,
+        before,
+        after,
+        received: Some(received),
+        swept,
+        last: Some(last),
+        kept: device.kept(rt),
+    })
+}
+
+// The set-up, the frame, a read, the end and another read are kept.
+fn third_guest<R: Abort + Wait + AllocGlobal>(rt: &R) -> Result<(), Fail> {
+    let One {
+        line,
+        port,
+        note,
+        memories,
+    } = port_of_three(rt.alloc())?;
+    let port: Box<dyn GuestPort + Send> = Box::new(rt.alloc(), port)?;
+    let seen = under_way::<FlatMem, Brand, Box<dyn GuestPort + Send>, R>(
+        rt,
+        rt.alloc(),
+        Blank::new(67),
+        line,
+        port,
+        note,
+        memories,
+    );
+    let wanted = UnderWay {
+        is_fed: true,
+        is_pumped: true,
+        before: false,
+        after: true,
+        received: Some(Reply::Value(1)),
+        swept: Some(1),
+        last: Some(Reply::Refused(2)),
+        kept: SET_UP_EVENTS + 4,
+    };
+    assert_eq!(rt; seen, Some(wanted));
+    Ok(())
+}
+
 #[test]
 fn gate_two_guests(rt: HostRuntime) -> Result<(), Fail> {
     let alloc = rt.alloc();
@@ -142,5 +255,5 @@ fn gate_two_guests(rt: HostRuntime) -> Result<(), Fail> {
         assert!(rt; lines.as_slice()[at] == starts);
         assert!(rt; lines.as_slice()[at + 6] == ends);
     }
-    Ok(())
+    third_guest(&rt)
 }

@@ -2,18 +2,19 @@
 ghost use Rattle.std.specs.Prelude.{◌≡◌, []};
 
 use crate::{Gate, prepare, run_workers};
-use device::Device;
-use device_lock::{LockedDevice, PF, PUMP, Recorded, SERVICE, Shares};
-use guest_memory::GuestMem;
-use guest_port::{EndNote, GuestPort, LockedPort};
-use irq_line::DeviceSeat;
+use device::{Answer, Device, Event};
+use device_lock::{LockedDevice, PF, PUMP, Recorded, SERVICE, Share, Shares};
+use guest_memory::{FlatMem, GuestMem};
+use guest_port::{EndNote, GuestPort, IrqPort, LockedPort};
+use irq_line::{DeviceSeat, make};
 use log::Log;
 use script::Script;
 use std::alloc::Global;
 use std::sync::ledger::{Blank, Ledger};
 use std::sync::{Arc, Wait};
+use std::test::Fail;
 use std::thread::Threads;
-use wire_frame::Fault;
+use wire_frame::{Fault, FrameBuf};
 
 /// What is seen once all have ended.
 #[derive(Debug, Drop, PartialEq, Eq)]
@@ -57,6 +58,116 @@ pub fn locked<M: GuestMem, L: Ledger>(
         None => Recorded::new(alloc, blank, device, line, cap)?,
     };
     Ok((LockedDevice::new(alloc, recorded)?, shares))
+}
+
+/// The pools may receive and transmit; function 3 has the address 02:00:00:00:00:03, its ring has one buffer, at 0x4000, and a
+/// frame raises vector 0.
+pub const SET_UP: &str =
+    "vfs 8 65536\npw 0x51e0 0xff\npw 0x8110 0xff\nopen 3\npw 0xa218 0x2\npw 0xa21c 0x80000300\npw 0xa618 0x8\nmw 3 0x1000 0040000000000000\nw 3 0x1000 0x1000\nw 3 0x1008 128\nw 3 0x1014 0x02000002\nw 3 0x1028 0x02000000\nw 3 0x1018 1\nw 3 0x120 0x8180\nw 3 0x108 7\ngo\n";
+
+/// How many events the set-up has.
+pub const SET_UP_EVENTS: usize = 14;
+
+/// What a test of one port needs: the line, the port of pool 3 with a note of its end, and the memories of the set-up.
+#[derive(Drop)]
+pub struct One<M: GuestMem, P: GuestPort> {
+    pub line: DeviceSeat,
+    pub port: P,
+    pub note: EndNote,
+    pub memories: Vec<M>,
+    pub ghost unused: { line.raises ≡ [] },
+}
+
+/// The port of pool 3, and the memories of the set-up.
+pub fn port_of_three(alloc: Global) -> Result<One<FlatMem, IrqPort>, Fail> {
+    let (line, seats) = make(alloc)?;
+    let mut memories = Vec::new(alloc);
+    for _ in 0..8 {
+        memories.push(FlatMem::new(alloc, 65536)?)?;
+    }
+    for seat in seats {
+        if seat.pool() == 3 {
+            let (port, note) = IrqPort::new(alloc, 3, seat)?;
+            return Ok(One {
+                line,
+                port,
+                note,
+                memories,
+            });
+        }
+    }
+    Err(Fail::from("no seat"))
+}
+
+/// The device of the set-up, its shares, and the port of pool 3 with the device and a note of its end.
+#[derive(Drop)]
+pub struct Begun<M: GuestMem, L: Ledger, P: GuestPort> {
+    pub device: Arc<LockedDevice<M, L>>,
+    pub shares: Shares<L>,
+    pub port: LockedPort<M, L, P>,
+    pub note: EndNote,
+}
+
+/// Does the set-up on a device with these memories, and gives the port of pool 3 to it.
+pub fn begin<M: GuestMem, L: Ledger, P: GuestPort, R: Wait>(
+    rt: &R,
+    alloc: Global,
+    blank: Blank,
+    one: One<M, P>,
+) -> Option<Begun<M, L, P>>
+    requires { (blank.name ≡ L.name) × (blank.parts ≡ L.parts) × (blank.parts ≡ 67) }
+{
+    let One {
+        line,
+        port,
+        note,
+        memories,
+    } = one;
+    let (device, mut shares) = locked::<M, L>(alloc, blank, line, memories, None, 40).ok()?;
+    let script = Script::read(alloc, &mut SET_UP.as_bytes()).ok()?;
+    if shares.pf.caller() != PF || shares.service.caller() != SERVICE {
+        return None;
+    }
+    let pools = prepare(rt, alloc, &script, &device, &mut shares).ok()?;
+    if pools.as_slice() != [3].as_slice() || device.kept(rt) != SET_UP_EVENTS {
+        return None;
+    }
+    let port = seat(&device, &mut shares, port)?;
+    Some(Begun {
+        device,
+        shares,
+        port,
+        note,
+    })
+}
+
+/// A frame of 60 bytes for function 3.
+pub fn frame_to_3() -> Result<FrameBuf, Fault> {
+    let mut bytes = [0; 60];
+    bytes[0] = 2;
+    bytes[5] = 3;
+    bytes[6] = 2;
+    bytes[11] = 0x99;
+    bytes[12] = 8;
+    FrameBuf::from_bytes(&bytes)
+}
+
+/// What the service is answered.
+pub fn answer<M: GuestMem, L: Ledger, R: Wait>(
+    rt: &R,
+    device: &LockedDevice<M, L>,
+    service: &mut Share<L>,
+    event: Event,
+) -> Option<Answer>
+    ensures { service.new.caller ≡ service.old.caller }
+{
+    if !service.may(event.as_request()) {
+        return None;
+    }
+    match device.act(rt, service, event) {
+        Ok(answer) => Some(answer),
+        Err(_) => None,
+    }
 }
 
 // The ports of these pools, with the device and their shares.
@@ -124,8 +235,10 @@ pub fn done<
         twins,
         cap,
     } = setting;
-    let Ok(script) = Script::read(alloc, &mut text.as_bytes()) else {
-        return Err(Fault::BadMake);
+    let script = match Script::read(alloc, &mut text.as_bytes()) {
+        Ok(script) => script,
+        Err(script::Fault::NoMemory) => return Err(Fault::NoMemory),
+        Err(_) => return Err(Fault::BadMake),
     };
     let Ok(script) = Arc::new(alloc, script) else {
         return Err(Fault::NoMemory);

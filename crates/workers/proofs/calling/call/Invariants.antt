@@ -1,5 +1,5 @@
 -- No call was made so far.
-use Rattle.std.proofs.Common.{◌≡◌, length}
+use Rattle.std.proofs.Common.{◌≡◌}
 use Rattle.workers.proofs.calling.call.Given as goal
 
 abbrev pub invariant-loop : goal.invariant-loop

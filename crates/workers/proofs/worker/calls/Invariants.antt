@@ -1,10 +1,15 @@
--- The port's pool and the room for what is read stay.
-use Rattle.std.proofs.Common.{◌≡◌, ◌<◌, length}
+-- The events so far are done.
+use Rattle.std.proofs.Common.{◌≡◌, ◌<◌, length, take}
+use Rattle.workers.specs.Calls.{called_all}
+use Rattle.workers.specs.Plans.{own_events}
 use Rattle.workers.proofs.worker.calls.Given as goal
 
-abbrev pub invariant-loop-at : goal.invariant-loop-at
-invariant-loop-at g l = record {
+abbrev pub invariant-loop-turn : goal.invariant-loop-turn
+invariant-loop-turn g l = record {
+  done : l.port ≡ called_all (take l.turn (own_events l.plan l.caller)) l.fn.port;
   pool : l.port.port.pool ≡ l.caller;
+  same : l.fn.port.port.pool ≡ l.caller;
+  closed : l.port.port.is_closed ≡ l.fn.port.port.is_closed;
   below : l.caller < 64;
   read : length l.read ≡ 2048;
 }

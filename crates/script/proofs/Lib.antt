@@ -4,3 +4,5 @@ pub mod LineLemmas
 pub mod Pairs
 pub mod RecordLemmas
 pub mod RunLemmas
+pub mod Values
+pub mod WordLemmas

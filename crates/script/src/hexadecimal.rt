@@ -6,13 +6,40 @@ ghost use Rattle.script.specs.Bytes.{byte_of, pairs_of};
 // What stands for a byte that is no digit.
 const NO_DIGIT: u8 = 0xFF;
 
-/// The value of a hexadecimal digit of either case, and 255 where the byte is none.
+// The value of each byte as a hexadecimal digit of either case, and 255 where it is none.
+static VALUES: [u8; 256] = [
+    255, 255, 255, 255, 255, 255, 255, 255, 255, 255, 255, 255, 255, 255, 255, 255, 255, 255, 255,
+    255, 255, 255, 255, 255, 255, 255, 255, 255, 255, 255, 255, 255, 255, 255, 255, 255, 255, 255,
+    255, 255, 255, 255, 255, 255, 255, 255, 255, 255, 0, 1, 2, 3, 4, 5, 6, 7, 8, 9, 255, 255, 255,
+    255, 255, 255, 255, 10, 11, 12, 13, 14, 15, 255, 255, 255, 255, 255, 255, 255, 255, 255, 255,
+    255, 255, 255, 255, 255, 255, 255, 255, 255, 255, 255, 255, 255, 255, 255, 255, 10, 11, 12, 13,
+    14, 15, 255, 255, 255, 255, 255, 255, 255, 255, 255, 255, 255, 255, 255, 255, 255, 255, 255,
+    255, 255, 255, 255, 255, 255, 255, 255, 255, 255, 255, 255, 255, 255, 255, 255, 255, 255, 255,
+    255, 255, 255, 255, 255, 255, 255, 255, 255, 255, 255, 255, 255, 255, 255, 255, 255, 255, 255,
+    255, 255, 255, 255, 255, 255, 255, 255, 255, 255, 255, 255, 255, 255, 255, 255, 255, 255, 255,
+    255, 255, 255, 255, 255, 255, 255, 255, 255, 255, 255, 255, 255, 255, 255, 255, 255, 255, 255,
+    255, 255, 255, 255, 255, 255, 255, 255, 255, 255, 255, 255, 255, 255, 255, 255, 255, 255, 255,
+    255, 255, 255, 255, 255, 255, 255, 255, 255, 255, 255, 255, 255, 255, 255, 255, 255, 255, 255,
+    255, 255, 255, 255, 255, 255, 255, 255, 255, 255, 255, 255, 255, 255, 255, 255, 255, 255, 255,
+    255, 255, 255,
+];
+
+/// The value of a hexadecimal digit of either case, and 255 where the byte is none: by a table, for one digit at a time.
 #[inline]
-#[tactic(auto, unfolding(crate::specs::Numbers::digit_value))]
-pub fn digit(byte: u8) -> u8
+#[tactic(auto, using(crate::proofs::Values::VALUES_at))]
+pub fn value(byte: u8) -> u8
     ensures { result ≡ digit_value byte }
 {
-    // Two choices without a table: in this form a loop does it for many digits at once.
+    VALUES[usize::from(byte)]
+}
+
+// The same without the table.
+#[inline]
+#[tactic(auto, unfolding(crate::specs::Numbers::digit_value))]
+fn digit(byte: u8) -> u8
+    ensures { result ≡ digit_value byte }
+{
+    // Two choices: in this form a loop does it for many digits at once.
     let decimal = byte.wrapping_sub(b'0');
     let letter = byte.wrapping_sub(b'A').min(byte.wrapping_sub(b'a'));
     if decimal < 10 {
@@ -30,7 +57,7 @@ pub fn digit(byte: u8) -> u8
 pub fn byte(high: u8, low: u8) -> Option<u8>
     ensures { result ≡ byte_of high low }
 {
-    let (high, low) = (digit(high), digit(low));
+    let (high, low) = (value(high), value(low));
     if high < 16 && low < 16 {
         Some(high * 16 + low)
     } else {

@@ -2,7 +2,7 @@
 ghost use Rattle.std.specs.Prelude.{◌≡◌};
 ghost use Rattle.script.specs.Numbers.{number_of, number_to};
 
-use crate::hexadecimal::digit;
+use crate::hexadecimal::value;
 
 // The most bytes of a number that begins with `0x`.
 const MOST_MARKED: usize = 18;
@@ -38,15 +38,15 @@ fn to_base(base: u8, digits: &[u8]) -> Option<u64>
     if digits.is_empty() {
         return None;
     }
-    let mut value = 0u64;
+    let mut number = 0u64;
     for byte in digits {
-        let digit = digit(*byte);
+        let digit = value(*byte);
         if digit >= base {
             return None;
         }
-        value = value
+        number = number
             .checked_mul(u64::from(base))?
             .checked_add(u64::from(digit))?;
     }
-    Some(value)
+    Some(number)
 }

@@ -1,8 +1,12 @@
 //! Texts cut at a byte.
-ghost use Rattle.std.specs.Prelude.{◌≡◌, ◌<◌, ◌∷◌, ◌++◌, length, option_copied, IfSome, IfNone};
+ghost use Rattle.std.specs.Prelude.{◌≡◌, ◌<◌, ◌≤◌, ◌∷◌, ◌++◌, length, option_copied, slice_index, true, IfSome, IfNone};
+ghost use Rattle.memchr.specs.Find.{Nowhere, Passes, is_byte};
 ghost use Rattle.script.specs.Text.{IsWithout, parts, parts_after};
 
 use memchr::memchr;
+
+// How many bytes are looked at one by one: most words are shorter.
+const FEW: usize = 16;
 
 /// A text up to the first of these bytes, and what comes after that byte, if the text has one.
 #[inline]
@@ -16,5 +20,33 @@ pub fn cut(byte: u8, text: &[u8]) -> (&[u8], Option<&[u8]>)
     match memchr(byte, text) {
         Some(at) => (&text[..at], Some(&text[at + 1..])),
         None => (text, None),
+    }
+}
+
+/// How many bytes of a text come before the first of these bytes: all of them, where the text has none.
+#[inline]
+pub fn place(byte: u8, text: &[u8]) -> usize
+    ensures inside { result ≤ length text.now }
+    ensures before { Nowhere (Passes (is_byte byte) text.now) 0 result }
+    ensures here { result < length text.now → slice_index text.now result ≡ byte }
+{
+    for at in 0..text.len().min(FEW) {
+        if text[at] == byte {
+            return at;
+        }
+    }
+    far_place(byte, text)
+}
+
+// The same, for a text whose first bytes are others.
+#[inline(never)]
+fn far_place(byte: u8, text: &[u8]) -> usize
+    ensures inside { result ≤ length text.now }
+    ensures before { Nowhere (Passes (is_byte byte) text.now) 0 result }
+    ensures here { result < length text.now → slice_index text.now result ≡ byte }
+{
+    match memchr(byte, text) {
+        Some(at) => at,
+        None => text.len(),
     }
 }

@@ -5,7 +5,7 @@ ghost use Rattle.script.specs.Words.{address_of, at_most, length_of, none_of, on
 
 use crate::fault::Refusal;
 use crate::numbers::number;
-use crate::text::cut;
+use crate::text::place;
 use device::Queue;
 use std::marker::Model;
 
@@ -34,6 +34,8 @@ impl<'a> Words<'a> {
     }
 
     /// The next word, if there is one.
+    #[inline]
+    #[tactic(auto, using(crate::proofs::WordLemmas::first_word))]
     pub fn next(&mut self) -> Option<&'a [u8]>
         ensures { MatchOption result ((self.old ≡ []) × (self.new ≡ []))
             (λ word. self.old ≡ word.now ∷ self.new) }
@@ -43,8 +45,8 @@ impl<'a> Words<'a> {
             self.rest = text;
             return None;
         }
-        let (word, rest) = cut(b' ', text);
-        self.rest = rest.unwrap_or(&[]);
+        let (word, rest) = text.split_at(place(b' ', text));
+        self.rest = rest;
         Some(word)
     }
 

@@ -1,3 +1,4 @@
+pub mod Counts
 pub mod Each
 pub mod Known
 pub mod Marks

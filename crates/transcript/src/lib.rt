@@ -7,6 +7,8 @@
 //! The crate stands on `device` and `lone`.
 #![tactic(auto)]
 
+mod count;
+mod digits;
 mod fault;
 pub mod laws;
 mod lines;

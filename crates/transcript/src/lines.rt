@@ -8,8 +8,7 @@ ghost use Rattle.transcript.specs.Text.{frame_line, item_line, item_text, line, 
 use crate::fault::Fault;
 use crate::output::{MOST_READ, Output};
 use crate::text::{
-    push_bytes, push_bytes_reply, push_decimal, push_digits, push_mark, push_marks,
-    push_plain_reply,
+    push_bytes, push_bytes_reply, push_digits, push_mark, push_marks, push_plain_reply,
 };
 use device::{Device, Outcome, Span, Taken};
 use guest_memory::GuestMem;
@@ -28,7 +27,7 @@ impl Output {
     ) -> Result<(), Fault>
         ensures { OnOk result (self.new ≡ self.old ++ line number (answer_in device.now taken.now)) }
     {
-        push_decimal(&mut self.held, number)?;
+        push_bytes(&mut self.held, self.count.digits_of(number))?;
         self.hold_reply(device, taken.outcome)?;
         push_marks(&mut self.held, &taken.messages)?;
         push_bytes(&mut self.held, b"\n")
@@ -60,7 +59,7 @@ impl Output {
     pub(crate) fn hold_item(&mut self, number: u64, given: Given<'_>) -> Result<(), Fault>
         ensures { OnOk result (self.new ≡ self.old ++ item_line number (item_of given.entry)) }
     {
-        push_decimal(&mut self.held, number)?;
+        push_bytes(&mut self.held, self.count.digits_of(number))?;
         self.hold_given(given)?;
         push_bytes(&mut self.held, b"\n")
     }
@@ -92,7 +91,7 @@ impl Output {
     ) -> Result<(), Fault>
         ensures { OnOk result (self.new ≡ self.old ++ seen_line pool number (observation_of lone.now.function seen)) }
     {
-        push_decimal(&mut self.held, number)?;
+        push_bytes(&mut self.held, self.count.digits_of(number))?;
         self.hold_observation(pool, lone, seen)?;
         push_bytes(&mut self.held, b"\n")
     }

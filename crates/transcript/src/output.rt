@@ -6,6 +6,7 @@ ghost use Rattle.lone.specs.Kept.{item_of, observation_of};
 ghost use Rattle.transcript.specs.Known.{Began, Sent};
 ghost use Rattle.transcript.specs.Text.{frame_line, item_line, line, seen_line};
 
+use crate::count::Count;
 use crate::fault::Fault;
 use crate::send::send;
 use device::{Device, Taken};
@@ -28,6 +29,8 @@ pub struct Output {
     pub(crate) held: Vec<u8>,
     // bytes of a guest's memory are read to here before their digits are written
     pub(crate) room: [u8; MOST_READ],
+    // the number of the last line that has one
+    pub(crate) count: Count,
 }
 
 impl Model for Output {
@@ -47,6 +50,7 @@ impl Output {
         Ok(Output {
             held,
             room: [0; MOST_READ],
+            count: Count::new(),
         })
     }
 

@@ -1,11 +1,13 @@
 //! Texts at the end of held bytes.
-ghost use Rattle.std.specs.Prelude.{◌≡◌, ℕ, List, ◌++◌, false, decimal, OnOk};
+ghost use Rattle.std.specs.Prelude.{◌≡◌, ℕ, List, ◌++◌, codes, false, decimal, OnOk};
+ghost use Rattle.std.specs.Int.{to_be_bytes, w32};
 ghost use Rattle.hex.specs.Hex.{encode_lower};
 ghost use Rattle.device.specs.declared.event.Reply.{Reply};
 ghost use Rattle.device.specs.declared.span.Span.{Span};
 ghost use Rattle.device.specs.Outcome.{reads, reply_by};
 ghost use Rattle.transcript.specs.Text.{digits_or_none, mark_text, marks_text, reply_text};
 
+use crate::digits::encode;
 use crate::fault::Fault;
 use device::Outcome;
 use irq_causes::{Messages, Vectors};
@@ -20,12 +22,41 @@ pub fn push_bytes(held: &mut Vec<u8>, bytes: &[u8]) -> Result<(), Fault>
     Ok(())
 }
 
-/// A number in decimal digits.
+/// A number in decimal digits. Pools and sets of vectors have one or two.
+#[inline]
+#[tactic(auto, using(std::proofs::lemmas::Fmt::decimal_digit, itoa::proofs::Decimal::decimal_two))]
 pub fn push_decimal(held: &mut Vec<u8>, number: u64) -> Result<(), Fault>
+    ensures { OnOk result (held.new.items ≡ held.old.items ++ decimal number) }
+{
+    if number < 10 {
+        return push_bytes(held, &[b'0' + number as u8]);
+    }
+    if number < 100 {
+        let (tens, ones) = (number / 10, number % 10);
+        return push_bytes(held, &[b'0' + tens as u8, b'0' + ones as u8]);
+    }
+    push_long(held, number)
+}
+
+// A number of any length in decimal digits.
+#[inline(never)]
+fn push_long(held: &mut Vec<u8>, number: u64) -> Result<(), Fault>
     ensures { OnOk result (held.new.items ≡ held.old.items ++ decimal number) }
 {
     let mut digits = itoa::Buffer::new();
     push_bytes(held, digits.format(number).as_bytes())
+}
+
+// A value after its sign, in eight lower-case digits.
+#[inline]
+fn push_value(held: &mut Vec<u8>, value: u32) -> Result<(), Fault>
+    ensures { OnOk result (held.new.items ≡ held.old.items ++ (codes " = 0x" ++ encode_lower (to_be_bytes w32 value))) }
+{
+    let mut text = *b" = 0x00000000";
+    let Ok(()) = hex::encode_to_slice(value.to_be_bytes(), &mut text[5..]) else {
+        unreachable!()
+    };
+    push_bytes(held, &text)
 }
 
 /// Two lower-case digits for each byte.
@@ -34,10 +65,8 @@ pub fn push_digits(held: &mut Vec<u8>, bytes: &[u8]) -> Result<(), Fault>
 {
     let start = held.len();
     held.resize(start.saturating_add(2 * bytes.len()), 0)?;
-    match hex::encode_to_slice(bytes, &mut held[start..]) {
-        Ok(()) => Ok(()),
-        Err(_) => Err(Fault::NoMemory),
-    }
+    encode(bytes, &mut held[start..]);
+    Ok(())
 }
 
 /// The digits of bytes, or `-` where there are none.
@@ -68,10 +97,7 @@ pub fn push_plain_reply(held: &mut Vec<u8>, outcome: Outcome) -> Result<(), Faul
 {
     match outcome {
         Outcome::Done => push_bytes(held, b" ok"),
-        Outcome::Value(value) => {
-            push_bytes(held, b" = 0x")?;
-            push_digits(held, &value.to_be_bytes())
-        }
+        Outcome::Value(value) => push_value(held, value),
         Outcome::Bytes(_) => unreachable!(),
         Outcome::Idle => push_bytes(held, b" idle"),
         Outcome::More => push_bytes(held, b" more"),

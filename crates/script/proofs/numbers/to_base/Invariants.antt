@@ -4,4 +4,4 @@ use Rattle.script.specs.Numbers.{number_on}
 use Rattle.script.proofs.numbers.to_base.Given as goal
 
 abbrev pub invariant-loop-byte : goal.invariant-loop-byte
-invariant-loop-byte l = number_on l.base l.value (drop l.byte-index l.digits) ≡ number_on l.base 0 l.digits
+invariant-loop-byte l = number_on l.base l.number (drop l.byte-index l.digits) ≡ number_on l.base 0 l.digits

@@ -2,7 +2,7 @@
 mod chance;
 mod clusters;
 mod cut_down;
-mod seeded;
+pub mod seeded;
 mod tally;
 
 use self::cut_down::cut_down;

@@ -4,6 +4,7 @@ use super::broken::{PART, Parts, Taken};
 use super::harness::{Case, long_script, run};
 use crate::fault::Fault;
 use crate::threads::drive_threads;
+use std::process::Abort;
 use std::sync::Wait;
 use std::test::Fail;
 use std::thread::Threads;
@@ -84,59 +85,121 @@ fn callers_are_counted(rt: HostRuntime) -> Result<(), Fail> {
 const SCRIPT: &str =
     "vfs 6 32768\n@pools\n@receiver 3\n@receiver 5\ngo\npw 0x8220 1\n@send 5 0200000000030200000000990800.00*46 3c00302900000000\nmr 3 0x1000 16\nwire 0200000000030200000000990800.00*46\n";
 
-// A beginning of a script is refused where `run` refuses it, and with nothing written.
+// How many calls the history of a beginning has: one for each event, and one for the end of each of the two ports where the
+// line `go` is there, which ends before this place.
+fn calls_of(alone: &[u8], at: usize, go_end: usize) -> usize {
+    let events = alone.iter().filter(|b| **b == b'\n').count();
+    let ends = if at >= go_end { 2 } else { 0 };
+    events.saturating_add(ends)
+}
+
+// A beginning of a script is refused where `run` refuses it, and with nothing written. Else all its events are kept.
+fn check_beginning<R: Abort + Threads + Wait + Copy + Send + AllocGlobal + 'static>(
+    rt: R,
+    script: &[u8],
+    at: usize,
+    go_end: usize,
+) -> Result<(), Fail> {
+    let beginning = script.get(..at).unwrap_or(script);
+    let (alone, answers) = run(rt.alloc(), beginning);
+    let (result, written) = run_threads(rt, beginning);
+    assert_eq!(rt; result, alone, "cut at {at}");
+    if result.is_err() {
+        assert!(rt; written.is_empty(), "cut at {at}");
+        return Ok(());
+    }
+    let calls = calls_of(answers.as_slice(), at, go_end);
+    let head = format!(in rt.alloc(); "history {calls}\n")?;
+    assert!(rt;
+        written.as_slice().starts_with(head.as_bytes()),
+        "cut at {at}"
+    );
+    assert!(rt; written.as_slice().ends_with(b"replay ok\n"), "cut at {at}");
+    Ok(())
+}
+
 #[test]
 fn every_beginning_in_threads(rt: HostRuntime) -> Result<(), Fail> {
     let script = long_script(rt.alloc(), SCRIPT)?;
+    let go = script.as_str().find("\ngo").ok_or("no `go`")?;
     for at in 0..script.len() {
-        let (alone, _) = run(rt.alloc(), &script.as_bytes()[..at]);
-        let (result, written) = run_threads(rt, &script.as_bytes()[..at]);
-        assert_eq!(rt; result, alone, "cut at {at}");
-        assert_eq!(rt; written.is_empty(), result.is_err(), "cut at {at}");
+        check_beginning(rt, script.as_bytes(), at, go.saturating_add(3))?;
     }
-    Ok(())
+    check_beginning(rt, script.as_bytes(), script.len(), go.saturating_add(3))
+}
+
+// A reader that fails at the call of that number, or at none where there are fewer.
+fn check_reader<R: Abort + Threads + Wait + Copy + Send + AllocGlobal + 'static>(
+    rt: R,
+    script: &[u8],
+    output: &[u8],
+    fails_at: usize,
+) {
+    // one call for each part, and one that finds the end
+    let calls = script.len().div_ceil(PART).saturating_add(1);
+    let mut reader = Parts {
+        rest: script,
+        part: PART,
+        calls: 0,
+        fails_at,
+        is_interrupted: false,
+    };
+    let mut written = Vec::new(rt.alloc());
+    let result = drive_threads(rt, rt.alloc(), &mut reader, &mut written);
+    if fails_at < calls {
+        assert_eq!(rt; result, Err(Fault::Io), "at {fails_at}");
+        assert!(rt; written.is_empty(), "at {fails_at}");
+    } else {
+        assert_eq!(rt; result, Ok(()), "at {fails_at}");
+        assert!(rt; written.as_slice() == output, "at {fails_at}");
+    }
 }
 
 #[test]
 fn a_reader_that_fails_in_threads(rt: HostRuntime) -> Result<(), Fail> {
     let script = long_script(rt.alloc(), SCRIPT)?;
-    // one call for each part, and one that finds the end
+    let (_, output) = run_threads(rt, script.as_bytes());
     let calls = script.len().div_ceil(PART).saturating_add(1);
-    for fails_at in 0..calls {
-        let mut reader = Parts {
-            rest: script.as_bytes(),
-            part: PART,
-            calls: 0,
-            fails_at,
-            is_interrupted: false,
-        };
-        let mut written = Vec::new(rt.alloc());
-        let result = drive_threads(rt, rt.alloc(), &mut reader, &mut written);
-        assert_eq!(rt; result, Err(Fault::Io), "at {fails_at}");
-        assert!(rt; written.is_empty(), "at {fails_at}");
+    for fails_at in 0..calls.saturating_add(2) {
+        check_reader(rt, script.as_bytes(), output.as_slice(), fails_at);
     }
     Ok(())
+}
+
+// A writer that fails at the call of that number, or at none where there are fewer.
+fn check_writer<R: Abort + Threads + Wait + Copy + Send + AllocGlobal + 'static>(
+    rt: R,
+    script: &[u8],
+    output: &[u8],
+    fails_at: usize,
+) {
+    // one call for each part, and the flush
+    let calls = output.len().div_ceil(PART).saturating_add(1);
+    let mut writer = Taken {
+        taken: Vec::new(rt.alloc()),
+        part: PART,
+        calls: 0,
+        fails_at,
+    };
+    let mut reader = script;
+    let result = drive_threads(rt, rt.alloc(), &mut reader, &mut writer);
+    let taken = writer.taken.as_slice();
+    if fails_at < calls {
+        assert_eq!(rt; result, Err(Fault::Io), "at {fails_at}");
+        assert!(rt; output.starts_with(taken), "at {fails_at}");
+    } else {
+        assert_eq!(rt; result, Ok(()), "at {fails_at}");
+        assert!(rt; taken == output, "at {fails_at}");
+    }
 }
 
 #[test]
 fn a_writer_that_fails_in_threads(rt: HostRuntime) -> Result<(), Fail> {
     let script = long_script(rt.alloc(), SCRIPT)?;
     let (_, output) = run_threads(rt, script.as_bytes());
-    // one call for each part, and the flush
     let calls = output.len().div_ceil(PART).saturating_add(1);
-    for fails_at in 0..calls {
-        let mut writer = Taken {
-            taken: Vec::new(rt.alloc()),
-            part: PART,
-            calls: 0,
-            fails_at,
-        };
-        let result = drive_threads(rt, rt.alloc(), &mut script.as_bytes(), &mut writer);
-        assert_eq!(rt; result, Err(Fault::Io), "at {fails_at}");
-        assert!(rt;
-            output.as_slice().starts_with(writer.taken.as_slice()),
-            "at {fails_at}"
-        );
+    for fails_at in 0..calls.saturating_add(2) {
+        check_writer(rt, script.as_bytes(), output.as_slice(), fails_at);
     }
     Ok(())
 }

@@ -83,19 +83,6 @@ has_bit_set pools k p h = go (eqb k p) refl
     go true e = let same : k ≡ p = eqb-true k p e in rw (← same) (ap (λ v. eqb v 1) (bit_at_set_same w64 pools k h) ∙ sym (or-true _))
     go false e = ap (λ v. eqb v 1) (bit_at_set_other w64 pools k h p (λ same. eqb-false k p e (sym same))) ∙ sym (or-false _)
 
--- A loop over the pools collects those that pass a test: the mask has the pools below p that pass.
-
-pub collected_none : (t : ℕ → Bool) (q : ℕ) → has_bit 0 q ≡ (ltb q 0 && t q)
-collected_none t q = has_bit_zero q ∙ grind (arith, nat_tests)
-
--- pool p passes, and its bit is set
-pub collected_more : (t : ℕ → Bool) (pools p : ℕ) → p < 64 → ((q : ℕ) → has_bit pools q ≡ (ltb q p && t q)) → t p ≡ true → (q : ℕ) → has_bit (bit_or pools (1 * 2 ^ p % 18446744073709551616)) q ≡ (ltb q (p + 1) && t q)
-collected_more t pools p h so_far passes q = has_bit_set pools p q h ∙ rw (so_far q) (grind (arith, nat_tests, passes))
-
--- pool p does not pass
-pub collected_same : (t : ℕ → Bool) (pools p : ℕ) → ((q : ℕ) → has_bit pools q ≡ (ltb q p && t q)) → t p ≡ false → (q : ℕ) → has_bit pools q ≡ (ltb q (p + 1) && t q)
-collected_same t pools p so_far fails q = so_far q ∙ grind (arith, nat_tests, fails)
-
 -- A loop over the entries joins the pools of those that pass a test: the mask has a pool where some entry up to here has it.
 
 list_any-range_suc : (t : ℕ → Bool) (a n : ℕ) → list_any t (range_with_len a (suc n)) ≡ (list_any t (range_with_len a n) || t (a + n))

@@ -1,5 +1,5 @@
 //! Bits of words, and sets of pools as masks of 64 bits.
-ghost use Rattle.std.specs.Prelude.{◌≡◌, ℕ, ◌+◌, ◌*◌, ◌<◌, length, slice_index};
+ghost use Rattle.std.specs.Prelude.{◌≡◌, ℕ, ◌+◌, ◌*◌, ◌<◌, length};
 ghost use Rattle.wire_frame.specs.Bits.{has_bit, has_bit_in, two_words};
 
 /// Whether bit `i` of the word is 1.
@@ -20,18 +20,4 @@ pub fn pool_words(words: &[u32], e: usize) -> u64
     ensures { (p : ℕ) → p < 64 → has_bit result p ≡ has_bit_in (two_words words.now e) p }
 {
     u64::from(words[2 * e]) | (u64::from(words[2 * e + 1]) << 32)
-}
-
-/// The pools whose word, of one word a pool, has the bit.
-pub fn pools_with(words: &[u32; 64], bit: u32) -> u64
-    requires { bit < 32 }
-    ensures { (p : ℕ) → p < 64 → has_bit result p ≡ has_bit (slice_index words.now p) bit }
-{
-    let mut pools = 0u64;
-    for p in 0..64 {
-        if has_bit(u64::from(words[p]), bit) {
-            pools |= 1 << p;
-        }
-    }
-    pools
 }

@@ -217,9 +217,4 @@ fn reads_sets_of_pools(rt: HostRuntime) {
     // Entry 1 has pool 0 in its low word and pool 63 in its high one.
     let entries = [0, 0, 1, 0x8000_0000];
     assert_eq!(rt; pool_words(&entries, 1), 0x8000_0000_0000_0001);
-    let mut flags = [0u32; 64];
-    flags[3] = 1 << 27;
-    flags[63] = 1 << 27;
-    flags[4] = 1 << 28;
-    assert_eq!(rt; pools_with(&flags, 27), 0x8000_0000_0000_0008);
 }

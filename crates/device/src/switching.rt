@@ -56,13 +56,18 @@ fn deliver_to_all<M: GuestMem>(
     raised
 }
 
-// Sets the messages to one pool.
+// Sets the messages to one pool, which has been told none. Most frames issue none.
 #[inline]
+#[tactic(auto, using(crate::proofs::Arrivals::told_no_more))]
 fn note(raised: &mut Messages, pool: usize, messages: u8)
     requires pool { pool < 64 }
     requires vectors { messages < 8 }
+    requires silent { slice_index raised.old pool ≡ 0 }
     ensures { raised.new ≡ slice_set raised.old pool messages }
 {
+    if messages == 0 {
+        return;
+    }
     match PoolId::new(pool as u8) {
         Some(pool) => raised.set(pool, Vectors::from_bits(messages)),
         None => unreachable!(),

@@ -30,13 +30,17 @@ folded h = sum h.tallies
 abbrev pub folded_raises : ℕ → ℕ → Held → ℕ
 folded_raises p v h = raised p v h.line.raises - kept_raises p v h.kept
 
--- a caller, and how many calls it made
+-- a caller, and the events that it asked, the oldest first: those of its calls that were kept
 pub record Mine : Type 0 where
   pub caller : ℕ
-  pub count : ℕ
+  pub asked : List Event
+
+-- how many calls it made
+abbrev pub count_of : Mine → ℕ
+count_of m = length m.asked
 
 abbrev pub unused : ℕ → Mine
-unused c = record { caller = c; count = 0 }
+unused c = record { caller = c; asked = [] }
 
 -- what is left of the ports' shares stands at the places of their pools
 abbrev pub AreOfPools : List (Option Mine) → Type 0
@@ -48,8 +52,12 @@ left_of [] = []
 left_of (None ∷ ports) = left_of ports
 left_of (Some m ∷ ports) = m ∷ left_of ports
 
-abbrev pub one_more : Mine → Mine
-one_more m = record { caller = m.caller; count = m.count + 1 }
+-- a share once it asked one more event, and once it asked more of them, in order
+abbrev pub having_asked : Event → Mine → Mine
+having_asked event m = record { caller = m.caller; asked = m.asked ++ event ∷ [] }
+
+abbrev pub having_asked_all : List Event → Mine → Mine
+having_asked_all events m = record { caller = m.caller; asked = m.asked ++ events }
 
 -- ---- what changes
 

@@ -128,6 +128,7 @@ impl<M: GuestMem> Journal<M> {
     #[tactic(auto, using(crate::proofs::CallerLemmas::callers_below))]
     pub fn rebase(&mut self) -> Option<usize>
         ensures count { IfSome result (λ count. count ≡ length self.old.kept) }
+        ensures few { IfSome result (λ count. count ≤ 65536) }
         ensures rebased { IfSome result (λ count. Rebased self.old self.new) }
         ensures can { IfSome result (λ count. (self.old.has_twin ≡ true) × (folded self.old + length self.old.kept ≤ 2 ^ 62)) }
         ensures cannot { IfNone result ((self.old.has_twin ≡ false) ⊎ (2 ^ 62 < folded self.old + length self.old.kept)) }
@@ -168,7 +169,8 @@ impl<M: GuestMem> Journal<M> {
     /// How many calls are kept.
     #[inline]
     pub fn kept(&self) -> usize
-        ensures { result ≡ length self.now.kept }
+        ensures kept { result ≡ length self.now.kept }
+        ensures few { result ≤ 65536 }
     {
         self.history.len()
     }
@@ -176,7 +178,8 @@ impl<M: GuestMem> Journal<M> {
     /// How many calls were folded away.
     #[inline]
     pub fn folded(&self) -> u64
-        ensures { result ≡ folded self.now }
+        ensures folded { result ≡ folded self.now }
+        ensures few { result ≤ 2 ^ 62 }
     {
         self.folded
     }

@@ -9,12 +9,13 @@
 //! empties it: the twin is then the base.
 //!
 //! Each of the 67 callers has a [`Share`]: the ports of the 64 pools, the driver of the physical function, the pump of frames
-//! from the wire, and the service. A share counts its caller's calls, and nobody else can count for it, so
-//! [`Recorded::gather`] can say of all shares together that they count the calls that were kept and folded away. A
+//! from the wire, and the service. A share knows the events that its caller asked, each in its call, and nobody else can ask
+//! for it, so [`Recorded::gather`] can say of all shares together that they count the calls that were kept and folded away. A
 //! [`LockedDevice`] is a recorded device that threads share. Of the calls of this crate its own alone wait, for the lock; none
 //! but the makers takes memory. The crate stands on `device`, `history` and `irq_line`.
 #![tactic(auto)]
 
+mod asked;
 mod journal;
 mod locked;
 mod makes;

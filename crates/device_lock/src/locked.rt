@@ -1,11 +1,13 @@
 //! A recorded device that threads share.
-ghost use Rattle.std.specs.Prelude.{◌≡◌, ◌≢◌, ℕ, ◌≤◌, true, IfOk, IfErr, OnOk, OnErr, IfSome, IfNone, length, take, drop, sum, option_copied};
+ghost use Rattle.std.specs.Prelude.{◌≡◌, ◌≢◌, ℕ, ◌≤◌, ◌^◌, List, true, IsTrue, ◌↔◌, IfOk, IfErr, OnOk, OnErr, IfSome, IfNone, length, take, drop, sum, option_copied};
 ghost use Rattle.std.specs.List.{sum_by};
 ghost use Rattle.device.specs.Request.{event_of};
-ghost use Rattle.device.specs.World.{World, step, sent_by};
+ghost use Rattle.device.specs.World.{World, step, sent_by, world_after, answers};
 ghost use Rattle.device.specs.Outcome.{left_by};
+ghost use Rattle.history.specs.Entries.{Entry};
 ghost use Rattle.device_lock.specs.Callers.{may};
-ghost use Rattle.device_lock.specs.Held.{Mine, one_more};
+ghost use Rattle.device_lock.specs.Legal.{events, given};
+ghost use Rattle.device_lock.specs.Held.{having_asked, count_of};
 ghost use Rattle.device_lock.specs.Read.{bytes_asked, bytes_told, answer_with};
 
 use crate::recorded::{Full, Recorded, Tally};
@@ -42,7 +44,7 @@ impl<M: GuestMem, L: Ledger> LockedDevice<M, L> {
     pub fn act<R: Wait>(&self, rt: &R, share: &mut Share<L>, event: Event) -> Result<Answer, Full>
         requires may { may share.old.caller event ≡ true }
         ensures answer { IfOk result (λ answer. (w : World) × (answer ≡ (step w event).answer)) }
-        ensures counted { OnOk result (share.new ≡ one_more share.old) }
+        ensures counted { OnOk result (share.new ≡ having_asked event share.old) }
         ensures full { IfErr result (λ full. full.0 ≡ event) }
         ensures unchanged { OnErr result (share.new ≡ share.old) }
     {
@@ -67,7 +69,7 @@ impl<M: GuestMem, L: Ledger> LockedDevice<M, L> {
             × (option_copied taken.sent ≡ sent_by w (event_of request.entry))
             × (option_copied taken.left ≡ left_by w (event_of request.entry))) }
         ensures rest { IfSome result (λ taken. drop (bytes_told taken.outcome) read.new ≡ drop (bytes_told taken.outcome) read.old) }
-        ensures counted { IfSome result (λ taken. share.new ≡ one_more share.old) }
+        ensures counted { IfSome result (λ taken. share.new ≡ having_asked (event_of request.entry) share.old) }
         ensures unchanged { IfNone result ((share.new ≡ share.old) × (read.new ≡ read.old)) }
     {
         self.inner.lock(rt).record_read(share, request, frame, read)
@@ -77,28 +79,37 @@ impl<M: GuestMem, L: Ledger> LockedDevice<M, L> {
     pub fn tally<R: Wait>(&self, rt: &R, shares: Vec<Share<L>>) -> Option<Tally>
         ensures none { IfNone result (length shares.items ≢ 67) }
         ensures some { IfSome result (λ tally. length shares.items ≡ 67) }
-        ensures counts { IfSome result (λ tally. sum tally.entries ≡ sum_by (λ (share : Mine). share.count) shares.items) }
+        ensures counts { IfSome result (λ tally. sum tally.entries ≡ sum_by count_of shares.items) }
     {
         self.inner.lock(rt).gather(shares)
     }
 
     /// One [`Recorded::kept`] under the lock.
-    pub fn kept<R: Wait>(&self, rt: &R) -> usize {
+    pub fn kept<R: Wait>(&self, rt: &R) -> usize
+        ensures few { result ≤ 65536 }
+    {
         self.inner.lock(rt).kept()
     }
 
     /// One [`Recorded::folded`] under the lock.
-    pub fn folded<R: Wait>(&self, rt: &R) -> u64 {
+    pub fn folded<R: Wait>(&self, rt: &R) -> u64
+        ensures few { result ≤ 2 ^ 62 }
+    {
         self.inner.lock(rt).folded()
     }
 
     /// One [`Recorded::rebase`] under the lock.
-    pub fn fold<R: Wait>(&self, rt: &R) -> Option<usize> {
+    pub fn fold<R: Wait>(&self, rt: &R) -> Option<usize>
+        ensures few { IfSome result (λ count. count ≤ 65536) }
+    {
         self.inner.lock(rt).rebase()
     }
 
-    /// One [`Recorded::replays`] under the lock.
-    pub fn replays<R: Wait>(&self, rt: &R, device: &mut Device<M>) -> bool {
+    /// One [`Recorded::replays`] under the lock: some kept calls are stepped through.
+    pub fn replays<R: Wait>(&self, rt: &R, device: &mut Device<M>) -> bool
+        ensures { (kept : List Entry) × (device.new ≡ world_after device.old (events kept))
+            × (IsTrue result ↔ (answers device.old (events kept) ≡ given kept)) }
+    {
         self.inner.lock(rt).replays(device)
     }
 }

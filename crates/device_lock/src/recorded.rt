@@ -9,7 +9,7 @@ ghost use Rattle.irq_line.specs.Line.{raised};
 ghost use Rattle.history.specs.Entries.{is_cap};
 ghost use Rattle.device_lock.specs.Callers.{may};
 ghost use Rattle.device_lock.specs.Legal.{Legal, events, given, calls_of, kept_raises};
-ghost use Rattle.device_lock.specs.Held.{Mine, one_more, Keeps, Rebased, folded, folded_raises};
+ghost use Rattle.device_lock.specs.Held.{having_asked, count_of, Keeps, Rebased, folded, folded_raises};
 ghost use Rattle.device_lock.specs.Made.{IsFresh, SameMake, AreUnused, begun};
 ghost use Rattle.device_lock.specs.Read.{bytes_asked, bytes_told, answer_with};
 
@@ -131,7 +131,7 @@ impl<M: GuestMem, L: Ledger> Recorded<M, L> {
         ensures sent { IfSome result (λ taken. option_copied taken.sent ≡ sent_by self.old.live (event_of request.entry)) }
         ensures left { IfSome result (λ taken. option_copied taken.left ≡ left_by self.old.live (event_of request.entry)) }
         ensures kept { IfSome result (λ taken. Keeps self.old share.old.caller (event_of request.entry) self.new) }
-        ensures counted { IfSome result (λ taken. share.new ≡ one_more share.old) }
+        ensures counted { IfSome result (λ taken. share.new ≡ having_asked (event_of request.entry) share.old) }
         ensures full { IfNone result (length self.old.kept ≡ self.old.cap) }
         ensures unchanged { IfNone result ((self.new ≡ self.old) × (share.new ≡ share.old)) }
     {
@@ -142,6 +142,7 @@ impl<M: GuestMem, L: Ledger> Recorded<M, L> {
         };
         book.add(&mut share.part, 1);
         share.count = share.count.wrapping_add(1);
+        share.asked = share.asked.and(&request);
         Some(taken)
     }
 
@@ -162,7 +163,7 @@ impl<M: GuestMem, L: Ledger> Recorded<M, L> {
         ensures sent { IfSome result (λ taken. option_copied taken.sent ≡ sent_by self.old.live (event_of request.entry)) }
         ensures left { IfSome result (λ taken. option_copied taken.left ≡ left_by self.old.live (event_of request.entry)) }
         ensures kept { IfSome result (λ taken. Keeps self.old share.old.caller (event_of request.entry) self.new) }
-        ensures counted { IfSome result (λ taken. share.new ≡ one_more share.old) }
+        ensures counted { IfSome result (λ taken. share.new ≡ having_asked (event_of request.entry) share.old) }
         ensures full { IfNone result (length self.old.kept ≡ self.old.cap) }
         ensures unchanged { IfNone result ((self.new ≡ self.old) × (share.new ≡ share.old) × (read.new ≡ read.old)) }
     {
@@ -191,7 +192,7 @@ impl<M: GuestMem, L: Ledger> Recorded<M, L> {
         requires may { may share.old.caller event ≡ true }
         ensures answer { IfOk result (λ answer. answer ≡ (step self.old.live event).answer) }
         ensures kept { OnOk result (Keeps self.old share.old.caller event self.new) }
-        ensures counted { OnOk result (share.new ≡ one_more share.old) }
+        ensures counted { OnOk result (share.new ≡ having_asked event share.old) }
         ensures full { IfErr result (λ full. (full.0 ≡ event) × (length self.old.kept ≡ self.old.cap)) }
         ensures unchanged { OnErr result ((self.new ≡ self.old) × (share.new ≡ share.old)) }
     {
@@ -208,6 +209,7 @@ impl<M: GuestMem, L: Ledger> Recorded<M, L> {
     /// be folded away, and then nothing changes.
     pub fn rebase(&mut self) -> Option<usize>
         ensures count { IfSome result (λ count. count ≡ length self.old.kept) }
+        ensures few { IfSome result (λ count. count ≤ 65536) }
         ensures rebased { IfSome result (λ count. Rebased self.old self.new) }
         ensures can { IfSome result (λ count. (self.old.has_twin ≡ true) × (folded self.old + length self.old.kept ≤ 2 ^ 62)) }
         ensures cannot { IfNone result ((self.old.has_twin ≡ false) ⊎ (2 ^ 62 < folded self.old + length self.old.kept)) }
@@ -223,7 +225,7 @@ impl<M: GuestMem, L: Ledger> Recorded<M, L> {
         ensures each { IfSome result (λ tally. (c : ℕ) → c < 67 →
             slice_index tally.entries c ≡ slice_index self.old.tallies c + calls_of c self.old.kept) }
         ensures all { IfSome result (λ tally. sum tally.entries ≡ folded self.old + length self.old.kept) }
-        ensures counts { IfSome result (λ tally. sum tally.entries ≡ sum_by (λ (share : Mine). share.count) shares.items) }
+        ensures counts { IfSome result (λ tally. sum tally.entries ≡ sum_by count_of shares.items) }
         ensures unchanged { self.new ≡ self.old }
     {
         if shares.len() != CALLERS {
@@ -253,7 +255,8 @@ impl<M: GuestMem, L: Ledger> Recorded<M, L> {
     /// How many calls are kept.
     #[inline]
     pub fn kept(&self) -> usize
-        ensures { result ≡ length self.now.kept }
+        ensures kept { result ≡ length self.now.kept }
+        ensures few { result ≤ 65536 }
     {
         self.journal.kept()
     }
@@ -261,7 +264,8 @@ impl<M: GuestMem, L: Ledger> Recorded<M, L> {
     /// How many calls were folded away.
     #[inline]
     pub fn folded(&self) -> u64
-        ensures { result ≡ folded self.now }
+        ensures folded { result ≡ folded self.now }
+        ensures few { result ≤ 2 ^ 62 }
     {
         self.journal.folded()
     }
@@ -313,18 +317,20 @@ fn shared<M: GuestMem, L: Ledger>(
 fn merged<L: Ledger>(mut shares: Vec<Share<L>>) -> Option<Part<L>>
     ensures none { IfNone result (length shares.items ≡ 0) }
     ensures parts { IfSome result (λ all. all.parts ≡ length shares.items) }
-    ensures amount { IfSome result (λ all. all.amount ≡ sum_by (λ (share : Mine). share.count) shares.items) }
+    ensures amount { IfSome result (λ all. all.amount ≡ sum_by count_of shares.items) }
 {
     let Share {
         caller: _,
         count: _,
         part: mut all,
+        asked: _,
     } = shares.pop()?;
     while let Some(share) = shares.pop() {
         let Share {
             caller: _,
             count: _,
             part,
+            asked: _,
         } = share;
         all.merge(part);
     }

@@ -1,8 +1,10 @@
-//! A caller's right to ask a device, with the number of its calls.
+//! A caller's right to ask a device, with what it asked.
 ghost use Rattle.std.specs.Prelude.{◌≡◌, ◌%◌, ◌^◌};
 ghost use Rattle.device.specs.Request.{event_of};
 ghost use Rattle.device_lock.specs.Callers.{may, is_port};
+ghost use Rattle.device_lock.specs.Held.{count_of};
 
+use crate::asked::Asked;
 use device::Request;
 use std::marker::Model;
 use std::sync::ledger::{Ledger, Share as Part};
@@ -20,7 +22,8 @@ pub const SERVICE: u8 = 66;
 /// How many callers there are.
 pub const CALLERS: usize = 67;
 
-/// A caller's right to ask a recorded device, with the number of its calls. Contracts see the caller and that number.
+/// A caller's right to ask a recorded device, with the number of its calls. Contracts see the caller, and the events that it
+/// asked in those calls, in order.
 ///
 /// A port may read and write the registers and the memory of its own pool's function and reset it; the driver of the
 /// physical function may read, write and reset that function; the pump may bring frames; the service may make any event.
@@ -29,6 +32,7 @@ pub struct Share<L: Ledger> {
     pub(crate) caller: u8,
     pub(crate) count: u64,
     pub(crate) part: Part<L>,
+    pub(crate) asked: Asked,
 }
 
 impl<L: Ledger> Model for Share<L> {
@@ -36,11 +40,12 @@ impl<L: Ledger> Model for Share<L> {
 
     ghost Value = { Mine };
 
-    ghost use Rattle.std.specs.Prelude.{◌≡◌, ◌%◌, ◌^◌};
+    ghost use Rattle.std.specs.Prelude.{◌≡◌, ◌%◌, ◌^◌, length};
 
-    ghost view = { λ s. record { caller = s.caller; count = s.part.amount } };
+    ghost view = { λ s. record { caller = s.caller; asked = s.asked.events } };
 
-    ghost invariant = { λ s. (s.part.parts ≡ 1) × (s.count ≡ s.part.amount % 2 ^ 64) };
+    ghost invariant = { λ s. (s.part.parts ≡ 1) × (s.part.amount ≡ length s.asked.events)
+        × (s.count ≡ length s.asked.events % 2 ^ 64) };
 }
 
 impl<L: Ledger> Share<L> {
@@ -55,7 +60,7 @@ impl<L: Ledger> Share<L> {
     /// How many calls the caller made, modulo 2^64.
     #[inline]
     pub fn count(&self) -> u64
-        ensures { result ≡ self.now.count % 2 ^ 64 }
+        ensures { result ≡ count_of self.now % 2 ^ 64 }
     {
         self.count
     }

@@ -2,6 +2,7 @@
 ghost use Rattle.std.specs.Prelude.{◌≡◌, ℕ, ◌+◌, ◌<◌, ◌≤◌, ◌++◌, IfSome, IfNone, IfOk, OnOk, length, Some, None, slice_get, slice_set, ◌⊎◌};
 ghost use Rattle.device_lock.specs.Held.{AreOfPools, left_of, unused};
 
+use crate::asked::Asked;
 use crate::share::{PF, PUMP, SERVICE, Share};
 use std::alloc::{AllocError, Global};
 use std::sync::ledger::{Ledger, Share as Part};
@@ -100,6 +101,7 @@ fn cut<L: Ledger>(all: &mut Part<L>, caller: u8) -> Share<L>
         caller,
         count: 0,
         part: all.split_off(1, 0),
+        asked: Asked::new(),
     }
 }
 

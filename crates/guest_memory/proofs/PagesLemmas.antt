@@ -1,20 +1,20 @@
 -- A memory stored as pages: what is read from it, and what a write leaves.
-use Rattle.std.proofs.Common.{◌≡◌, ℕ, ◌+◌, ◌-◌, ◌*◌, ◌/◌, ◌%◌, ◌<◌, ◌≤◌, ◌≢◌, ◌⊎◌, List, [], ◌∷◌, ◌++◌, length, get_or, take, drop, replicate, slice_range, set, sum_by, length-append, arith, refl, ap, sym, ◌∙◌}
+use Rattle.std.proofs.Common.{◌≡◌, ℕ, ◌+◌, ◌-◌, ◌*◌, ◌/◌, ◌%◌, ◌<◌, ◌≤◌, ◌≢◌, ◌⊎◌, List, [], ◌∷◌, ◌++◌, length, get_or, take, drop, replicate, slice_range, set, sum_by, max, length-append, arith, refl, ap, sym, ◌∙◌}
 use Rattle.std.proofs.lemmas.List.{places, same_lists, length-set, length-replicate}
-use Rattle.std.proofs.lemmas.List.Sums.{sum_by-set}
+use Rattle.std.proofs.lemmas.List.Sums.{sum_by-set, sum_by-append}
 use borrow.Rule.Slice.PartMut.{put_mid}
 use Rattle.std.proofs.lemmas.List.Folds.{sum_by-replicate}
 use Rattle.std.proofs.lemmas.List.FromFn.{get_or-map-range_with_len, length-map-range_with_len}
 use Rattle.std.proofs.lemmas.Grind.{get_or-set_at}
 use Rattle.std.proofs.lemmas.Bool.Decides.{nat_tests}
 use Rattle.guest_memory.specs.Memory.{overwrite}
-use Rattle.guest_memory.specs.Pages.{paged, stored_byte, unstored, Paired, IsPaged}
+use Rattle.guest_memory.specs.Pages.{paged, stored_byte, place_in, reaching, unstored, Paired, IsPaged}
 
 pub length_paged : (size : ℕ) (table cells : List ℕ) → length (paged size table cells) ≡ size
 unfolding paged
 length_paged size table cells = length-map-range_with_len (stored_byte table cells) 0 size
 
-get_paged : (size : ℕ) (table cells : List ℕ) (k d : ℕ) → k < size → get_or (paged size table cells) k d ≡ get_or cells (get_or table (k / 4096) 0 * 4096 + k % 4096) 0
+get_paged : (size : ℕ) (table cells : List ℕ) (k d : ℕ) → k < size → get_or (paged size table cells) k d ≡ get_or cells (place_in table (k / 4096) * 4096 + k % 4096) 0
 unfolding paged stored_byte
 get_paged size table cells k d below = get_or-map-range_with_len (stored_byte table cells) 0 size k k d below (omega arith)
 
@@ -24,40 +24,38 @@ paged_none size table cells none =
     same_lists _ _ (grind (arith, places, length_paged)) (λ k d h. grind (arith, places, get_paged, length_paged))
 
 -- the place of a byte in the page of another
-same_page : (table : List ℕ) (start k at : ℕ) → at ≡ get_or table (start / 4096) 0 * 4096 + start % 4096 → start ≤ k → start % 4096 + (k - start) < 4096 → get_or table (k / 4096) 0 * 4096 + k % 4096 ≡ at + (k - start)
+same_page : (table : List ℕ) (start k at : ℕ) → at ≡ place_in table (start / 4096) * 4096 + start % 4096 → start ≤ k → start % 4096 + (k - start) < 4096 → place_in table (k / 4096) * 4096 + k % 4096 ≡ at + (k - start)
 same_page table start k at is_at from within =
     let page : k / 4096 ≡ start / 4096 = omega arith in
     rw page (omega arith)
 
-byte_within : (size : ℕ) (table cells : List ℕ) (start k n at e : ℕ) → at ≡ get_or table (start / 4096) 0 * 4096 + start % 4096 → start % 4096 + n ≤ 4096 → start + n ≤ size → k < n → get_or (paged size table cells) (start + k) e ≡ get_or cells (at + k) 0
+byte_within : (size : ℕ) (table cells : List ℕ) (start k n at e : ℕ) → at ≡ place_in table (start / 4096) * 4096 + start % 4096 → start % 4096 + n ≤ 4096 → start + n ≤ size → k < n → get_or (paged size table cells) (start + k) e ≡ get_or cells (at + k) 0
 byte_within size table cells start k n at e is_at within ends below =
-    let place : get_or table ((start + k) / 4096) 0 * 4096 + (start + k) % 4096 ≡ at + k = same_page table start (start + k) at is_at (omega arith) (omega arith) ∙ omega arith in
+    let place : place_in table ((start + k) / 4096) * 4096 + (start + k) % 4096 ≡ at + k = same_page table start (start + k) at is_at (omega arith) (omega arith) ∙ omega arith in
     get_paged size table cells (start + k) e (omega arith) ∙ ap (λ (n : ℕ). get_or cells n 0) place
 
 -- a read within a page, that is stored or that is not
-pub read_paged : (size : ℕ) (table cells : List ℕ) (start n at : ℕ) → at ≡ get_or table (start / 4096) 0 * 4096 + start % 4096 → start % 4096 + n ≤ 4096 → start + n ≤ size → at + n ≤ length cells → slice_range (paged size table cells) start (start + n) ≡ slice_range cells at (at + n)
+pub read_paged : (size : ℕ) (table cells : List ℕ) (start n at : ℕ) → at ≡ place_in table (start / 4096) * 4096 + start % 4096 → start % 4096 + n ≤ 4096 → start + n ≤ size → at + n ≤ length cells → slice_range (paged size table cells) start (start + n) ≡ slice_range cells at (at + n)
 read_paged size table cells start n at is_at within ends stored =
     same_lists _ _ (grind (arith, places, length_paged)) (λ k d h.
     let few : k < n = grind (arith, places, length_paged) in
     grind (arith, places, byte_within size table cells start k n at d is_at within ends few))
 
-pub read_unstored : (size : ℕ) (table cells : List ℕ) (start n at : ℕ) → at ≡ get_or table (start / 4096) 0 * 4096 + start % 4096 → start % 4096 + n ≤ 4096 → start + n ≤ size → length cells ≤ at → slice_range (paged size table cells) start (start + n) ≡ replicate {A = ℕ} n 0
+pub read_unstored : (size : ℕ) (table cells : List ℕ) (start n at : ℕ) → at ≡ place_in table (start / 4096) * 4096 + start % 4096 → start % 4096 + n ≤ 4096 → start + n ≤ size → length cells ≤ at → slice_range (paged size table cells) start (start + n) ≡ replicate {A = ℕ} n 0
 read_unstored size table cells start n at is_at within ends stored =
     same_lists _ _ (grind (arith, places, length_paged)) (λ k d h.
     let few : k < n = grind (arith, places, length_paged) in
     grind (arith, places, byte_within size table cells start k n at d is_at within ends few))
 
 -- two pages at one place are one page
-apart : (table stored : List ℕ) → Paired table stored → (i j : ℕ) → i < length table → j < length table → get_or table i 0 ≢ 65535 → get_or table i 0 ≡ get_or table j 0 → i ≡ j
-apart table stored is i j here there mark same =
-    sym (is i here mark).1 ∙ ap (λ (p : ℕ). get_or stored p 0) same ∙ (is j there (λ none. mark (same ∙ none))).1
+apart : (table stored : List ℕ) → Paired table stored → (i j : ℕ) → place_in table i ≢ 65535 → place_in table i ≡ place_in table j → i ≡ j
+apart table stored is i j mark same =
+    sym (is i mark).1 ∙ ap (λ (p : ℕ). get_or stored p 0) same ∙ (is j (λ none. mark (same ∙ none))).1
 
 -- the place of a byte outside a range within a stored page is outside the place of that range
-outside : (size : ℕ) (table stored : List ℕ) (used room seats start n at k place : ℕ) → IsPaged size table stored used room seats → at ≡ get_or table (start / 4096) 0 * 4096 + start % 4096 → place ≡ get_or table (k / 4096) 0 * 4096 + k % 4096 → start % 4096 + n ≤ 4096 → start ≤ size → get_or table (start / 4096) 0 ≢ 65535 → k < size → (k < start) ⊎ (start + n ≤ k) → (place < at) ⊎ (at + n ≤ place)
-outside size table stored used room seats start n at k place is is_at is_place within ends mark below out =
-    let here : start / 4096 < length table = omega (arith, is.covers) in
-    let there : k / 4096 < length table = omega (arith, is.covers) in
-    let one = apart table stored is.paired (start / 4096) (k / 4096) here there mark in
+outside : (table stored : List ℕ) (start n at k place : ℕ) → Paired table stored → at ≡ place_in table (start / 4096) * 4096 + start % 4096 → place ≡ place_in table (k / 4096) * 4096 + k % 4096 → start % 4096 + n ≤ 4096 → place_in table (start / 4096) ≢ 65535 → (k < start) ⊎ (start + n ≤ k) → (place < at) ⊎ (at + n ≤ place)
+outside table stored start n at k place is is_at is_place within mark out =
+    let one = apart table stored is (start / 4096) (k / 4096) mark in
     grind (arith, one)
 
 -- a byte after a write, by the place that it has among the cells
@@ -65,51 +63,66 @@ written_byte : (memory cells source : List ℕ) (start at k place d : ℕ) → a
 written_byte memory cells source start at k place d whole below ends was inside other = grind (arith, places)
 
 -- a write within a page that is stored
-pub write_paged : (size : ℕ) (table stored cells : List ℕ) (room seats start at : ℕ) (source : List ℕ) → IsPaged size table stored (length cells) room seats → at ≡ get_or table (start / 4096) 0 * 4096 + start % 4096 → start % 4096 + length source ≤ 4096 → start + length source ≤ size → get_or table (start / 4096) 0 ≢ 65535 → paged size table (overwrite at source cells) ≡ overwrite start source (paged size table cells)
-write_paged size table stored cells room seats start at source is is_at within ends mark =
-    let here : start / 4096 < length table = omega (arith, is.covers) in
-    let whole : at + length source ≤ length cells = omega (arith, is.filled, is.paired (start / 4096) here mark) in
+pub write_paged : (size : ℕ) (table stored cells : List ℕ) (start at : ℕ) (source : List ℕ) → Paired table stored → length cells ≡ 4096 * length stored → at ≡ place_in table (start / 4096) * 4096 + start % 4096 → start % 4096 + length source ≤ 4096 → start + length source ≤ size → place_in table (start / 4096) ≢ 65535 → paged size table (overwrite at source cells) ≡ overwrite start source (paged size table cells)
+write_paged size table stored cells start at source is filled is_at within ends mark =
+    let whole : at + length source ≤ length cells = omega (arith, filled, is (start / 4096) mark) in
     same_lists _ _ (grind (arith, places, length_paged)) (λ k d h.
     let below : k < size = omega (arith, length_paged) in
     get_paged size table (overwrite at source cells) k d below
-    ∙ written_byte (paged size table cells) cells source start at k (get_or table (k / 4096) 0 * 4096 + k % 4096) d whole (omega (arith, length_paged)) (omega (arith, length_paged)) (get_paged size table cells k d below) (λ from to. same_page table start k at is_at from (omega arith)) (outside size table stored (length cells) room seats start (length source) at k _ is is_at refl within (omega arith) mark below))
+    ∙ written_byte (paged size table cells) cells source start at k (place_in table (k / 4096) * 4096 + k % 4096) d whole (omega (arith, length_paged)) (omega (arith, length_paged)) (get_paged size table cells k d below) (λ from to. same_page table start k at is_at from (omega arith)) (outside table stored start (length source) at k _ is is_at refl within mark))
 
 -- the place of the same page, or of another, after a page got a place
-moved_place : (cells table : List ℕ) (page place q r : ℕ) → q < length table → length cells ≤ 65535 * 4096 → get_or table page 0 ≡ 65535 → place * 4096 ≡ length cells → get_or cells (get_or (set table page place) q 0 * 4096 + r) 0 ≡ get_or cells (get_or table q 0 * 4096 + r) 0
+moved_place : (cells table : List ℕ) (page place q r : ℕ) → page < length table → length cells ≤ 65535 * 4096 → place_in table page ≡ 65535 → place * 4096 ≡ length cells → get_or cells (place_in (set table page place) q * 4096 + r) 0 ≡ get_or cells (place_in table q * 4096 + r) 0
 moved_place cells table page place q r there few none is_place = grind (arith, places, get_or-set_at)
 
 with_zeros : (cells : List ℕ) (n p : ℕ) → get_or (cells ++ replicate n 0) p 0 ≡ get_or cells p 0
 with_zeros cells n p = grind (arith, places)
 
 -- one more page, which has zeros
-paged_more : (size : ℕ) (table stored cells : List ℕ) (room seats page n : ℕ) → IsPaged size table stored (length cells) room seats → get_or table page 0 ≡ 65535 → paged size (set table page (length stored)) (cells ++ replicate n 0) ≡ paged size table cells
-paged_more size table stored cells room seats page n is none =
+paged_more : (size : ℕ) (table stored cells : List ℕ) (page n : ℕ) → page < length table → length cells ≡ 4096 * length stored → length stored ≤ 4097 → place_in table page ≡ 65535 → paged size (set table page (length stored)) (cells ++ replicate n 0) ≡ paged size table cells
+paged_more size table stored cells page n there filled few none =
     same_lists _ _ (grind (arith, length_paged)) (λ k d h.
     let below : k < size = omega (arith, length_paged) in
     get_paged size (set table page (length stored)) (cells ++ replicate n 0) k d below
     ∙ with_zeros cells n _
-    ∙ moved_place cells table page (length stored) (k / 4096) (k % 4096) (omega (arith, is.covers)) (omega (arith, is.filled, is.counted, is.few)) none (omega (arith, is.filled))
+    ∙ moved_place cells table page (length stored) (k / 4096) (k % 4096) there (omega (arith, filled, few)) none (omega (arith, filled))
     ∙ sym (get_paged size table cells k d below))
 
-is_paged_replicate : (size pages room seats : ℕ) → pages ≤ 4097 → size < pages * 4096 → 4096 * pages ≤ room → pages ≤ seats → IsPaged size (replicate pages 65535) [] 0 room seats
+-- a table that is made longer has the same places
+place_in-reaching : (n : ℕ) (table : List ℕ) (i : ℕ) → place_in (reaching n table) i ≡ place_in table i
+place_in-reaching n table i = grind (arith, places)
+
+pub length-reaching : (n : ℕ) (table : List ℕ) → length (reaching n table) ≡ max n (length table)
+length-reaching n table = grind (arith, places)
+
+paged_reaching : (n size : ℕ) (table cells : List ℕ) → paged size (reaching n table) cells ≡ paged size table cells
+paged_reaching n size table cells =
+    same_lists _ _ (grind (arith, length_paged)) (λ k d h.
+    let below : k < size = omega (arith, length_paged) in
+    get_paged size (reaching n table) cells k d below
+    ∙ ap (λ (p : ℕ). get_or cells (p * 4096 + k % 4096) 0) (place_in-reaching n table (k / 4096))
+    ∙ sym (get_paged size table cells k d below))
+
+is_paged_replicate : (size count room seats entries : ℕ) → size / 4096 + 1 ≤ 4097 → count ≤ size / 4096 + 1 → 4096 * (size / 4096 + 1) ≤ room → size / 4096 + 1 ≤ seats → size / 4096 + 1 ≤ entries → IsPaged size (replicate count 65535) [] 0 room seats entries
 unfolding unstored
-is_paged_replicate size pages room seats few more fits seated = record {
-  covers = grind (arith, places);
-  few = grind (arith, places);
-  counted = rw (sum_by-replicate unstored pages 65535) (grind (arith, places));
+is_paged_replicate size count room seats entries few reach fits seated entered = record {
+  few = few;
+  reach = grind (arith, places);
+  counted = rw (sum_by-replicate unstored count 65535) (grind (arith, places));
   filled = refl;
-  fits = grind (arith, places);
-  seated = grind (arith, places);
+  fits = fits;
+  seated = seated;
+  entered = entered;
   listed = λ j below. absurd (grind (arith, places));
-  paired = λ i below mark. absurd (grind (arith, places));
+  paired = λ i mark. absurd (grind (arith, places));
 }
 
 -- nothing is stored: a memory that was made, or cleared
-pub is_paged_none : (size pages : ℕ) (table stored : List ℕ) (used room seats : ℕ) → table ≡ replicate pages 65535 → stored ≡ [] → used ≡ 0 → pages ≤ 4097 → size < pages * 4096 → 4096 * pages ≤ room → pages ≤ seats → IsPaged size table stored used room seats
-is_paged_none size pages table stored used room seats is none empty few more fits seated = rw is (rw none (rw empty (is_paged_replicate size pages room seats few more fits seated)))
+pub is_paged_none : (size count : ℕ) (table stored : List ℕ) (used room seats entries : ℕ) → table ≡ replicate count 65535 → stored ≡ [] → used ≡ 0 → size / 4096 + 1 ≤ 4097 → count ≤ size / 4096 + 1 → 4096 * (size / 4096 + 1) ≤ room → size / 4096 + 1 ≤ seats → size / 4096 + 1 ≤ entries → IsPaged size table stored used room seats entries
+is_paged_none size count table stored used room seats entries is none empty few reach fits seated entered = rw is (rw none (rw empty (is_paged_replicate size count room seats entries few reach fits seated entered)))
 
-pub is_paged_same : (size : ℕ) (table stored : List ℕ) (used room seats used' room' : ℕ) → IsPaged size table stored used room seats → used' ≡ used → room ≤ room' → IsPaged size table stored used' room' seats
-is_paged_same size table stored used room seats used' room' is same more = rw same (record { covers = is.covers; few = is.few; counted = is.counted; filled = is.filled; fits = omega (arith, is.fits); seated = is.seated; listed = is.listed; paired = is.paired })
+pub is_paged_same : (size : ℕ) (table stored : List ℕ) (used room seats entries used' room' : ℕ) → IsPaged size table stored used room seats entries → used' ≡ used → room ≤ room' → IsPaged size table stored used' room' seats entries
+is_paged_same size table stored used room seats entries used' room' is same more = rw same (record { few = is.few; reach = is.reach; counted = is.counted; filled = is.filled; fits = omega (arith, is.fits); seated = is.seated; entered = is.entered; listed = is.listed; paired = is.paired })
 
 unstored_mark : unstored 65535 ≡ 1
 unfolding unstored
@@ -120,44 +133,81 @@ unfolding unstored
 unstored_place place below = grind (arith, nat_tests)
 
 -- a page that isn't stored has a place
-pub has_place : (size : ℕ) (table stored : List ℕ) (used room seats page : ℕ) → IsPaged size table stored used room seats → page < length table → get_or table page 0 ≡ 65535 → length stored < length table
-has_place size table stored used room seats page is there none =
-    let count : sum_by unstored (set table page 0) + 1 ≡ sum_by unstored table + 0 = rw (none, unstored_mark, unstored_place 0 (omega arith)) at (sum_by-set unstored table page 0 0 there) in
-    omega (arith, is.counted)
+has_place : (table stored : List ℕ) (page : ℕ) → length stored + sum_by unstored table ≡ length table → page < length table → place_in table page ≡ 65535 → length stored < length table
+has_place table stored page counted there none =
+    let count : sum_by unstored (set table page 0) + 1 ≡ sum_by unstored table + 0 = rw (none, unstored_mark, unstored_place 0 (omega arith)) at (sum_by-set unstored table page 0 65535 there) in
+    omega (arith, counted)
 
-is_paged_more : (size : ℕ) (table stored : List ℕ) (used room seats room' seats' page : ℕ) → IsPaged size table stored used room seats → page < length table → get_or table page 0 ≡ 65535 → room ≤ room' → seats ≤ seats' → IsPaged size (set table page (length stored)) (stored ++ page ∷ []) (used + 4096) room' seats'
-is_paged_more size table stored used room seats room' seats' page is there none more wider =
-    let free : length stored < length table = has_place size table stored used room seats page is there none in
-    let longer : length (stored ++ page ∷ []) ≡ length stored + 1 = length-append stored (page ∷ []) in
-    let count : sum_by unstored (set table page (length stored)) + 1 ≡ sum_by unstored table + 0 = rw (none, unstored_mark, unstored_place (length stored) (omega (arith, is.few))) at (sum_by-set unstored table page (length stored) 0 there) in
+-- a table that is made longer has as many more pages that aren't stored
+counted_reaching : (n : ℕ) (table stored : List ℕ) → length stored + sum_by unstored table ≡ length table → length stored + sum_by unstored (reaching n table) ≡ length (reaching n table)
+counted_reaching n table stored counted =
+    let more : sum_by unstored (replicate (n - length table) 65535) ≡ n - length table = sum_by-replicate unstored (n - length table) 65535 ∙ ap (λ (k : ℕ). (n - length table) * k) unstored_mark ∙ omega arith in
+    let all : sum_by unstored (reaching n table) ≡ sum_by unstored table + sum_by unstored (replicate (n - length table) 65535) = sum_by-append unstored table _ in
+    omega (arith, all, more, counted, length-reaching n table)
+
+-- what a first write to a page knows: the table reaches it, the page has a place, and there is room for it
+pub record Free (size : ℕ) (table stored : List ℕ) (used room seats entries page : ℕ) : Type 0 where
+  pub entry : page + 1 ≤ entries
+  pub few : page + 1 ≤ 4097
+  pub place : length stored < 4097
+  pub seat : length stored < seats
+  pub cells : used + 4096 ≤ room
+
+pub free : (size : ℕ) (table stored : List ℕ) (used room seats entries page : ℕ) → IsPaged size table stored used room seats entries → page ≤ size / 4096 → place_in table page ≡ 65535 → Free size table stored used room seats entries page
+free size table stored used room seats entries page is here none =
+    let there : page < length (reaching (page + 1) table) = omega (arith, length-reaching (page + 1) table) in
+    let most : length (reaching (page + 1) table) ≤ size / 4096 + 1 = omega (arith, length-reaching (page + 1) table, is.reach, here) in
+    let below = has_place (reaching (page + 1) table) stored page (counted_reaching (page + 1) table stored is.counted) there (place_in-reaching (page + 1) table page ∙ none) in
     record {
-      covers = omega (arith, length-set {A = ℕ}, is.covers);
-      few = omega (arith, length-set {A = ℕ}, is.few);
-      counted = omega (arith, length-set {A = ℕ}, is.counted);
-      filled = omega (arith, is.filled);
-      fits = omega (arith, length-set {A = ℕ}, is.fits);
-      seated = omega (arith, length-set {A = ℕ}, is.seated);
-      listed = λ j below. grind (arith, places, length-set, is.listed j);
-      paired = λ i below mark. grind (arith, places, get_or-set_at, length-set, is.paired i);
+      entry = omega (arith, here, is.entered);
+      few = omega (arith, here, is.few);
+      place = omega (arith, below, most, is.few);
+      seat = omega (arith, below, most, is.seated);
+      cells = omega (arith, below, most, is.filled, is.fits);
+    }
+
+is_paged_more : (size : ℕ) (table stored : List ℕ) (used room seats entries room' seats' entries' page : ℕ) → IsPaged size table stored used room seats entries → page ≤ size / 4096 → place_in table page ≡ 65535 → room ≤ room' → seats ≤ seats' → entries ≤ entries' → IsPaged size (set (reaching (page + 1) table) page (length stored)) (stored ++ page ∷ []) (used + 4096) room' seats' entries'
+is_paged_more size table stored used room seats entries room' seats' entries' page is here none more wider longer =
+    let long = reaching (page + 1) table in
+    let there : page < length long = omega (arith, length-reaching (page + 1) table) in
+    let kept : length (set long page (length stored)) ≡ max (page + 1) (length table) = length-set {A = ℕ} long page (length stored) ∙ length-reaching (page + 1) table in
+    let unmarked : place_in long page ≡ 65535 = place_in-reaching (page + 1) table page ∙ none in
+    let counted = counted_reaching (page + 1) table stored is.counted in
+    let f = free size table stored used room seats entries page is here none in
+    let pushed : length (stored ++ page ∷ []) ≡ length stored + 1 = length-append stored (page ∷ []) in
+    let count : sum_by unstored (set long page (length stored)) + 1 ≡ sum_by unstored long + 0 = rw (unmarked, unstored_mark, unstored_place (length stored) (omega (arith, has_place long stored page counted there unmarked, length-reaching (page + 1) table, is.reach, is.few, here))) at (sum_by-set unstored long page (length stored) 65535 there) in
+    record {
+      few = is.few;
+      reach = omega (arith, kept, here, is.reach);
+      counted = omega (arith, kept, counted, count, pushed, length-reaching (page + 1) table);
+      filled = omega (arith, pushed, is.filled);
+      fits = omega (arith, is.fits);
+      seated = omega (arith, is.seated);
+      entered = omega (arith, is.entered);
+      listed = λ j below. grind (arith, places, kept, is.listed j);
+      paired = λ i mark. grind (arith, places, get_or-set_at, place_in-reaching, length-reaching, is.paired i);
     }
 
 -- a write to a page that isn't stored yet stores it
-pub is_paged_first : (size : ℕ) (table stored : List ℕ) (used room seats page : ℕ) (table' stored' : List ℕ) (used' room' seats' : ℕ) → IsPaged size table stored used room seats → page < length table → get_or table page 0 ≡ 65535 → table' ≡ set table page (length stored) → stored' ≡ stored ++ page ∷ [] → used' ≡ used + 4096 → room ≤ room' → seats ≤ seats' → IsPaged size table' stored' used' room' seats'
-is_paged_first size table stored used room seats page table' stored' used' room' seats' is there none is_table is_stored is_used more wider = rw is_table (rw is_stored (rw is_used (is_paged_more size table stored used room seats room' seats' page is there none more wider)))
+pub is_paged_first : (size : ℕ) (table stored : List ℕ) (used room seats entries page : ℕ) (table' stored' : List ℕ) (used' room' seats' entries' : ℕ) → IsPaged size table stored used room seats entries → page ≤ size / 4096 → place_in table page ≡ 65535 → table' ≡ set (reaching (page + 1) table) page (length stored) → stored' ≡ stored ++ page ∷ [] → used' ≡ used + 4096 → room ≤ room' → seats ≤ seats' → entries ≤ entries' → IsPaged size table' stored' used' room' seats' entries'
+is_paged_first size table stored used room seats entries page table' stored' used' room' seats' entries' is here none is_table is_stored is_used more wider longer = rw is_table (rw is_stored (rw is_used (is_paged_more size table stored used room seats entries room' seats' entries' page is here none more wider longer)))
 
 -- a write within a page that isn't stored
-pub write_first_paged : (size : ℕ) (table stored cells : List ℕ) (room seats start : ℕ) (source : List ℕ) → IsPaged size table stored (length cells) room seats → start % 4096 + length source ≤ 4096 → start + length source ≤ size → get_or table (start / 4096) 0 ≡ 65535 → paged size (set table (start / 4096) (length stored)) (overwrite (length cells + start % 4096) source (cells ++ replicate 4096 0)) ≡ overwrite start source (paged size table cells)
-write_first_paged size table stored cells room seats start source is within ends none =
-    let here : start / 4096 < length table = omega (arith, is.covers) in
-    let placed : get_or (set table (start / 4096) (length stored)) (start / 4096) 0 ≡ length stored = get_or-set_at table (start / 4096) (start / 4096) (length stored) 0 refl here in
+pub write_first_paged : (size : ℕ) (table stored cells : List ℕ) (room seats entries start : ℕ) (source : List ℕ) → IsPaged size table stored (length cells) room seats entries → start % 4096 + length source ≤ 4096 → start + length source ≤ size → place_in table (start / 4096) ≡ 65535 → paged size (set (reaching (start / 4096 + 1) table) (start / 4096) (length stored)) (overwrite (length cells + start % 4096) source (cells ++ replicate 4096 0)) ≡ overwrite start source (paged size table cells)
+write_first_paged size table stored cells room seats entries start source is within ends none =
+    let page = start / 4096 in
+    let long = reaching (page + 1) table in
+    let here : page ≤ size / 4096 = omega arith in
+    let there : page < length long = omega (arith, length-reaching (page + 1) table) in
+    let placed : place_in (set long page (length stored)) page ≡ length stored = get_or-set_at long page page (length stored) 65535 refl there in
+    let f = free size table stored (length cells) room seats entries page is here none in
     let grown : length (cells ++ replicate {A = ℕ} 4096 0) ≡ length cells + 4096 = length-append cells (replicate {A = ℕ} 4096 0) ∙ ap (λ (n : ℕ). length cells + n) (length-replicate {A = ℕ} 4096 0) in
-    let free : length stored < length table = has_place size table stored (length cells) room seats (start / 4096) is here none in
-    let more : IsPaged size (set table (start / 4096) (length stored)) (stored ++ start / 4096 ∷ []) (length (cells ++ replicate {A = ℕ} 4096 0)) room seats = rw grown (is_paged_more size table stored (length cells) room seats room seats (start / 4096) is here none (omega arith) (omega arith)) in
-    write_paged size (set table (start / 4096) (length stored)) (stored ++ start / 4096 ∷ []) (cells ++ replicate 4096 0) room seats start (length cells + start % 4096) source more (omega (arith, is.filled)) within ends (omega (arith, is.few))
-    ∙ ap (overwrite start source) (paged_more size table stored cells room seats (start / 4096) 4096 is none)
+    let more = is_paged_more size table stored (length cells) room seats entries room seats entries page is here none (omega arith) (omega arith) (omega arith) in
+    write_paged size (set long page (length stored)) (stored ++ page ∷ []) (cells ++ replicate 4096 0) start (length cells + start % 4096) source more.paired (grown ∙ more.filled) (omega (arith, placed, is.filled)) within ends (omega (arith, placed, f.place, is.few, is.counted, is.reach, here))
+    ∙ ap (overwrite start source) (paged_more size long stored cells page 4096 there is.filled (omega (arith, f.place)) (place_in-reaching (page + 1) table page ∙ none) ∙ paged_reaching (page + 1) size table cells)
 
 -- a table that has nothing but the places of stored pages to come, where none is to come
-pub all_unstored : (table stored now : List ℕ) → Paired table stored → length now ≡ length table → ((i : ℕ) → i < length table → get_or now i 0 ≢ 65535 → (get_or now i 0 ≡ get_or table i 0) × (length stored ≤ get_or now i 0)) → now ≡ replicate (length table) 65535
+pub all_unstored : (table stored now : List ℕ) → Paired table stored → length now ≡ length table → ((i : ℕ) → place_in now i ≢ 65535 → (place_in now i ≡ place_in table i) × (length stored ≤ place_in now i)) → now ≡ replicate (length table) 65535
 all_unstored table stored now is same was = same_lists _ _ (grind (arith, places)) (λ k d h. grind (arith, places, was k, is k))
 
 -- a piece of a read and of a write across pages

@@ -1,10 +1,10 @@
 //! A memory on the heap.
 ghost use Rattle.std.specs.Prelude.{◌≡◌, ℕ, ◌+◌, ◌-◌, ◌*◌, ◌/◌, ◌%◌, ◌<◌, ◌≤◌, ◌↔◌, ◌++◌, true, false, List, [], ◌∷◌, length, set, replicate, slice_range, vec_capacity, IfOk, IfErr};
 ghost use Rattle.guest_memory.specs.Memory.{overwrite, is_memory_size};
-ghost use Rattle.guest_memory.specs.Pages.{Paired, Listed};
+ghost use Rattle.guest_memory.specs.Pages.{Paired, Listed, place_in, reaching};
 
 use crate::GuestMem;
-use std::alloc::{AllocError, Global};
+use std::alloc::Global;
 use std::marker::Model;
 use wire_frame::Fault;
 
@@ -32,11 +32,12 @@ const UNSTORED: u16 = u16::MAX;
 ///
 /// The room is taken when the memory is made, and none later. Of it, the pages of 4096 bytes that were written since the
 /// memory was made or cleared are stored, one behind another in the order of their first write; the others are zero. So
-/// the host holds as much as those pages and a table of two bytes a page. An access costs as much as its bytes, and the
-/// first write to a page as much as the page; clearing costs as much as the number of the pages that were written.
+/// the host holds as much as those pages and a table of two bytes for each page up to the last that was ever written. An
+/// access costs as much as its bytes, and the first write to a page as much as the page and those entries of the table that
+/// are new; clearing costs as much as the number of the pages that were written.
 #[derive(Drop)]
 pub struct FlatMem {
-    // where each page is stored; there is one entry more than pages, so that an access of no bytes at the end has one
+    // where each page is stored, up to the last page that was ever written
     table: Vec<u16>,
     // the stored pages, in the order of their first write
     stored: Vec<u16>,
@@ -53,7 +54,7 @@ impl Model for FlatMem {
 
     ghost view = { λ m. paged m.size m.table.items m.cells.items };
 
-    ghost invariant = { λ m. IsPaged m.size m.table.items m.stored.items (length m.cells.items) (vec_capacity m.cells) (vec_capacity m.stored) };
+    ghost invariant = { λ m. IsPaged m.size m.table.items m.stored.items (length m.cells.items) (vec_capacity m.cells) (vec_capacity m.stored) (vec_capacity m.table) };
 }
 
 impl FlatMem {
@@ -69,8 +70,9 @@ impl FlatMem {
             return Err(Fault::BadMake);
         }
         let size = size as usize;
+        // one more than pages, so that an access of no bytes at the end needs no test
         let pages = size / PAGE + 1;
-        let Ok(table) = empty_table(alloc, pages) else {
+        let Ok(table) = Vec::with_capacity(alloc, pages) else {
             return Err(Fault::NoMemory);
         };
         let Ok(stored) = Vec::with_capacity(alloc, pages) else {
@@ -96,9 +98,9 @@ impl FlatMem {
         ensures { out.new ≡ slice_range self.now start (start + length out.old) }
     {
         let cells = self.cells.as_slice();
-        let at = self.table[start / PAGE] as usize * PAGE + start % PAGE;
+        let at = place_of(&self.table, start / PAGE) as usize * PAGE + start % PAGE;
         if at < cells.len() {
-            out.copy_from_slice(&cells[at..at + out.len()]);
+            copy_to(out, &cells[at..at + out.len()]);
         } else {
             blank(out);
         }
@@ -113,10 +115,16 @@ impl FlatMem {
         ensures { self.new ≡ overwrite start source.now self.old }
     {
         let page = start / PAGE;
-        let place = self.table[page];
+        let place = place_of(&self.table, page);
         if place == UNSTORED {
-            store(&mut self.table, &mut self.stored, page);
-            write_first(&mut self.cells, start % PAGE, source);
+            store(
+                &mut self.table,
+                &mut self.stored,
+                &mut self.cells,
+                page,
+                start % PAGE,
+                source,
+            );
         } else {
             let at = place as usize * PAGE + start % PAGE;
             write_within(&mut self.cells, at, source);
@@ -158,18 +166,59 @@ impl FlatMem {
     }
 }
 
-// Gives the page the next place. There is room, so nothing is allocated.
+// The place of a page, or the mark of one that isn't stored.
+#[inline]
+fn place_of(table: &[u16], page: usize) -> u16
+    ensures { result ≡ place_in table.now page }
+{
+    if page < table.len() {
+        table[page]
+    } else {
+        UNSTORED
+    }
+}
+
+// Stores a page at the next place, with zeros but for `source` from `start` on. There is room, so nothing is allocated.
 #[cold]
 #[inline(never)]
-fn store(table: &mut Vec<u16>, stored: &mut Vec<u16>, page: usize)
-    requires page { page < length table.old.items }
-    requires few { length table.old.items ≤ 4097 }
-    requires free { length stored.old.items < length table.old.items }
-    requires room { length stored.old.items < vec_capacity stored.old }
-    ensures table { table.new.items ≡ set table.old.items page (length stored.old.items) }
+fn store(
+    table: &mut Vec<u16>,
+    stored: &mut Vec<u16>,
+    cells: &mut Vec<u8>,
+    page: usize,
+    start: usize,
+    source: &[u8],
+)
+    requires few { page + 1 ≤ 4097 }
+    requires place { length stored.old.items < 4097 }
+    requires entry { page + 1 ≤ vec_capacity table.old }
+    requires seat { length stored.old.items < vec_capacity stored.old }
+    requires within { start + length source.now ≤ 4096 }
+    requires cells { length cells.old.items + 4096 ≤ vec_capacity cells.old }
+    ensures table { table.new.items ≡ set (reaching (page + 1) table.old.items) page (length stored.old.items) }
     ensures stored { stored.new.items ≡ stored.old.items ++ page ∷ [] }
+    ensures cells { cells.new.items ≡ overwrite (length cells.old.items + start) source.now (cells.old.items ++ replicate 4096 0) }
+    ensures len { length cells.new.items ≡ length cells.old.items + 4096 }
+    ensures entries { vec_capacity table.old ≤ vec_capacity table.new }
+    ensures seats { vec_capacity stored.old ≤ vec_capacity stored.new }
+    ensures room { vec_capacity cells.old ≤ vec_capacity cells.new }
+{
+    give_place(table, stored, page);
+    write_first(cells, start, source);
+}
+
+// Gives the page the next place. There is room, so nothing is allocated.
+fn give_place(table: &mut Vec<u16>, stored: &mut Vec<u16>, page: usize)
+    requires few { page + 1 ≤ 4097 }
+    requires place { length stored.old.items < 4097 }
+    requires entry { page + 1 ≤ vec_capacity table.old }
+    requires room { length stored.old.items < vec_capacity stored.old }
+    ensures table { table.new.items ≡ set (reaching (page + 1) table.old.items) page (length stored.old.items) }
+    ensures stored { stored.new.items ≡ stored.old.items ++ page ∷ [] }
+    ensures entries { vec_capacity table.old ≤ vec_capacity table.new }
     ensures capacity { vec_capacity stored.old ≤ vec_capacity stored.new }
 {
+    reach(table, page + 1);
     table[page] = stored.len() as u16;
     match stored.push(page as u16) {
         Ok(()) => {}
@@ -177,9 +226,22 @@ fn store(table: &mut Vec<u16>, stored: &mut Vec<u16>, page: usize)
     }
 }
 
+// Makes the table that long at least. There is room, so nothing is allocated.
+fn reach(table: &mut Vec<u16>, pages: usize)
+    requires { pages ≤ vec_capacity table.old }
+    ensures table { table.new.items ≡ reaching pages table.old.items }
+    ensures len { pages ≤ length table.new.items }
+    ensures capacity { vec_capacity table.old ≤ vec_capacity table.new }
+{
+    if table.len() < pages {
+        match table.resize(pages, UNSTORED) {
+            Ok(()) => {}
+            Err(_) => unreachable!(),
+        }
+    }
+}
+
 // One page more, whose bytes are zero but for `source` from `start` on. There is room, so nothing is allocated.
-#[cold]
-#[inline(never)]
 fn write_first(cells: &mut Vec<u8>, start: usize, source: &[u8])
     requires within { start + length source.now ≤ 4096 }
     requires room { length cells.old.items + 4096 ≤ vec_capacity cells.old }
@@ -226,19 +288,13 @@ impl GuestMem for FlatMem {
     }
 }
 
-// A table of the mark of a page that isn't stored.
-fn empty_table(alloc: Global, pages: usize) -> Result<Vec<u16>, AllocError>
-    ensures { IfOk result (λ v. v.items ≡ replicate pages 65535) }
-{
-    vec![in alloc; UNSTORED; pages]
-}
-
 // Puts the mark of a page that isn't stored in the place of each stored page, so that the table has nothing else.
 #[tactic(auto, using(crate::proofs::PagesLemmas::all_unstored))]
 fn forget(table: &mut Vec<u16>, stored: &[u16])
     requires listed { Listed table.old.items stored.now }
     requires paired { Paired table.old.items stored.now }
-    ensures { table.new.items ≡ replicate (length table.old.items) 65535 }
+    ensures table { table.new.items ≡ replicate (length table.old.items) 65535 }
+    ensures capacity { vec_capacity table.old ≤ vec_capacity table.new }
 {
     for page in stored {
         table[*page as usize] = UNSTORED;
@@ -276,5 +332,18 @@ fn write_within(cells: &mut Vec<u8>, start: usize, source: &[u8])
     ensures capacity { vec_capacity cells.new ≡ vec_capacity cells.old }
 {
     let cells = cells.as_mut_slice();
-    cells[start..start + source.len()].copy_from_slice(source);
+    copy_to(&mut cells[start..start + source.len()], source);
+}
+
+// Copies as many bytes as there is room for. A word and two words of a descriptor go as moves.
+#[inline]
+fn copy_to(out: &mut [u8], source: &[u8])
+    requires { length out.old ≡ length source.now }
+    ensures { out.new ≡ source.now }
+{
+    match source.len() {
+        8 => out[..8].copy_from_slice(&source[..8]),
+        16 => out[..16].copy_from_slice(&source[..16]),
+        _ => out.copy_from_slice(source),
+    }
 }

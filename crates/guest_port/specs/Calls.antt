@@ -1,5 +1,5 @@
 -- What the calls of a port with its device do: each is one event of the port's own pool, which is kept with its answer.
-use Rattle.std.specs.Prelude.{◌≡◌, ℕ, ◌+◌, ◌==◌, Bool, true, false, List, length, Result, Ok, Err}
+use Rattle.std.specs.Prelude.{◌≡◌, ℕ, ◌==◌, Bool, true, false, List, [], ◌∷◌, ◌++◌, drop, length, Result, Ok, Err}
 use Rattle.wire_frame.specs.Fault.{number_of}
 use Rattle.wire_frame.specs.declared.fault.Fault.{Fault}
 use Rattle.wire_frame.specs.declared.fault.Fault.TheVariants.{HistoryFull}
@@ -7,16 +7,24 @@ use Rattle.device.specs.declared.event.Event.{Event}
 use Rattle.device.specs.declared.event.Reply.{Reply}
 use Rattle.device.specs.declared.event.Reply.TheVariants.{Done, Value, Bytes, Refused}
 use Rattle.device.specs.World.{World, step}
+use Rattle.device_lock.specs.Held.{Mine}
 use Rattle.guest_port.specs.Port.{Port}
 
 -- a port with its device
 pub record CallingPort : Type 0 where
   pub port : Port
-  -- how many calls it made: those that were kept, with the refused ones
-  pub calls : ℕ
+  -- its share as it was when the port was made
+  pub made : Mine
+  -- the events that it asked in its calls, the oldest first: those that were kept, with the refused ones
+  pub calls : List Event
 
-abbrev pub one_more_call : CallingPort → CallingPort
-one_more_call c = record { port = c.port; calls = c.calls + 1 }
+-- what a share asked since it was another
+abbrev pub asked_since : Mine → Mine → List Event
+asked_since old new = drop (length old.asked) new.asked
+
+-- a port once it asked one more
+abbrev pub having_called : Event → CallingPort → CallingPort
+having_called event c = record c { calls = c.calls ++ event ∷ [] }
 
 -- the event may be replied to so: some world's step does it
 abbrev pub MayReply : Event → Reply → Type 0

@@ -6,10 +6,11 @@ ghost use Rattle.device.specs.declared.span.Span.{Span};
 ghost use Rattle.device.specs.Request.{event_of};
 ghost use Rattle.device.specs.Outcome.{reply_by, done_or_refused, value_or_refused, bytes_or_refused};
 ghost use Rattle.device_lock.specs.Callers.{may};
+ghost use Rattle.device_lock.specs.Held.{having_asked_all};
 ghost use Rattle.device_lock.specs.Read.{bytes_asked, bytes_told};
 ghost use Rattle.irq_line.specs.Line.{StandsIn};
 ghost use Rattle.guest_port.specs.Port.{having_taken, having_peeked, ended, closed};
-ghost use Rattle.guest_port.specs.Calls.{one_more_call, MayReply, is_full, read_or_refused, IsDone, IsValue, IsRead};
+ghost use Rattle.guest_port.specs.Calls.{having_called, MayReply, is_full, read_or_refused, IsDone, IsValue, IsRead};
 
 use crate::port::{GuestPort, Tokens};
 use device::bytes::MOST_BYTES;
@@ -27,7 +28,8 @@ use wire_frame::{Fault, FrameBuf};
 /// as a call made, also where it is refused. They are refused, and nothing is kept, as [`Fault::NotOpen`] once the port has
 /// ended, and as [`Fault::HistoryFull`] where the device can keep no more.
 ///
-/// Contracts see the port, and how many calls it made. No call takes memory.
+/// Contracts see the port, its share as it was when the port was made, and the events that it asked since. No call takes
+/// memory.
 #[derive(Drop)]
 pub struct LockedPort<M: GuestMem, L: Ledger, P: GuestPort> {
     device: Arc<LockedDevice<M, L>>,
@@ -45,11 +47,17 @@ impl<M: GuestMem, L: Ledger, P: GuestPort> Model for LockedPort<M, L, P> {
 
     ghost Value = { CallingPort };
 
-    ghost use Rattle.std.specs.Prelude.{◌≡◌, ◌-◌, ◌≤◌, true, false, MatchOption};
+    ghost use Rattle.std.specs.Prelude.{◌≡◌, true, false, MatchOption};
+    ghost use Rattle.device_lock.specs.Held.{having_asked_all};
+    ghost use Rattle.guest_port.specs.Calls.{asked_since};
 
-    ghost view = { λ s. record { port = P.meaning s.inner; calls = s.last.value.count - s.first.value.count } };
+    ghost view = { λ s. record {
+      port = P.meaning s.inner;
+      made = s.first.value;
+      calls = asked_since s.first.value s.last.value;
+    } };
 
-    ghost invariant = { λ s. (s.first.value.count ≤ s.last.value.count)
+    ghost invariant = { λ s. (s.last.value ≡ having_asked_all (asked_since s.first.value s.last.value) s.first.value)
         × MatchOption s.share ((P.meaning s.inner).is_closed ≡ true)
         (λ share. ((P.meaning s.inner).is_closed ≡ false) × (share.caller ≡ (P.meaning s.inner).pool)
         × (share ≡ s.last.value)) };
@@ -60,7 +68,7 @@ impl<M: GuestMem, L: Ledger, P: GuestPort> LockedPort<M, L, P> {
     pub fn new(device: Arc<LockedDevice<M, L>>, share: Share<L>, inner: P) -> LockedPort<M, L, P>
         requires pool { share.caller ≡ (P.meaning inner).pool }
         requires closed { (P.meaning inner).is_closed ≡ false }
-        ensures { result ≡ record { port = P.meaning inner; calls = 0 } }
+        ensures { result ≡ record { port = P.meaning inner; made = share; calls = [] } }
     {
         let first = Shadow::of(&share);
         let last = Shadow::of(&share);
@@ -96,7 +104,8 @@ impl<M: GuestMem, L: Ledger, P: GuestPort> LockedPort<M, L, P> {
         ensures ended { self.old.port.is_open ≡ false →
             (result ≡ Err Fault.NotOpen) × (self.new ≡ self.old) }
         ensures full { is_full result ≡ true → self.new ≡ self.old }
-        ensures counted { self.old.port.is_open ≡ true → is_full result ≡ false → self.new ≡ one_more_call self.old }
+        ensures counted { self.old.port.is_open ≡ true → is_full result ≡ false →
+            self.new ≡ having_called (Event.VfRead self.old.port.pool offset) self.old }
         ensures reply { self.old.port.is_open ≡ true → is_full result ≡ false →
             MayReply (Event.VfRead self.old.port.pool offset) (value_or_refused result) }
     {
@@ -118,7 +127,8 @@ impl<M: GuestMem, L: Ledger, P: GuestPort> LockedPort<M, L, P> {
         ensures ended { self.old.port.is_open ≡ false →
             (result ≡ Err Fault.NotOpen) × (self.new ≡ self.old) }
         ensures full { is_full result ≡ true → self.new ≡ self.old }
-        ensures counted { self.old.port.is_open ≡ true → is_full result ≡ false → self.new ≡ one_more_call self.old }
+        ensures counted { self.old.port.is_open ≡ true → is_full result ≡ false →
+            self.new ≡ having_called (Event.VfWrite self.old.port.pool offset value) self.old }
         ensures reply { self.old.port.is_open ≡ true → is_full result ≡ false →
             MayReply (Event.VfWrite self.old.port.pool offset value) (done_or_refused result) }
     {
@@ -140,7 +150,8 @@ impl<M: GuestMem, L: Ledger, P: GuestPort> LockedPort<M, L, P> {
         ensures ended { self.old.port.is_open ≡ false →
             (result ≡ Err Fault.NotOpen) × (self.new ≡ self.old) }
         ensures full { is_full result ≡ true → self.new ≡ self.old }
-        ensures counted { self.old.port.is_open ≡ true → is_full result ≡ false → self.new ≡ one_more_call self.old }
+        ensures counted { self.old.port.is_open ≡ true → is_full result ≡ false →
+            self.new ≡ having_called (Event.MemRead self.old.port.pool addr len) self.old }
         ensures reply { self.old.port.is_open ≡ true → is_full result ≡ false →
             MayReply (Event.MemRead self.old.port.pool addr len) (read_or_refused result) }
     {
@@ -166,7 +177,7 @@ impl<M: GuestMem, L: Ledger, P: GuestPort> LockedPort<M, L, P> {
             (result ≡ Err Fault.TooLong) × (self.new ≡ self.old) }
         ensures full { is_full result ≡ true → self.new ≡ self.old }
         ensures counted { self.old.port.is_open ≡ true → length out.old ≤ 2048 → is_full result ≡ false →
-            self.new ≡ one_more_call self.old }
+            self.new ≡ having_called (Event.MemRead self.old.port.pool addr (length out.old)) self.old }
         ensures reply { self.old.port.is_open ≡ true → length out.old ≤ 2048 → is_full result ≡ false →
             MayReply (Event.MemRead self.old.port.pool addr (length out.old)) (bytes_or_refused result out.new) }
         ensures unread { OnErr result (out.new ≡ out.old) }
@@ -195,7 +206,7 @@ impl<M: GuestMem, L: Ledger, P: GuestPort> LockedPort<M, L, P> {
             (result ≡ Err Fault.TooLong) × (self.new ≡ self.old) }
         ensures full { is_full result ≡ true → self.new ≡ self.old }
         ensures counted { self.old.port.is_open ≡ true → length bytes.now ≤ 2048 → is_full result ≡ false →
-            self.new ≡ one_more_call self.old }
+            self.new ≡ having_called (Event.MemWrite self.old.port.pool addr bytes.now) self.old }
         ensures reply { self.old.port.is_open ≡ true → length bytes.now ≤ 2048 → is_full result ≡ false →
             MayReply (Event.MemWrite self.old.port.pool addr bytes.now) (done_or_refused result) }
     {
@@ -219,7 +230,8 @@ impl<M: GuestMem, L: Ledger, P: GuestPort> LockedPort<M, L, P> {
         ensures ended { self.old.port.is_open ≡ false →
             (result ≡ Err Fault.NotOpen) × (self.new ≡ self.old) }
         ensures full { is_full result ≡ true → self.new ≡ self.old }
-        ensures counted { self.old.port.is_open ≡ true → is_full result ≡ false → self.new ≡ one_more_call self.old }
+        ensures counted { self.old.port.is_open ≡ true → is_full result ≡ false →
+            self.new ≡ having_called (Event.Flr self.old.port.pool) self.old }
         ensures reply { self.old.port.is_open ≡ true → is_full result ≡ false →
             MayReply (Event.Flr self.old.port.pool) (done_or_refused result) }
     {
@@ -236,7 +248,7 @@ impl<M: GuestMem, L: Ledger, P: GuestPort> LockedPort<M, L, P> {
     /// Takes the interrupt messages that stand for the pool, those that were peeked among them: bit v for vector v, and none
     /// stands any more. One step, which waits for nobody; 0 once the port was closed.
     pub fn take_irqs(&mut self) -> u8
-        ensures taken { self.new ≡ record { port = having_taken self.old.port result; calls = self.old.calls } }
+        ensures taken { self.new ≡ record self.old { port = having_taken self.old.port result } }
         ensures closed { self.old.port.is_closed ≡ true → result ≡ 0 }
         ensures stood { self.old.port.is_closed ≡ false → StandsIn self.old.port.peeked result }
     {
@@ -246,7 +258,7 @@ impl<M: GuestMem, L: Ledger, P: GuestPort> LockedPort<M, L, P> {
     /// The interrupt messages that stand for the pool, bit v for vector v; they stand on. One step, which waits for nobody; 0
     /// once the port was closed.
     pub fn peek_irqs(&mut self) -> u8
-        ensures peeked { self.new ≡ record { port = having_peeked self.old.port result; calls = self.old.calls } }
+        ensures peeked { self.new ≡ record self.old { port = having_peeked self.old.port result } }
         ensures closed { self.old.port.is_closed ≡ true → result ≡ 0 }
         ensures stood { self.old.port.is_closed ≡ false → StandsIn self.old.port.peeked result }
     {
@@ -255,17 +267,18 @@ impl<M: GuestMem, L: Ledger, P: GuestPort> LockedPort<M, L, P> {
 
     /// Ends the port: its notes can find the end from now on, and its own knows it. Again, it does nothing.
     pub fn end(&mut self)
-        ensures { self.new ≡ record { port = ended self.old.port; calls = self.old.calls } }
+        ensures { self.new ≡ record self.old { port = ended self.old.port } }
     {
         self.inner.end();
     }
 
     /// Ends the port and hands back its share and its tokens, once.
     pub fn close(&mut self) -> Option<(Share<L>, Tokens)>
-        ensures closed { self.new ≡ record { port = closed self.old.port; calls = self.old.calls } }
+        ensures closed { self.new ≡ record self.old { port = closed self.old.port } }
         ensures back { MatchOption result (self.old.port.is_closed ≡ true)
             (λ r. (self.old.port.is_closed ≡ false) × (r.0.caller ≡ self.old.port.pool)
             × (r.1.seat.view.pool ≡ self.old.port.pool) × (r.1.note ≡ self.new.port.note)) }
+        ensures share { IfSome result (λ r. r.0 ≡ having_asked_all self.old.calls self.old.made) }
     {
         let tokens = self.inner.close();
         let share = self.share.take();
@@ -281,7 +294,7 @@ impl<M: GuestMem, L: Ledger, P: GuestPort> LockedPort<M, L, P> {
         ensures reply { IfSome result (λ outcome. MayReply (event_of request.entry)
             (reply_by (λ span. take (bytes_told outcome) read.new) outcome)) }
         ensures rest { IfSome result (λ outcome. drop (bytes_told outcome) read.new ≡ drop (bytes_told outcome) read.old) }
-        ensures counted { IfSome result (λ outcome. self.new ≡ one_more_call self.old) }
+        ensures counted { IfSome result (λ outcome. self.new ≡ having_called (event_of request.entry) self.old) }
         ensures full { IfNone result ((self.new ≡ self.old) × (read.new ≡ read.old)) }
     {
         let Some(share) = &mut self.share else {

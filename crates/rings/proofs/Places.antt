@@ -47,6 +47,11 @@ owned_count-some r v differ = ⊎_elim ahead behind (cases_lt r.tail r.head)
         let same : owned_count r ≡ r.tail + r.count - r.head - r.count = mod_wrapped (r.tail + r.count - r.head) r.count (omega (arith, v.tail_below)) (omega (arith, v.tail_below, v.head_below)) in
         omega (arith, v.head_below)
 
+-- where they are equal, there is none
+pub owned_count-none : (r : RingState) → IsValidRing r → r.head ≡ r.tail → owned_count r ≡ 0
+owned_count-none r v same =
+    mod_wrapped (r.tail + r.count - r.head) r.count (omega (arith, same)) (omega (arith, same, v.least)) ∙ (omega (arith, same))
+
 pub length-owned : (r : RingState) → length (owned r) ≡ cond r.enabled (owned_count r) 0
 unfolding owned
 length-owned r = elim r.enabled as (λ b. length (cond b (places_from r.count r.head (owned_count r)) []) ≡ cond b (owned_count r) 0) [ true ↦ length-places_from r.count r.head (owned_count r) | false ↦ refl ]
@@ -125,3 +130,18 @@ owned-before_tail r i v l =
 
 pub owned-ends : (r : RingState) → IsValidRing r → r.enabled ≡ true → (r.head + length (owned r)) % r.count ≡ r.tail
 owned-ends r v on = ap (λ (x : ℕ). (r.head + x) % r.count) (length-owned-on r on) ∙ ends_at_tail r.count r.head r.tail v.head_below v.tail_below
+
+-- ---- the first of them
+
+pub length-owned-equal : (r : RingState) → IsRing r → r.head ≡ r.tail → length (owned r) ≡ 0
+length-owned-equal r ok same = by r.enabled refl
+  where
+    by : (b : Bool) → r.enabled ≡ b → length (owned r) ≡ 0
+    by true on = length-owned-on r on ∙ owned_count-none r (ok on) same
+    by false off = ap length (owned-off r off)
+
+pub owned-first : (r : RingState) → IsRing r → 1 ≤ length (owned r) → get_or (owned r) 0 0 ≡ r.head
+owned-first r ok some =
+    let a = owned_at r 0 ok some in
+    let same : r.head + 0 ≡ r.head = omega arith in
+    a.place ∙ ap (λ (x : ℕ). x % r.count) same ∙ mod-eq_of_lt a.valid.head_below

@@ -1,5 +1,5 @@
 //! The ring and its registers.
-ghost use Rattle.std.specs.Prelude.{◌≡◌, ℕ, ◌+◌, ◌*◌, ◌%◌, ◌^◌, ◌<◌, ◌≤◌, true, false, length, slice_index, IfSome};
+ghost use Rattle.std.specs.Prelude.{◌≡◌, ℕ, ◌+◌, ◌*◌, ◌%◌, ◌^◌, ◌<◌, ◌≤◌, true, false, length, slice_index, IfSome, IfNone};
 ghost use Rattle.rings.specs.Ring.{no_ring, owned, head_slot, head_after, enabled_in, switched, ring_word, tail_written, ring_written, IsRing, LiesInside};
 
 use std::marker::Model;
@@ -110,6 +110,8 @@ impl Ring {
         ensures fits { IfSome result (λ a. a + 16 < 2 ^ 64) }
         ensures on { IfSome result (λ a. self.now.enabled ≡ true) }
         ensures owned { IfSome result (λ a. 1 ≤ length (owned self.now)) }
+        ensures first { IfSome result (λ a. a ≡ self.now.base + 16 * slice_index (owned self.now) 0) }
+        ensures none { IfNone result (length (owned self.now) ≡ 0) }
     {
         if !self.enabled || self.head == self.tail {
             return None;

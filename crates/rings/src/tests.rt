@@ -85,3 +85,34 @@ fn goes_on_only_where_it_is_valid(rt: HostRuntime) {
     ring.write(RingRegister::Length, 128);
     assert!(rt; !ring.try_enable(65_536));
 }
+
+// Rings on both sides of a border of pages of 4096 bytes: where they begin, how many bytes they have, the head, and where the
+// first two owned descriptors stand.
+#[test]
+fn stands_at_page_borders(rt: HostRuntime) {
+    for (base, length, head, first, second) in [
+        // it ends with a page, and goes round
+        (0x1F80, 128, 7, 0x1FF0, 0x1F80),
+        // it goes over the border between the two
+        (0x1F80, 256, 7, 0x1FF0, 0x2000),
+        // it begins a page
+        (0x2000, 128, 0, 0x2000, 0x2010),
+        // it ends with the memory
+        (0xFF80, 128, 6, 0xFFE0, 0xFFF0),
+    ] {
+        let mut ring = Ring::new();
+        ring.write(RingRegister::BaseLow, base);
+        ring.write(RingRegister::Length, length);
+        ring.write(RingRegister::Head, head);
+        ring.write(RingRegister::Tail, (head + 2) % (length / 16));
+        assert!(rt; ring.try_enable(65_536), "{base:x}");
+        assert_eq!(rt; ring.available(), 2, "{base:x}");
+        assert_eq!(rt; ring.head_slot(), Some(first), "{base:x}");
+        assert_eq!(rt; ring.slot(0), first, "{base:x}");
+        assert_eq!(rt; ring.slot(1), second, "{base:x}");
+        ring.advance(1);
+        assert_eq!(rt; ring.head_slot(), Some(second), "{base:x}");
+        ring.advance(1);
+        assert_eq!(rt; ring.head_slot(), None, "{base:x}");
+    }
+}

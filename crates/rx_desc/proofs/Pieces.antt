@@ -1,8 +1,7 @@
 -- The loops over the pieces of a frame, one piece at a time.
 use Rattle.std.proofs.Common.{◌≡◌, ℕ, zero, suc, ◌+◌, ◌-◌, ◌*◌, ◌/◌, ◌%◌, ◌<◌, ◌≤◌, min, List, [], ◌∷◌, length, take, drop, set, get_or, map, Option, Bool, true, false, nat_lt, ◌||◌, refl, sym, ◌∙◌, ap, arith, eqb, inl, inr}
 use Rattle.std.proofs.lemmas.List.{drop_more, take_more, take_more_set, take_min, drop_min, take_all, get_or-map, length-map}
-use Rattle.std.proofs.lemmas.Nat.{div-add-mod', mod_below}
-use Rattle.std.proofs.Math.Nat.{one-mul}
+use Rattle.std.proofs.lemmas.Nat.{div-mul-add}
 use Rattle.std.proofs.lemmas.Bool.{ltb-false, lt-ltb, le-ltb, cases_eq, eq-eqb, ne_eqb}
 use Rattle.guest_memory.specs.Memory.{Write, overwrite, write_all, two_words, word_at}
 use Rattle.rings.specs.Ring.{RingState, owned, head_after}
@@ -194,13 +193,11 @@ pub cut-one : (b : ℕ) (xs : List ℕ) → length xs ≤ b → cut b 1 xs ≡ x
 unfolding cut
 cut-one b xs h = ap (λ (p : List ℕ). p ∷ []) (take_all b xs h)
 
-pub pieces-one : (b : ℕ) (xs : List ℕ) → 1 ≤ b → count_of b xs ≡ 1 → pieces b xs ≡ xs ∷ []
-pieces-one b xs h count =
-    let n = length xs + b - 1 in
-    let whole : n / b * b + n % b ≡ n = div-add-mod' n b in
-    let once : n / b * b ≡ b = ap (λ (k : ℕ). k * b) count ∙ one-mul b in
-    let below : n % b < b = mod_below n b h in
-    ap (λ (k : ℕ). cut b k xs) count ∙ cut-one b xs (omega (arith, whole, once, below))
+pub pieces-one : (b : ℕ) (xs : List ℕ) → 1 ≤ length xs → length xs ≤ b → pieces b xs ≡ xs ∷ []
+pieces-one b xs some few =
+    let sum : length xs + b - 1 ≡ 1 * b + (length xs - 1) = omega arith in
+    let count : count_of b xs ≡ 1 = ap (λ (n : ℕ). n / b) sum ∙ div-mul-add 1 b (length xs - 1) (omega arith) in
+    ap (λ (k : ℕ). cut b k xs) count ∙ cut-one b xs few
 
 -- what one piece is written as, and its write-back
 pub record One (lb : Bool) (tag : Option ℕ) (places xs m : List ℕ) (s a word : ℕ) : Type 0 where
@@ -222,7 +219,13 @@ one_piece lb tag places xs m s a word h first at is =
       backs = ap (back_writes lb tag places) (sym whole) ∙ backs ∙ rw (text, sym first, is) refl;
     }
 
--- the two ends of one piece, for which a descriptor is owned
+-- the ends of one piece: no descriptor is owned, or it passes the memory's end, or it is written
+
+pub one-no_room : (lb : Bool) (tag : Option ℕ) (xs m : List ℕ) (r : RingState) → length (owned r) ≡ 0 → deliver_pieces lb tag (xs ∷ []) m r ≡ record { placed = NoRoom; memory = m; ring = r }
+unfolding deliver_pieces
+one-no_room lb tag xs m r none =
+    let test : nat_lt (length (owned r)) 1 ≡ true = lt-ltb _ _ (omega (arith, none)) in
+    rw test refl
 
 pub one-faulted : (lb : Bool) (tag : Option ℕ) (xs m : List ℕ) (r : RingState) (s a : ℕ) → 0 < length (owned r) → s ≡ get_or (slots r) 0 0 → a ≡ word_at s m → length m < a + length xs → deliver_pieces lb tag (xs ∷ []) m r ≡ record { placed = Faulted; memory = m; ring = record r { enabled = false } }
 unfolding deliver_pieces

@@ -10,7 +10,7 @@ pub mod laws;
 mod parts;
 pub mod placing;
 
-pub use placing::{Placed, RxConfig, place};
+pub use placing::{Placed, RxConfig, place, place_within};
 
 #[cfg(test)]
 mod tests;

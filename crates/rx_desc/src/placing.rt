@@ -3,7 +3,7 @@ ghost use Rattle.std.specs.Prelude.{◌≡◌, ℕ, ◌+◌, ◌*◌, ◌-◌, �
 ghost use Rattle.guest_memory.specs.Memory.{write_all};
 ghost use Rattle.rings.specs.Ring.{owned, LiesInside};
 ghost use Rattle.rx_desc.specs.Parts.{text_of};
-ghost use Rattle.rx_desc.specs.Receive.{deliver, deliver_pieces, cut, pieces, slots, zip_writes, data_writes, back_writes, passes_end, status as status_of};
+ghost use Rattle.rx_desc.specs.Receive.{deliver, deliver_pieces, data_of, tag_taken, cut, pieces, slots, zip_writes, data_writes, back_writes, passes_end, status as status_of};
 
 use crate::parts::{Parts, write_parts};
 use guest_memory::{GuestMem, read_word, write_words};
@@ -47,7 +47,7 @@ pub enum Placed {
 
 /// Places `frame` in the buffers of the ring's next descriptors, and writes these back (82599 datasheet, advanced receive
 /// descriptors, read and write-back format). `loopback` says that another pool sent it.
-#[tactic(auto, unfolding(crate::specs::Receive::deliver))]
+#[inline]
 pub fn place<M: GuestMem>(
     memory: &mut M,
     ring: &mut Ring,
@@ -65,44 +65,87 @@ pub fn place<M: GuestMem>(
     ensures inside { LiesInside (length (M.bytes memory.new)) ring.new }
     ensures on { IsTrue ring.new.enabled → IsTrue ring.old.enabled }
 {
+    let memory_size = memory.size();
+    place_within(memory, memory_size, ring, config, frame, loopback)
+}
+
+/// Places a frame as [`place`] does, of a memory whose size the caller knows.
+#[inline]
+#[tactic(auto, unfolding(crate::specs::Receive::deliver))]
+pub fn place_within<M: GuestMem>(
+    memory: &mut M,
+    memory_size: u64,
+    ring: &mut Ring,
+    config: &RxConfig,
+    frame: &FrameBuf,
+    loopback: bool,
+) -> Placed
+    requires known { memory_size ≡ length (M.bytes memory.old) }
+    requires least { IsTrue ring.old.enabled → 1024 ≤ config.now.buffer_size }
+    requires most { IsTrue ring.old.enabled → config.now.buffer_size ≤ 16384 }
+    requires inside { LiesInside (length (M.bytes memory.old)) ring.old }
+    ensures placed { result ≡ (deliver config.now loopback frame.now (M.bytes memory.old) ring.old).placed }
+    ensures written { M.bytes memory.new ≡ (deliver config.now loopback frame.now (M.bytes memory.old) ring.old).memory }
+    ensures ring { ring.new ≡ (deliver config.now loopback frame.now (M.bytes memory.old) ring.old).ring }
+    ensures size { length (M.bytes memory.new) ≡ length (M.bytes memory.old) }
+    ensures inside { LiesInside (length (M.bytes memory.new)) ring.new }
+    ensures on { IsTrue ring.new.enabled → IsTrue ring.old.enabled }
+{
     if !ring.is_enabled() {
         return Placed::NoRoom;
     }
+    let (source, tag) = without_tag(config.strip_tag, frame);
+    place_data(
+        memory,
+        memory_size,
+        ring,
+        config.buffer_size,
+        source,
+        loopback,
+        tag,
+    )
+}
+
+// The bytes of a frame that are placed, and the tag that was taken off it, where it is to be stripped and has one.
+#[inline]
+fn without_tag(strip_tag: bool, frame: &FrameBuf) -> (Parts<'_>, Option<u16>)
+    ensures text { text_of result.0 ≡ data_of strip_tag frame.now }
+    ensures tag { result.1 ≡ tag_taken strip_tag frame.now }
+    ensures some { 1 ≤ length (text_of result.0) }
+    ensures short { length (text_of result.0) ≤ 9018 }
+{
     let bytes = frame.bytes();
-    if config.strip_tag {
+    if strip_tag {
         if let Some(tag) = frame.tag() {
             let source = Parts {
                 front: &bytes[..12],
                 back: &bytes[16..],
             };
-            return place_data(
-                memory,
-                ring,
-                config.buffer_size,
-                source,
-                loopback,
-                Some(tag),
-            );
+            return (source, Some(tag));
         }
     }
     let source = Parts {
         front: &bytes[..0],
         back: bytes,
     };
-    place_data(memory, ring, config.buffer_size, source, loopback, None)
+    (source, None)
 }
 
 // Places `source` in the buffers of the ring's next descriptors; `tag` was taken off it.
+#[inline]
 fn place_data<M: GuestMem>(
     memory: &mut M,
+    memory_size: u64,
     ring: &mut Ring,
     size: usize,
     source: Parts,
     loopback: bool,
     tag: Option<u16>,
 ) -> Placed
+    requires known { memory_size ≡ length (M.bytes memory.old) }
     requires least { 1024 ≤ size }
     requires most { size ≤ 16384 }
+    requires some { 1 ≤ length (text_of source) }
     requires short { length (text_of source) ≤ 9018 }
     requires inside { LiesInside (length (M.bytes memory.old)) ring.old }
     ensures placed { result ≡ (deliver_pieces loopback tag (pieces size (text_of source.entry)) (M.bytes memory.old) ring.old).placed }
@@ -112,27 +155,37 @@ fn place_data<M: GuestMem>(
     ensures inside { LiesInside (length (M.bytes memory.new)) ring.new }
     ensures on { IsTrue ring.new.enabled → IsTrue ring.old.enabled }
 {
+    if source.len() <= size {
+        return place_one(memory, memory_size, ring, source, loopback, tag);
+    }
     let count = (source.len() + size - 1) / size;
     if count > ring.available() as usize {
         return Placed::NoRoom;
     }
-    if count == 1 {
-        return place_one(memory, ring, source, loopback, tag);
-    }
-    place_many(memory, ring, size, source, count, loopback, tag)
+    place_many(
+        memory,
+        memory_size,
+        ring,
+        size,
+        source,
+        count,
+        loopback,
+        tag,
+    )
 }
 
-// Places `source` in one buffer, for which a descriptor is owned. Nothing is kept beside that descriptor's word.
+// Places `source` in one buffer. Nothing is kept beside the word of its descriptor.
 #[inline]
 fn place_one<M: GuestMem>(
     memory: &mut M,
+    memory_size: u64,
     ring: &mut Ring,
     source: Parts,
     loopback: bool,
     tag: Option<u16>,
 ) -> Placed
+    requires known { memory_size ≡ length (M.bytes memory.old) }
     requires short { length (text_of source) ≤ 9018 }
-    requires room { 1 ≤ length (owned ring.old) }
     requires inside { LiesInside (length (M.bytes memory.old)) ring.old }
     ensures placed { result ≡ (deliver_pieces loopback tag (text_of source.entry ∷ []) (M.bytes memory.old) ring.old).placed }
     ensures written { M.bytes memory.new ≡ (deliver_pieces loopback tag (text_of source.entry ∷ []) (M.bytes memory.old) ring.old).memory }
@@ -141,23 +194,26 @@ fn place_one<M: GuestMem>(
     ensures inside { LiesInside (length (M.bytes memory.new)) ring.new }
     ensures on { IsTrue ring.new.enabled → IsTrue ring.old.enabled }
 {
-    let descriptor = ring.slot(0);
+    let Some(descriptor) = ring.head_slot() else {
+        return Placed::NoRoom;
+    };
     let address = read_word(memory, descriptor);
-    let end = memory.size();
-    let len = source.len() as u64;
-    if len > end || address > end - len {
+    let count = source.len() as u64;
+    if count > memory_size || address > memory_size - count {
         ring.disable();
         return Placed::Faulted;
     }
     write_parts(memory, address, &source);
-    write_words(memory, descriptor, 0, status(len, loopback, tag, true));
+    write_words(memory, descriptor, 0, status(count, loopback, tag, true));
     ring.advance(1);
     Placed::Put
 }
 
 // Places `source` in the buffers of as many descriptors as it has pieces, which are owned.
+#[inline(never)]
 fn place_many<M: GuestMem>(
     memory: &mut M,
+    memory_size: u64,
     ring: &mut Ring,
     size: usize,
     source: Parts,
@@ -165,6 +221,7 @@ fn place_many<M: GuestMem>(
     loopback: bool,
     tag: Option<u16>,
 ) -> Placed
+    requires known { memory_size ≡ length (M.bytes memory.old) }
     requires nine { count ≤ 9 }
     requires short { length (text_of source) ≤ 9018 }
     requires room { count ≤ length (owned ring.old) }
@@ -176,7 +233,7 @@ fn place_many<M: GuestMem>(
     ensures inside { LiesInside (length (M.bytes memory.new)) ring.new }
     ensures on { IsTrue ring.new.enabled → IsTrue ring.old.enabled }
 {
-    let Some(addresses) = buffers(memory, ring, size, source, count) else {
+    let Some(addresses) = buffers(memory, memory_size, ring, size, source, count) else {
         ring.disable();
         return Placed::Faulted;
     };
@@ -189,11 +246,13 @@ fn place_many<M: GuestMem>(
 // The addresses of the buffers of the first descriptors; none where some piece would pass the memory's end.
 fn buffers<M: GuestMem>(
     memory: &M,
+    memory_size: u64,
     ring: &Ring,
     size: usize,
     source: Parts,
     count: usize,
 ) -> Option<[u64; MOST_PIECES]>
+    requires known { memory_size ≡ length (M.bytes memory.now) }
     requires nine { count ≤ 9 }
     requires room { count ≤ length (owned ring.now) }
     requires inside { LiesInside (length (M.bytes memory.now)) ring.now }
@@ -201,7 +260,6 @@ fn buffers<M: GuestMem>(
     ensures variant { is_none result ≡ passes_end (length (M.bytes memory.now)) (data_writes (slots ring.now) (cut size count (text_of source.entry)) (M.bytes memory.now)) }
     ensures value { IfSome result (λ xs. zip_writes xs (cut size count (text_of source.entry)) ≡ data_writes (slots ring.now) (cut size count (text_of source.entry)) (M.bytes memory.now)) }
 {
-    let memory_size = memory.size();
     let mut addresses = [0u64; MOST_PIECES];
     let mut rest = source;
     for i in 0..count {

@@ -59,8 +59,15 @@ fn frame_of(start: [u8; 18], len: usize) -> Result<FrameBuf, Fault> {
 fn ring_of(count: u16, head: u32, tail: u32) -> Ring
     ensures { LiesInside 65536 result }
 {
+    ring_at(RING as u32, count, head, tail)
+}
+
+/// The same, from another address on.
+fn ring_at(base: u32, count: u16, head: u32, tail: u32) -> Ring
+    ensures { LiesInside 65536 result }
+{
     let mut ring = Ring::new();
-    ring.write(RingRegister::BaseLow, RING as u32);
+    ring.write(RingRegister::BaseLow, base);
     ring.write(RingRegister::Length, 16 * u32::from(count));
     ring.write(RingRegister::Head, head);
     ring.write(RingRegister::Tail, tail);
@@ -315,6 +322,78 @@ fn takes_nothing_while_off(rt: HostRuntime) -> Result<(), Fail> {
         assert_eq!(rt; read_word(&memory, RING + 8), 0, "{buffer_size}");
         assert_eq!(rt; read_word(&memory, FIRST), 0, "{buffer_size}");
         assert_eq!(rt; ring.read(RingRegister::Head), 0, "{buffer_size}");
+    }
+    Ok(())
+}
+
+/// Where the ring begins, how many descriptors it has and its head; where the descriptor at the head and its buffer stand, at
+/// the borders of pages of 4096 bytes and of the memory; and the next head. The frame has 60 bytes.
+#[test]
+fn page_borders(rt: HostRuntime) -> Result<(), Fail> {
+    for (base, count, head, at, buffer, next) in [
+        // the ring and the frame end with a page
+        (0x1F80, 8, 7, 0x1FF0, 0x4FC4, 0),
+        // both go over a border, the ring before this descriptor
+        (0x1F80, 16, 8, 0x2000, 0x4FE0, 9),
+        // both begin a page
+        (0x2000, 8, 0, 0x2000, 0x5000, 1),
+        // the ring ends with the memory; of the frame one byte stands on this side of a border, and one on that side
+        (0xFF80, 8, 7, 0xFFF0, 0x4FFF, 0),
+        (0xFF80, 8, 6, 0xFFE0, 0x4FC5, 7),
+    ] {
+        let mut memory = FlatMem::new(rt.alloc(), SIZE)?;
+        assert_eq!(rt; memory.size(), 65536);
+        assert!(rt; at <= SIZE - 16 && buffer >= 8 && buffer <= SIZE - 68);
+        write_word(&mut memory, at, buffer);
+        let frame = frame_of(PLAIN, 60)?;
+        assert_eq!(rt; memory.size(), 65536);
+        let mut ring = ring_at(base, count, head, next);
+        let outcome = place(&mut memory, &mut ring, &queue(KEEP), &frame, false);
+        assert_eq!(rt; outcome, Placed::Put, "{buffer:x}");
+        assert_eq!(rt; ring.read(RingRegister::Head), next, "{buffer:x}");
+        assert_eq!(rt; memory.size(), 65536);
+        for (place, word) in [
+            (at, 0),
+            (at + 8, 0x003C_0000_0003),
+            (buffer - 8, 0),
+            (buffer, 0x0002_0300_0000_0002),
+            (buffer + 52, 0xAAAA_AAAA_AAAA_AAAA),
+            (buffer + 60, 0),
+        ] {
+            assert!(rt; place <= SIZE - 8);
+            assert_eq!(rt; read_word(&memory, place), word, "{buffer:x}, {place:x}");
+        }
+    }
+    Ok(())
+}
+
+/// Two pieces, of which each goes over a border of pages, by descriptors on both sides of one.
+#[test]
+fn pieces_over_page_borders(rt: HostRuntime) -> Result<(), Fail> {
+    let mut ring = ring_at(0x1F80, 16, 7, 9);
+    let mut memory = FlatMem::new(rt.alloc(), SIZE)?;
+    assert_eq!(rt; memory.size(), 65536);
+    write_word(&mut memory, 0x1FF0, 0x4E00);
+    write_word(&mut memory, 0x2000, 0x5FFF);
+    let frame = frame_of(PLAIN, 1518)?;
+    let outcome = place(&mut memory, &mut ring, &queue(KEEP), &frame, false);
+    assert_eq!(rt; outcome, Placed::Put);
+    assert_eq!(rt; ring.read(RingRegister::Head), 9);
+    assert_eq!(rt; memory.size(), 65536);
+    for (place, word) in [
+        (0x1FF8, 0x0400_0000_0001),
+        (0x2008, 0x01EE_0000_0003),
+        (0x4E00, 0x0002_0300_0000_0002),
+        (0x4FFC, 0xAAAA_AAAA_AAAA_AAAA),
+        (0x51F8, 0xAAAA_AAAA_AAAA_AAAA),
+        (0x5200, 0),
+        (0x5FF7, 0),
+        (0x5FFF, 0xAAAA_AAAA_AAAA_AAAA),
+        (0x61E5, 0xAAAA_AAAA_AAAA_AAAA),
+        (0x61ED, 0),
+    ] {
+        assert!(rt; place <= SIZE - 8);
+        assert_eq!(rt; read_word(&memory, place), word, "{place:x}");
     }
     Ok(())
 }

@@ -1,8 +1,9 @@
 pub mod BlockLemmas
+pub mod ChunkLemmas
 pub mod Cuts
 pub mod LineLemmas
+pub mod NumberLemmas
 pub mod Pairs
 pub mod RecordLemmas
-pub mod RunLemmas
 pub mod Values
 pub mod WordLemmas

@@ -1,5 +1,5 @@
 -- Records stay what they are where more bytes are kept behind those of theirs.
-use Rattle.std.proofs.Common.{◌≡◌, ℕ, List, [], ◌∷◌, ◌++◌, ◌≤◌, Result, Ok, Err, OnErr, length, length-append, length-drop, take, drop, map, refl, sym, ap, ◌∙◌, subst, arith}
+use Rattle.std.proofs.Common.{◌≡◌, ℕ, List, [], ◌∷◌, ◌++◌, ◌+◌, ◌≤◌, Some, Result, Ok, Err, OnErr, if◌then◌else◌, length, length-append, length-drop, take, drop, map, refl, sym, ap, ◌∙◌, subst, arith}
 use Rattle.std.specs.List.{All}
 use Rattle.std.proofs.lemmas.List.{map-append, take-append-le, drop-append-le, take-append-drop}
 use Rattle.std.proofs.lemmas.List.Elements.{All-head, All-tail, All-weaker, All-push}
@@ -7,48 +7,45 @@ use Rattle.wire_frame.specs.Frame.{IsFrame}
 use Rattle.device.specs.declared.event.Event.{Event}
 use Rattle.script.specs.declared.record.Record.{Record}
 use Rattle.script.specs.declared.record.Record.TheVariants.{MemWrite, Wire}
-use Rattle.script.specs.declared.runs.Run.{Run}
-use Rattle.script.specs.declared.runs.Span.{Span}
-use Rattle.script.specs.Runs.{Grows, Kept, Lies, bytes_at, bytes_by, runs_at, taken_by}
+use Rattle.script.specs.declared.store.Span.{Span}
+use Rattle.script.specs.Bytes.{bytes_of}
+use Rattle.script.specs.Store.{Grows, Lies, bytes_at, or_none, part}
 use Rattle.script.specs.Records.{Fits, event_at}
-use Rattle.script.proofs.RunLemmas.{bytes_more}
 
 -- a list that grew is the old one and more
 longer : {A : Type 0} (xs ys : List A) → take (length xs) ys ≡ xs → ys ≡ xs ++ drop (length xs) ys
 longer {A} xs ys front = sym (take-append-drop (length xs) ys) ∙ ap (λ (zs : List A). zs ++ drop (length xs) ys) front
 
-runs_stay : (old new : Kept) (s : Span) → Grows old new → Lies old s → runs_at new s ≡ runs_at old s
-runs_stay old new s grown lies =
-    let inside = lies.runs in
-    let more : List Run = drop (length old.runs) new.runs in
-    ap (λ (rs : List Run). take s.count (drop s.first rs)) (longer old.runs new.runs grown.runs)
-    ∙ ap (take s.count) (drop-append-le s.first old.runs more (omega arith))
-    ∙ take-append-le s.count (drop s.first old.runs) more (let l = length-drop s.first old.runs in omega arith)
+part_stays : (old new : List ℕ) (s : Span) → Grows old new → s.at + s.count ≤ length old → part new s ≡ part old s
+part_stays old new s grown inside =
+    let more : List ℕ = drop (length old) new in
+    ap (λ (pool : List ℕ). take s.count (drop s.at pool)) (longer old new grown)
+    ∙ ap (take s.count) (drop-append-le s.at old more (omega arith))
+    ∙ take-append-le s.count (drop s.at old) more (let l = length-drop s.at old in omega arith)
 
-pub bytes_stay : (old new : Kept) (s : Span) → Grows old new → Lies old s → bytes_at new s ≡ bytes_at old s
-bytes_stay old new s grown lies =
-    let inside = lies.pool in
-    let more : List ℕ = drop (length old.pool) new.pool in
-    ap (λ (rs : List Run). bytes_by (drop s.at new.pool) rs) (runs_stay old new s grown lies)
-    ∙ ap (λ (pool : List ℕ). bytes_by (drop s.at pool) (runs_at old s)) (longer old.pool new.pool grown.pool)
-    ∙ ap (λ (pool : List ℕ). bytes_by pool (runs_at old s)) (drop-append-le s.at old.pool more (omega arith))
-    ∙ bytes_more (drop s.at old.pool) more (runs_at old s) (let l = length-drop s.at old.pool in omega arith)
+-- what a span has of a pool is what its bytes go by
+abbrev bytes_by : Span → List ℕ → List ℕ
+bytes_by s part = if s.is_word then or_none (bytes_of part) else part
 
-lies_still : (old new : Kept) (s : Span) → Grows old new → Lies old s → Lies new s
+pub bytes_stay : (old new : List ℕ) (s : Span) → Grows old new → Lies old s → bytes_at new s ≡ bytes_at old s
+bytes_stay old new s grown lies = ap (bytes_by s) (part_stays old new s grown lies.inside)
+
+lies_still : (old new : List ℕ) (s : Span) → Grows old new → Lies old s → Lies new s
 lies_still old new s grown lies =
-    let runs = lies.runs in
-    let pool = lies.pool in
-    let taken = ap taken_by (runs_stay old new s grown lies) in
-    let more_runs = ap (λ (xs : List Run). length xs) (longer old.runs new.runs grown.runs) ∙ length-append old.runs (drop (length old.runs) new.runs) in
-    let more_pool = ap (λ (xs : List ℕ). length xs) (longer old.pool new.pool grown.pool) ∙ length-append old.pool (drop (length old.pool) new.pool) in
-    record { runs = omega arith; pool = omega arith }
+    let inside = lies.inside in
+    let more = ap (λ (xs : List ℕ). length xs) (longer old new grown) ∙ length-append old (drop (length old) new) in
+    record {
+      inside = omega arith;
+      reads = λ is.
+          ap bytes_of (part_stays old new s grown inside) ∙ lies.reads is ∙ ap Some (sym (bytes_stay old new s grown lies));
+    }
 
-event_stays : (old new : Kept) (r : Record) → Grows old new → Fits old r → event_at new r ≡ event_at old r
+event_stays : (old new : List ℕ) (r : Record) → Grows old new → Fits old r → event_at new r ≡ event_at old r
 event_stays old new (MemWrite p at span) grown fits = ap (λ (bytes : List ℕ). Event.MemWrite p at bytes) (bytes_stay old new span grown fits.0)
 event_stays old new (Wire span) grown fits = ap (λ (bytes : List ℕ). Event.Wire bytes) (bytes_stay old new span grown fits.0)
 event_stays old new r grown fits = refl
 
-fits_still : (old new : Kept) → Grows old new → (r : Record) → Fits old r → Fits new r
+fits_still : (old new : List ℕ) → Grows old new → (r : Record) → Fits old r → Fits new r
 fits_still old new grown (MemWrite p at span) fits =
     let P : List ℕ → Type 0 = λ bytes. length bytes ≤ 2048 in
     (lies_still old new span grown fits.0, subst P (sym (bytes_stay old new span grown fits.0)) fits.1)
@@ -56,29 +53,29 @@ fits_still old new grown (Wire span) fits =
     (lies_still old new span grown fits.0, subst IsFrame (sym (bytes_stay old new span grown fits.0)) fits.1)
 fits_still old new grown r fits = tt
 
-pub all_fit : (old new : Kept) (rs rs' : List Record) → rs' ≡ rs → Grows old new → All (Fits old) rs → All (Fits new) rs'
+pub all_fit : (old new : List ℕ) (rs rs' : List Record) → rs' ≡ rs → Grows old new → All (Fits old) rs → All (Fits new) rs'
 all_fit old new rs rs' same grown all =
     let P : List Record → Type 0 = λ xs. All (Fits new) xs in
     subst P (sym same) (All-weaker (Fits old) (Fits new) (fits_still old new grown) rs all)
 
-events_on : (old new : Kept) (rs : List Record) → Grows old new → All (Fits old) rs → map (event_at new) rs ≡ map (event_at old) rs
+events_on : (old new : List ℕ) (rs : List Record) → Grows old new → All (Fits old) rs → map (event_at new) rs ≡ map (event_at old) rs
 events_on old new [] grown all = refl
 events_on old new (r ∷ rs) grown all =
     ap (λ e. e ∷ map (event_at new) rs) (event_stays old new r grown (All-head (Fits old) r rs all))
     ∙ ap (λ es. event_at old r ∷ es) (events_on old new rs grown (All-tail (Fits old) r rs all))
 
-pub events_stay : (old new : Kept) (rs rs' : List Record) → rs' ≡ rs → Grows old new → All (Fits old) rs
+pub events_stay : (old new : List ℕ) (rs rs' : List Record) → rs' ≡ rs → Grows old new → All (Fits old) rs
     → map (event_at new) rs' ≡ map (event_at old) rs
 events_stay old new rs rs' same grown all = ap (map (event_at new)) same ∙ events_on old new rs grown all
 
 -- one record more
-pub one_more : (old new : Kept) (rs rs' : List Record) (r : Record) → rs' ≡ rs ++ r ∷ [] → Grows old new → All (Fits old) rs
+pub one_more : (old new : List ℕ) (rs rs' : List Record) (r : Record) → rs' ≡ rs ++ r ∷ [] → Grows old new → All (Fits old) rs
     → map (event_at new) rs' ≡ map (event_at old) rs ++ event_at new r ∷ []
 one_more old new rs rs' r more grown all =
     ap (map (event_at new)) more ∙ map-append (event_at new) rs (r ∷ [])
     ∙ ap (λ (es : List Event). es ++ event_at new r ∷ []) (events_on old new rs grown all)
 
-pub one_more_fits : (old new : Kept) (rs rs' : List Record) (r : Record) → rs' ≡ rs ++ r ∷ [] → Grows old new → All (Fits old) rs → Fits new r
+pub one_more_fits : (old new : List ℕ) (rs rs' : List Record) (r : Record) → rs' ≡ rs ++ r ∷ [] → Grows old new → All (Fits old) rs → Fits new r
     → All (Fits new) rs'
 one_more_fits old new rs rs' r more grown all fits =
     let P : List Record → Type 0 = λ xs. All (Fits new) xs in

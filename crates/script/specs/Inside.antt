@@ -6,7 +6,7 @@ use Rattle.script.specs.declared.events.Events.TheInside.{Inside}
 use Rattle.script.specs.Records.{Fits, event_at}
 
 abbrev pub events_of : Inside → List Event
-events_of s = map (event_at s.runs) s.records.items
+events_of s = map (event_at s.store) s.records.items
 
 pub record IsKept (s : Inside) : Type 0 where
-  pub fit : All (Fits s.runs) s.records.items
+  pub fit : All (Fits s.store) s.records.items

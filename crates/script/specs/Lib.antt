@@ -1,11 +1,12 @@
 pub mod Bytes
 pub mod Inside
 pub mod Kinds
+pub mod Laid
 pub mod Lines
 pub mod Numbers
 pub mod Reading
 pub mod Records
-pub mod Runs
 pub mod Shapes
+pub mod Store
 pub mod Text
 pub mod Words

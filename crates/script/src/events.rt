@@ -9,7 +9,7 @@ use crate::fault::Refusal;
 use crate::kind::Kind;
 use crate::record::Record;
 use crate::room::Room;
-use crate::runs::Runs;
+use crate::store::Store;
 use crate::words::Words;
 use device::{MemSlice, Request};
 use std::alloc::Global;
@@ -20,7 +20,7 @@ use wire_frame::{FrameBuf, FrameLimit};
 #[derive(Drop)]
 pub struct Events {
     records: Vec<Record>,
-    runs: Runs,
+    store: Store,
 }
 
 impl Model for Events {
@@ -43,7 +43,7 @@ impl Events {
     {
         Events {
             records: Vec::new(alloc),
-            runs: Runs::new(alloc),
+            store: Store::new(alloc),
         }
     }
 
@@ -68,7 +68,7 @@ impl Events {
         ensures bad { IfErr result (λ e. e ≡ Refusal.BadLine → event_by limit kind words.entry ≡ None) }
         ensures err { OnErr result (self.new ≡ self.old) }
     {
-        let record = Record::of_line(kind, words, limit, &mut self.runs, room)?;
+        let record = Record::of_line(kind, words, limit, &mut self.store, room)?;
         self.records.push(record)?;
         Ok(())
     }
@@ -89,14 +89,14 @@ impl Events {
             Record::MemWrite(pool, at, span) => Request::MemWrite(
                 pool,
                 at,
-                few(self.runs.bytes(span, &mut room.bytes)),
+                few(self.store.bytes(span, &mut room.bytes)),
             ),
             Record::Serve(pool, queue) => Request::Serve(pool, queue),
             Record::PfRead(offset) => Request::PfRead(offset),
             Record::PfWrite(offset, value) => Request::PfWrite(offset, value),
             Record::PfReset => Request::PfReset,
             Record::Wire(span) => Request::Wire(framed(
-                self.runs.bytes(span, &mut room.bytes),
+                self.store.bytes(span, &mut room.bytes),
                 &mut room.frame,
             )),
         }

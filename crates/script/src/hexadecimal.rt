@@ -6,6 +6,9 @@ ghost use Rattle.script.specs.Bytes.{byte_of, pairs_of};
 // What stands for a byte that is no digit.
 const NO_DIGIT: u8 = 0xFF;
 
+// Fewer bytes than these are faster read one by one.
+const FEW: usize = 16;
+
 // The value of each byte as a hexadecimal digit of either case, and 255 where it is none.
 static VALUES: [u8; 256] = [
     255, 255, 255, 255, 255, 255, 255, 255, 255, 255, 255, 255, 255, 255, 255, 255, 255, 255, 255,
@@ -65,21 +68,55 @@ pub fn byte(high: u8, low: u8) -> Option<u8>
     }
 }
 
+// The value of a digit, with or without the table.
+#[inline(always)]
+fn value_by(is_one_of_many: bool, byte: u8) -> u8
+    ensures { result ≡ digit_value byte }
+{
+    if is_one_of_many {
+        digit(byte)
+    } else {
+        value(byte)
+    }
+}
+
 /// Writes the bytes that digits write two by two, and tells whether all of them are digits. Where one is none, it is left
 /// open what is written.
-#[inline(never)]
+#[inline]
 pub fn decode(digits: &[u8], out: &mut [u8]) -> bool
     requires { length digits.now ≡ 2 * length out.old }
     ensures { (if result then Some out.new else None) ≡ pairs_of digits.now }
 {
-    // There is no exit from the loop where a digit is none, for the same reason.
+    if out.len() < FEW {
+        decode_by(false, digits, out)
+    } else {
+        decode_many(digits, out)
+    }
+}
+
+// The same, of many.
+#[inline(never)]
+fn decode_many(digits: &[u8], out: &mut [u8]) -> bool
+    requires { length digits.now ≡ 2 * length out.old }
+    ensures { (if result then Some out.new else None) ≡ pairs_of digits.now }
+{
+    decode_by(true, digits, out)
+}
+
+// The same, of many or few.
+#[inline(always)]
+fn decode_by(are_many: bool, digits: &[u8], out: &mut [u8]) -> bool
+    requires { length digits.now ≡ 2 * length out.old }
+    ensures { (if result then Some out.new else None) ≡ pairs_of digits.now }
+{
+    // There is no exit from the loop where a digit is none: in this form it is done for many digits at once.
     let mut greatest = 0;
     let mut rest = digits;
     for byte in out.iter_mut() {
         let [high, low, after @ ..] = rest else {
             unreachable!();
         };
-        let (high, low) = (digit(*high), digit(*low));
+        let (high, low) = (value_by(are_many, *high), value_by(are_many, *low));
         greatest = greatest.max(high).max(low);
         *byte = high.wrapping_mul(16).wrapping_add(low);
         rest = after;

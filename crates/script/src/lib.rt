@@ -5,6 +5,7 @@
 //! asked for, in a [`Room`] that is lent. The crate stands on `device`.
 #![tactic(auto)]
 
+mod chunks;
 mod events;
 pub mod fault;
 mod hexadecimal;
@@ -13,9 +14,9 @@ mod numbers;
 mod reader;
 mod record;
 pub mod room;
-mod runs;
 pub mod script;
 pub mod shape;
+mod store;
 #[cfg(test)]
 mod tests;
 mod text;

@@ -124,7 +124,7 @@ impl Reader {
     {
         let mut rest = text;
         loop {
-            let (line, after) = cut(b'\n', rest);
+            let (line, after) = cut(0, b'\n', rest);
             match after {
                 Some(after) => {
                     self.line(line, room)?;

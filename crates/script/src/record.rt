@@ -1,22 +1,25 @@
 //! The events of a script as they are kept, and as lines say them.
-ghost use Rattle.std.specs.Prelude.{◌≡◌, [], ◌∷◌, Some, None, IfOk, IfErr};
+ghost use Rattle.std.specs.Prelude.{◌≡◌, ◌≤◌, [], ◌∷◌, length, Some, None, IfOk, IfErr, MatchResult, option_and_then};
+ghost use Rattle.wire_frame.specs.Frame.{is_frame};
 ghost use Rattle.script.specs.declared.kind.Kind.TheVariants.{Wire};
+ghost use Rattle.script.specs.Bytes.{bytes_of, few};
 ghost use Rattle.script.specs.Lines.{event_by};
 ghost use Rattle.script.specs.Records.{Fits, event_at};
-ghost use Rattle.script.specs.Runs.{Grows};
+ghost use Rattle.script.specs.Store.{Grows};
 
+use crate::chunks::{MOST_BYTES, lay_word};
 use crate::fault::Refusal;
 use crate::kind::Kind;
 use crate::room::Room;
-use crate::runs::{Runs, Span};
-use crate::words::{Words, address, length, pool, queue, register};
+use crate::store::{Span, Store};
+use crate::words::{Words, length, pool, queue, register};
 use device::Queue;
 use wire_frame::FrameLimit;
 
 /// The most bytes of one memory write.
 const MOST_WRITTEN: u16 = 2048;
 
-/// An event of a script. It is what the device knows as an event, but for the bytes, which stand in the script's runs.
+/// An event of a script. It is what the device knows as an event, but for the bytes, which stand in the script's store.
 #[derive(Clone, Copy)]
 pub enum Record {
     /// Open a virtual function.
@@ -46,51 +49,52 @@ pub enum Record {
 }
 
 impl Record {
-    /// The event of a line of this kind, by the words after its name. Its bytes are kept in `runs`; frames may be as long as
-    /// the limit, and are tried in `room`.
+    /// The event of a line of this kind, by the words after its name. Its bytes are kept in `store`; frames may be as long as
+    /// the limit. The bytes are read in `room`.
     pub fn of_line(
         kind: Kind,
         words: Words<'_>,
         limit: FrameLimit,
-        runs: &mut Runs,
+        store: &mut Store,
         room: &mut Room,
     ) -> Result<Record, Refusal>
-        ensures event { IfOk result (λ made. event_by limit kind words.entry ≡ Some (event_at runs.new made)) }
+        ensures event { IfOk result (λ made. event_by limit kind words.entry ≡ Some (event_at store.new made)) }
         ensures bad { IfErr result (λ e. e ≡ Refusal.BadLine → event_by limit kind words.entry ≡ None) }
-        ensures fits { IfOk result (λ made. Fits runs.new made) }
-        ensures grown { Grows runs.old runs.new }
+        ensures fits { IfOk result (λ made. Fits store.new made) }
+        ensures grown { Grows store.old store.new }
     {
         Ok(match kind {
-            Kind::Wire => Record::wire(words.one()?, limit, runs, room)?,
+            Kind::Wire => Record::wire(words.one()?, limit, store, room)?,
             Kind::VfRead => {
-                let (p, at) = words.two()?;
+                let (p, at) = words.two_numbers()?;
                 Record::VfRead(pool(p)?, register(at)?)
             }
             Kind::VfWrite => {
-                let (p, at, value) = words.three()?;
+                let (p, at, value) = words.three_numbers()?;
                 Record::VfWrite(pool(p)?, register(at)?, register(value)?)
             }
             Kind::Serve => {
-                let (p, q) = words.two()?;
+                let (p, q) = words.two_numbers()?;
                 Record::Serve(pool(p)?, queue(q)?)
             }
             Kind::MemRead => {
-                let (p, at, count) = words.three()?;
-                Record::MemRead(pool(p)?, address(at)?, length(count)?)
+                let (p, at, count) = words.three_numbers()?;
+                Record::MemRead(pool(p)?, at, length(count)?)
             }
             Kind::MemWrite => {
-                let (p, at, hex) = words.three()?;
-                let (pool, address) = (pool(p)?, address(at)?);
-                Record::MemWrite(pool, address, runs.keep(hex, MOST_WRITTEN)?)
+                let (p, at, hex) = words.two_numbers_and_word()?;
+                let pool = pool(p)?;
+                let bytes = read(hex, MOST_WRITTEN, &mut room.bytes)?;
+                Record::MemWrite(pool, at, store.keep(hex, bytes)?)
             }
-            Kind::PfRead => Record::PfRead(register(words.one()?)?),
+            Kind::PfRead => Record::PfRead(register(words.one_number()?)?),
             Kind::PfWrite => {
-                let (at, value) = words.two()?;
+                let (at, value) = words.two_numbers()?;
                 Record::PfWrite(register(at)?, register(value)?)
             }
-            Kind::Open => Record::Open(pool(words.one()?)?),
-            Kind::End => Record::End(pool(words.one()?)?),
-            Kind::Flr => Record::Flr(pool(words.one()?)?),
+            Kind::Open => Record::Open(pool(words.one_number()?)?),
+            Kind::End => Record::End(pool(words.one_number()?)?),
+            Kind::Flr => Record::Flr(pool(words.one_number()?)?),
             Kind::PfReset => {
                 words.none()?;
                 Record::PfReset
@@ -102,20 +106,41 @@ impl Record {
     fn wire(
         hex: &[u8],
         limit: FrameLimit,
-        runs: &mut Runs,
+        store: &mut Store,
         room: &mut Room,
     ) -> Result<Record, Refusal>
-        ensures event { IfOk result (λ made. event_by limit Wire (hex.now ∷ []) ≡ Some (event_at runs.new made)) }
+        ensures event { IfOk result (λ made. event_by limit Wire (hex.now ∷ []) ≡ Some (event_at store.new made)) }
         ensures bad { IfErr result (λ e. e ≡ Refusal.BadLine → event_by limit Wire (hex.now ∷ []) ≡ None) }
-        ensures fits { IfOk result (λ made. Fits runs.new made) }
-        ensures grown { Grows runs.old runs.new }
+        ensures fits { IfOk result (λ made. Fits store.new made) }
+        ensures grown { Grows store.old store.new }
     {
-        let span = runs.keep(hex, limit.get())?;
-        let bytes = runs.bytes(span, &mut room.bytes);
-        if room.frame.refill(bytes, limit) {
-            Ok(Record::Wire(span))
-        } else {
-            Err(Refusal::BadLine)
+        let bytes = read(hex, limit.get(), &mut room.bytes)?;
+        if !is_frame(bytes) {
+            return Err(Refusal::BadLine);
         }
+        Ok(Record::Wire(store.keep(hex, bytes)?))
     }
+}
+
+// The bytes that a word writes, at most `most`, laid out in `room`.
+#[inline]
+fn read<'a>(word: &[u8], most: u16, room: &'a mut [u8; MOST_BYTES]) -> Result<&'a [u8], Refusal>
+    requires { most ≤ 9018 }
+    ensures { MatchResult result (λ bytes. (bytes_of word.now ≡ Some bytes.now) × (length bytes.now ≤ most))
+        (λ e. (e ≡ Refusal.BadLine) × (option_and_then (few most) (bytes_of word.now) ≡ None)) }
+{
+    let part = &mut room[..usize::from(most)];
+    match lay_word(word, part) {
+        Some(count) => Ok(&part[..count]),
+        None => Err(Refusal::BadLine),
+    }
+}
+
+// Whether so many bytes as a frame may have are one.
+#[inline]
+fn is_frame(bytes: &[u8]) -> bool
+    ensures { result ≡ is_frame (length bytes.now) bytes.now }
+{
+    let len = bytes.len();
+    len >= 18 || len >= 14 && (bytes[12] != 0x81 || bytes[13] != 0)
 }

@@ -1,6 +1,6 @@
 //! Where the bytes of one event are laid out.
 
-use crate::runs::MOST_BYTES;
+use crate::chunks::MOST_BYTES;
 use wire_frame::FrameBuf;
 
 /// Room for the bytes and the frame of one request of a [`Script`](crate::Script): some 18 KB, to be made once and lent to

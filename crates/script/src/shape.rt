@@ -5,7 +5,7 @@ ghost use Rattle.script.specs.Reading.{limit_of};
 
 use crate::fault::Refusal;
 use crate::numbers::number;
-use crate::words::{Words, address, up_to};
+use crate::words::{Words, size, up_to};
 use guest_memory::is_memory_size;
 use wire_frame::FrameLimit;
 
@@ -32,9 +32,9 @@ impl Shape {
         ensures { MatchResult result (λ shape. device_of words.entry ≡ Some (asked_by shape))
             (λ e. (e ≡ Refusal.BadLine) × (device_of words.entry ≡ None)) }
     {
-        let (functions, size, limit) = words.two_or_three()?;
+        let (functions, bytes, limit) = words.two_or_three()?;
         let functions = up_to(64, functions)? as u8;
-        let memory_size = address(size)?;
+        let memory_size = size(bytes)?;
         let limit = frame_limit(limit)?;
         if functions == 0 || !is_memory_size(memory_size) {
             return Err(Refusal::BadLine);

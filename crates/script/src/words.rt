@@ -1,13 +1,17 @@
 //! The words of a line, and the numbers that they write.
 ghost use Rattle.std.specs.Prelude.{◌≡◌, ◌≤◌, ◌∷◌, [], length, slice_index, Some, None, MatchOption, MatchResult, ok_or, option_copied};
 ghost use Rattle.script.specs.Numbers.{number_of};
-ghost use Rattle.script.specs.Words.{address_of, at_most, length_of, none_of, one_of, pool_of, queue_of, register_of, three_of, two_of, two_or_three_of, words_of};
+ghost use Rattle.script.specs.Words.{NotOne, NotThree, NotTwo, NotTwoAnd, One, Reads, ReadsNone, Three, Two, TwoAnd};
+ghost use Rattle.script.specs.Words.{at_most, none_of, one_of, queue_by, two_or_three_of, words_of};
 
 use crate::fault::Refusal;
-use crate::numbers::number;
+use crate::numbers::{first_number, number};
 use crate::text::place;
 use device::Queue;
 use std::marker::Model;
+
+// How many bytes of a word are looked at one by one for its end: most words are shorter.
+const FEW: usize = 16;
 
 /// What is left of a line, seen as the list of its words. They are parted by one or more spaces.
 #[derive(Drop)]
@@ -35,8 +39,17 @@ impl<'a> Words<'a> {
 
     /// The next word, if there is one.
     #[inline]
-    #[tactic(auto, using(crate::proofs::WordLemmas::first_word))]
     pub fn next(&mut self) -> Option<&'a [u8]>
+        ensures { MatchOption result ((self.old ≡ []) × (self.new ≡ []))
+            (λ word. self.old ≡ word.now ∷ self.new) }
+    {
+        self.next_by(FEW)
+    }
+
+    // The same, where the first `few` bytes of the word are looked at one by one.
+    #[inline]
+    #[tactic(auto, using(crate::proofs::WordLemmas::first_word))]
+    fn next_by(&mut self, few: usize) -> Option<&'a [u8]>
         ensures { MatchOption result ((self.old ≡ []) × (self.new ≡ []))
             (λ word. self.old ≡ word.now ∷ self.new) }
     {
@@ -45,7 +58,7 @@ impl<'a> Words<'a> {
             self.rest = text;
             return None;
         }
-        let (word, rest) = text.split_at(place(b' ', text));
+        let (word, rest) = text.split_at(place(few, b' ', text));
         self.rest = rest;
         Some(word)
     }
@@ -60,40 +73,104 @@ impl<'a> Words<'a> {
         }
     }
 
-    /// The one word that is left.
+    /// The one word that is left. It is looked for as a long one.
+    #[inline]
     pub fn one(mut self) -> Result<&'a [u8], Refusal>
         ensures { MatchResult result (λ word. one_of self.entry ≡ Some word.now)
             (λ e. (e ≡ Refusal.BadLine) × (one_of self.entry ≡ None)) }
     {
-        let Some(word) = self.next() else {
+        let Some(word) = self.next_by(0) else {
             return Err(Refusal::BadLine);
         };
         self.none()?;
         Ok(word)
     }
 
-    /// The two words that are left.
-    pub fn two(mut self) -> Result<(&'a [u8], &'a [u8]), Refusal>
-        ensures { MatchResult result (λ words. two_of self.entry ≡ Some (words.0.now, words.1.now))
-            (λ e. (e ≡ Refusal.BadLine) × (two_of self.entry ≡ None)) }
+    /// The number that the next word writes. None where that is none, and where there is no word.
+    #[inline]
+    pub fn number(&mut self) -> Option<u64>
+        ensures { MatchOption result (ReadsNone self.old) (λ n. Reads self.old n self.new) }
     {
-        let Some(first) = self.next() else {
+        let text = past_spaces(self.rest);
+        self.rest = text;
+        if let Some((number, rest)) = first_number(text) {
+            self.rest = rest;
+            return Some(number);
+        }
+        self.word_number()
+    }
+
+    // The same, by the word.
+    #[inline(never)]
+    #[tactic(auto, using(crate::proofs::NumberLemmas::no_word, crate::proofs::NumberLemmas::no_number))]
+    fn word_number(&mut self) -> Option<u64>
+        ensures { MatchOption result (ReadsNone self.old) (λ n. Reads self.old n self.new) }
+    {
+        let Some(word) = self.next() else {
+            return None;
+        };
+        number(word)
+    }
+
+    /// The one number that is left.
+    #[inline]
+    #[tactic(auto, using(crate::proofs::NumberLemmas::one_first, crate::proofs::NumberLemmas::one_more, crate::proofs::NumberLemmas::one_read))]
+    pub fn one_number(mut self) -> Result<u64, Refusal>
+        ensures { MatchResult result (λ n. One self.entry n) (λ e. (e ≡ Refusal.BadLine) × NotOne self.entry) }
+    {
+        let Some(number) = self.number() else {
             return Err(Refusal::BadLine);
         };
-        let second = self.one()?;
+        self.none()?;
+        Ok(number)
+    }
+
+    /// The two numbers that are left.
+    #[inline]
+    #[tactic(auto, using(crate::proofs::NumberLemmas::two_first, crate::proofs::NumberLemmas::two_more, crate::proofs::NumberLemmas::two_read))]
+    pub fn two_numbers(mut self) -> Result<(u64, u64), Refusal>
+        ensures { MatchResult result (λ ns. Two self.entry ns.0 ns.1) (λ e. (e ≡ Refusal.BadLine) × NotTwo self.entry) }
+    {
+        let Some(first) = self.number() else {
+            return Err(Refusal::BadLine);
+        };
+        let Ok(second) = self.one_number() else {
+            return Err(Refusal::BadLine);
+        };
         Ok((first, second))
     }
 
-    /// The three words that are left.
-    pub fn three(mut self) -> Result<(&'a [u8], &'a [u8], &'a [u8]), Refusal>
-        ensures { MatchResult result (λ words. three_of self.entry ≡ Some (words.0.now, (words.1.now, words.2.now)))
-            (λ e. (e ≡ Refusal.BadLine) × (three_of self.entry ≡ None)) }
+    /// The three numbers that are left.
+    #[inline]
+    #[tactic(auto, using(crate::proofs::NumberLemmas::three_first, crate::proofs::NumberLemmas::three_more, crate::proofs::NumberLemmas::three_read))]
+    pub fn three_numbers(mut self) -> Result<(u64, u64, u64), Refusal>
+        ensures { MatchResult result (λ ns. Three self.entry ns.0 ns.1 ns.2)
+            (λ e. (e ≡ Refusal.BadLine) × NotThree self.entry) }
     {
-        let Some(first) = self.next() else {
+        let Some(first) = self.number() else {
             return Err(Refusal::BadLine);
         };
-        let (second, third) = self.two()?;
+        let Ok((second, third)) = self.two_numbers() else {
+            return Err(Refusal::BadLine);
+        };
         Ok((first, second, third))
+    }
+
+    /// The two numbers that are left, and a word after them.
+    #[inline]
+    #[tactic(auto, using(crate::proofs::NumberLemmas::and_first, crate::proofs::NumberLemmas::and_second, crate::proofs::NumberLemmas::and_more, crate::proofs::NumberLemmas::and_read))]
+    pub fn two_numbers_and_word(mut self) -> Result<(u64, u64, &'a [u8]), Refusal>
+        ensures { MatchResult result (λ all. TwoAnd self.entry all.0 all.1 all.2.now)
+            (λ e. (e ≡ Refusal.BadLine) × NotTwoAnd self.entry) }
+    {
+        let Some(first) = self.number() else {
+            return Err(Refusal::BadLine);
+        };
+        let Some(second) = self.number() else {
+            return Err(Refusal::BadLine);
+        };
+        let word = self.one()?;
+        Ok((first, second, word))
     }
 
     /// The two or three words that are left.
@@ -133,40 +210,56 @@ pub fn up_to(most: u64, word: &[u8]) -> Result<u64, Refusal>
     }
 }
 
-/// A pool: a number of 8 bits.
-pub fn pool(word: &[u8]) -> Result<u8, Refusal>
-    ensures { result ≡ ok_or (pool_of word.now) Refusal.BadLine }
+/// A number that must not be above `most`.
+#[inline]
+fn at_most(most: u64, number: u64) -> Result<u64, Refusal>
+    ensures { result ≡ ok_or (at_most most (Some number)) Refusal.BadLine }
 {
-    Ok(up_to(0xFF, word)? as u8)
+    if number <= most {
+        Ok(number)
+    } else {
+        Err(Refusal::BadLine)
+    }
+}
+
+/// A pool: a number of 8 bits.
+#[inline]
+pub fn pool(number: u64) -> Result<u8, Refusal>
+    ensures { result ≡ ok_or (at_most 0xFF (Some number)) Refusal.BadLine }
+{
+    Ok(at_most(0xFF, number)? as u8)
 }
 
 /// A length in bytes: a number of 16 bits.
-pub fn length(word: &[u8]) -> Result<u16, Refusal>
-    ensures { result ≡ ok_or (length_of word.now) Refusal.BadLine }
+#[inline]
+pub fn length(number: u64) -> Result<u16, Refusal>
+    ensures { result ≡ ok_or (at_most 0xFFFF (Some number)) Refusal.BadLine }
 {
-    Ok(up_to(0xFFFF, word)? as u16)
+    Ok(at_most(0xFFFF, number)? as u16)
 }
 
 /// An offset or the value of a register: a number of 32 bits.
-pub fn register(word: &[u8]) -> Result<u32, Refusal>
-    ensures { result ≡ ok_or (register_of word.now) Refusal.BadLine }
+#[inline]
+pub fn register(number: u64) -> Result<u32, Refusal>
+    ensures { result ≡ ok_or (at_most 0xFFFF_FFFF (Some number)) Refusal.BadLine }
 {
-    Ok(up_to(0xFFFF_FFFF, word)? as u32)
-}
-
-/// An address: a number of 64 bits.
-pub fn address(word: &[u8]) -> Result<u64, Refusal>
-    ensures { result ≡ ok_or (address_of word.now) Refusal.BadLine }
-{
-    number(word).ok_or(Refusal::BadLine)
+    Ok(at_most(0xFFFF_FFFF, number)? as u32)
 }
 
 /// A queue: 0 or 1.
-pub fn queue(word: &[u8]) -> Result<Queue, Refusal>
-    ensures { result ≡ ok_or (queue_of word.now) Refusal.BadLine }
+#[inline]
+pub fn queue(number: u64) -> Result<Queue, Refusal>
+    ensures { result ≡ ok_or (queue_by (at_most 1 (Some number))) Refusal.BadLine }
 {
-    match up_to(1, word)? {
+    match at_most(1, number)? {
         0 => Ok(Queue::Q0),
         _ => Ok(Queue::Q1),
     }
+}
+
+/// A number of 64 bits that a word writes, as the size of a memory.
+pub fn size(word: &[u8]) -> Result<u64, Refusal>
+    ensures { result ≡ ok_or (number_of word.now) Refusal.BadLine }
+{
+    number(word).ok_or(Refusal::BadLine)
 }

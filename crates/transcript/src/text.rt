@@ -90,6 +90,7 @@ pub fn push_bytes_reply(held: &mut Vec<u8>, bytes: &[u8]) -> Result<(), Fault>
 }
 
 /// The words of a reply that is no bytes of a memory, each after a space.
+#[inline]
 #[tactic(auto, unfolding(crate::specs::Text::reply_text))]
 pub fn push_plain_reply(held: &mut Vec<u8>, outcome: Outcome) -> Result<(), Fault>
     requires { reads outcome ≡ false }
@@ -128,16 +129,19 @@ pub fn push_marks(held: &mut Vec<u8>, messages: &Messages) -> Result<(), Fault>
     Ok(())
 }
 
-/// A pool's mark, unless it got no message.
-#[tactic(auto, unfolding(crate::specs::Text::mark_text))]
+/// A pool's mark, unless it got no message. Pools have one digit or two, sets of vectors one.
+#[inline]
+#[tactic(auto, unfolding(crate::specs::Text::mark_text), using(std::proofs::lemmas::Fmt::decimal_digit, itoa::proofs::Decimal::decimal_two))]
 pub fn push_mark(held: &mut Vec<u8>, pool: PoolId, vectors: Vectors) -> Result<(), Fault>
     ensures { OnOk result (held.new.items ≡ held.old.items ++ mark_text pool vectors) }
 {
     if vectors.is_empty() {
         return Ok(());
     }
-    push_bytes(held, b" !")?;
-    push_decimal(held, u64::from(pool.get()))?;
-    push_bytes(held, b":")?;
-    push_decimal(held, u64::from(vectors.bits()))
+    let (pool, set) = (pool.get(), b'0' + vectors.bits());
+    if pool < 10 {
+        return push_bytes(held, &[b' ', b'!', b'0' + pool, b':', set]);
+    }
+    let (tens, ones) = (pool / 10, pool % 10);
+    push_bytes(held, &[b' ', b'!', b'0' + tens, b'0' + ones, b':', set])
 }

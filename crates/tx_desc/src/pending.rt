@@ -1,5 +1,5 @@
 //! The frame that is being sent, as far as it is gathered.
-ghost use Rattle.std.specs.Prelude.{◌≡◌, ℕ, ◌+◌, ◌≤◌, [], length, slice_range, if◌then◌else◌};
+ghost use Rattle.std.specs.Prelude.{◌≡◌, ◌↔◌, IsTrue, ℕ, ◌+◌, ◌≤◌, [], length, slice_range, if◌then◌else◌};
 ghost use Rattle.tx_desc.specs.Transmit.{Gathering, Gathered, Overlong, joined, ended, refuses};
 ghost use Rattle.tx_desc.specs.Lent.{lent_after};
 ghost use Rattle.tx_desc.specs.declared.outcome.Fetched.TheVariants.{Frame, Dropped};
@@ -56,6 +56,14 @@ impl Pending {
     {
         self.len = 0;
         self.is_overlong = false;
+    }
+
+    // Whether nothing is gathered.
+    #[inline]
+    pub(crate) fn is_empty(&self) -> bool
+        ensures { IsTrue result ↔ (self.now ≡ Gathered []) }
+    {
+        self.len == 0 && !self.is_overlong
     }
 
     // Joins the `size` bytes of the memory from `at` on, unless there are more than `limit` then.

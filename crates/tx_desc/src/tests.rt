@@ -58,9 +58,17 @@ fn memory_of(
 fn ring_of(tail: u32) -> Ring
     ensures { LiesInside 65536 result }
 {
+    ring_at(RING as u32, 0, tail)
+}
+
+/// The same, from another address on and from another head.
+fn ring_at(base: u32, head: u32, tail: u32) -> Ring
+    ensures { LiesInside 65536 result }
+{
     let mut ring = Ring::new();
-    ring.write(RingRegister::BaseLow, RING as u32);
+    ring.write(RingRegister::BaseLow, base);
     ring.write(RingRegister::Length, 128);
+    ring.write(RingRegister::Head, head);
     ring.set_tail(tail);
     ring.try_enable(SIZE);
     ring
@@ -237,6 +245,70 @@ fn pending_bytes(rt: HostRuntime) -> Result<(), Fail> {
         );
         assert_eq!(rt; second.outcome, Progress::Ended);
         assert!(rt; is_padded(&frame, start, len), "of {len}");
+    }
+    Ok(())
+}
+
+/// Where the ring of eight begins and its head, and where the descriptor at the head and the 60 bytes of a frame stand: at the
+/// borders of pages of 4096 bytes, and of the memory. The lent frame is shorter, as long, and longer.
+#[test]
+fn page_borders(rt: HostRuntime) -> Result<(), Fail> {
+    for (base, head, at, buffer, lent) in [
+        // the ring and the bytes end with a page, or begin one
+        (0x1F80, 7, 0x1FF0, 0x5FC4, 59),
+        (0x2000, 0, 0x2000, 0x6000, 60),
+        // the ring ends with the memory, and the bytes go over a border
+        (0xFF80, 7, 0xFFF0, 0x5FE0, 61),
+        (0xFF80, 6, 0xFFE0, 0x5FFF, 64),
+        (0xFF80, 5, 0xFFD0, 0x5FC5, 64),
+    ] {
+        let mut memory = FlatMem::new(rt.alloc(), SIZE)?;
+        assert_eq!(rt; memory.size(), 65536);
+        assert!(rt; at <= SIZE - 16 && buffer <= SIZE - 18);
+        write_bytes(&mut memory, buffer, &PLAIN);
+        write_words(&mut memory, at, buffer, 0x2930_003C);
+        let mut ring = ring_at(base, head, (head + 1) % 8);
+        let mut pending = Pending::new();
+        let other = [0xFF; 64];
+        let mut frame = FrameBuf::from_bytes(&other[..lent.min(64)])?;
+        let rule = PortVlan::Descriptor;
+        let limit = FrameLimit::standard();
+        let served = fetch_into(
+            &mut memory,
+            &mut ring,
+            &mut pending,
+            &mut frame,
+            rule,
+            limit,
+        );
+        assert_eq!(rt; served.outcome, Progress::Ended, "{buffer:x}");
+        assert!(rt; is_padded(&frame, PLAIN, 60), "{buffer:x}");
+        assert_eq!(rt; memory.size(), 65536);
+        assert_eq!(rt; read_word(&memory, at + 8), 0x1_2930_003C, "{buffer:x}");
+    }
+    Ok(())
+}
+
+/// Bytes that are no frame leave the lent one as it was: a tag with nothing behind it, and more than the limit.
+#[test]
+fn no_frame_leaves_the_lent_one(rt: HostRuntime) -> Result<(), Fail> {
+    for word in [0x2930_0011, 0x2930_05EF] {
+        let mut memory = memory_of(&rt, rt.alloc(), TAGGED_5, FIRST, word)?;
+        let mut ring = ring_of(1);
+        let mut pending = Pending::new();
+        let mut frame = FrameBuf::from_bytes(&[0xFF; 1600])?;
+        let rule = PortVlan::Descriptor;
+        let limit = FrameLimit::standard();
+        let served = fetch_into(
+            &mut memory,
+            &mut ring,
+            &mut pending,
+            &mut frame,
+            rule,
+            limit,
+        );
+        assert_eq!(rt; served.outcome, Progress::Dropped, "{word:x}");
+        assert_eq!(rt; frame.bytes(), [0xFF; 1600].as_slice(), "{word:x}");
     }
     Ok(())
 }

@@ -12,9 +12,9 @@ use crate::registers::{Queue, Register, register_of};
 use guest_memory::{GuestMem, read_bytes, write_bytes};
 use irq_causes::Causes;
 use rings::RingRegister;
-use rx_desc::{Placed, RxConfig, place};
+use rx_desc::{Placed, RxConfig, place_within};
 use std::marker::Model;
-use tx_desc::{Progress, Served, fetch_into};
+use tx_desc::{Progress, Served, fetch_within};
 use wire_frame::{FrameBuf, FrameLimit, PortVlan, has_bit};
 
 /// What a service gave: what came of it, and the messages that it issued.
@@ -29,26 +29,29 @@ pub struct Service {
 /// A virtual function that is open, over its memory.
 #[derive(Drop)]
 pub struct OpenVf<M: GuestMem> {
+    // what a frame that comes concerns stands side by side
     memory: M,
+    memory_size: u64,
     receive_0: ReceiveQueue,
+    causes: Causes,
+    queue_vectors: u32,
+    frames_received: u32,
+    frames_sent: u32,
+    other_vector: u32,
     receive_1: ReceiveQueue,
     transmit_0: TransmitQueue,
     transmit_1: TransmitQueue,
-    causes: Causes,
-    queue_vectors: u32,
-    other_vector: u32,
-    frames_received: u32,
-    frames_sent: u32,
 }
 
 impl<M: GuestMem> Model for OpenVf<M> {
+    ghost use Rattle.std.specs.Prelude.{◌≡◌, length};
     ghost use Rattle.vf_unit.specs.Function.{State, IsTied};
 
     ghost Value = { State };
 
     ghost view = { λ f. record { memory = M.bytes f.memory; receive_0 = f.receive_0; receive_1 = f.receive_1; transmit_0 = f.transmit_0; transmit_1 = f.transmit_1; causes = f.causes; queue_vectors = f.queue_vectors; other_vector = f.other_vector; frames_received = f.frames_received; frames_sent = f.frames_sent } };
 
-    ghost invariant = { λ f. IsTied (record { memory = M.bytes f.memory; receive_0 = f.receive_0; receive_1 = f.receive_1; transmit_0 = f.transmit_0; transmit_1 = f.transmit_1; causes = f.causes; queue_vectors = f.queue_vectors; other_vector = f.other_vector; frames_received = f.frames_received; frames_sent = f.frames_sent }) };
+    ghost invariant = { λ f. (f.memory_size ≡ length (M.bytes f.memory)) × IsTied (record { memory = M.bytes f.memory; receive_0 = f.receive_0; receive_1 = f.receive_1; transmit_0 = f.transmit_0; transmit_1 = f.transmit_1; causes = f.causes; queue_vectors = f.queue_vectors; other_vector = f.other_vector; frames_received = f.frames_received; frames_sent = f.frames_sent }) };
 }
 
 impl<M: GuestMem> OpenVf<M> {
@@ -56,8 +59,10 @@ impl<M: GuestMem> OpenVf<M> {
     pub fn new(memory: M) -> OpenVf<M>
         ensures { result ≡ initial (M.bytes memory) }
     {
+        let memory_size = memory.size();
         OpenVf {
             memory,
+            memory_size,
             receive_0: ReceiveQueue::new(),
             receive_1: ReceiveQueue::new(),
             transmit_0: TransmitQueue::new(),
@@ -203,7 +208,7 @@ impl<M: GuestMem> OpenVf<M> {
         ensures state { self.new ≡ with_receive self.old queue (receive_switched (length self.old.memory) (receive_of self.old queue) x) }
         ensures size { length self.new.memory ≡ length self.old.memory }
     {
-        let memory_size = self.memory.size();
+        let memory_size = self.memory_size;
         match queue {
             Queue::Q0 => self.receive_0.write_control(x, memory_size),
             Queue::Q1 => self.receive_1.write_control(x, memory_size),
@@ -226,7 +231,7 @@ impl<M: GuestMem> OpenVf<M> {
         ensures state { self.new ≡ with_transmit self.old queue (transmit_switched (length self.old.memory) (transmit_of self.old queue) x) }
         ensures size { length self.new.memory ≡ length self.old.memory }
     {
-        let memory_size = self.memory.size();
+        let memory_size = self.memory_size;
         match queue {
             Queue::Q0 => self.transmit_0.write_control(x, memory_size),
             Queue::Q1 => self.transmit_1.write_control(x, memory_size),
@@ -234,6 +239,7 @@ impl<M: GuestMem> OpenVf<M> {
     }
 
     /// Places a frame in receive queue 0; the messages that this issues. `loopback` says that another pool sent it.
+    #[inline]
     #[tactic(auto, unfolding(crate::specs::Function::delivered))]
     pub fn deliver(&mut self, frame: &FrameBuf, loopback: bool) -> u8
         ensures state { self.new ≡ (delivered loopback frame.now self.old).state }
@@ -245,8 +251,9 @@ impl<M: GuestMem> OpenVf<M> {
             buffer_size: 1024 * (self.receive_0.buffers % 32) as usize,
             strip_tag: self.receive_0.strips_tag,
         };
-        let placed = place(
+        let placed = place_within(
             &mut self.memory,
+            self.memory_size,
             &mut self.receive_0.ring,
             &config,
             frame,
@@ -307,16 +314,18 @@ impl<M: GuestMem> OpenVf<M> {
         ensures size { length self.new.memory ≡ length self.old.memory }
     {
         match queue {
-            Queue::Q0 => fetch_into(
+            Queue::Q0 => fetch_within(
                 &mut self.memory,
+                self.memory_size,
                 &mut self.transmit_0.ring,
                 &mut self.transmit_0.pending,
                 frame,
                 rule,
                 limit,
             ),
-            Queue::Q1 => fetch_into(
+            Queue::Q1 => fetch_within(
                 &mut self.memory,
+                self.memory_size,
                 &mut self.transmit_1.ring,
                 &mut self.transmit_1.pending,
                 frame,
@@ -339,7 +348,7 @@ impl<M: GuestMem> OpenVf<M> {
     pub fn memory_size(&self) -> u64
         ensures { result ≡ length self.now.memory }
     {
-        self.memory.size()
+        self.memory_size
     }
 
     /// Copies bytes of the memory.

@@ -13,8 +13,8 @@ use wire_frame::{FrameBuf, FrameLimit, PortVlan};
 /// A virtual function, closed or open. Each call says what it does to one that is open; a closed one stays as it is.
 #[derive(Drop)]
 pub struct VfUnit<M: GuestMem> {
-    inner: OpenVf<M>,
     is_open: bool,
+    inner: OpenVf<M>,
 }
 
 impl<M: GuestMem> Model for VfUnit<M> {
@@ -109,6 +109,7 @@ impl<M: GuestMem> VfUnit<M> {
     }
 
     /// Places a frame in receive queue 0; the messages that this issues. `loopback` says that another pool sent it.
+    #[inline]
     pub fn deliver(&mut self, frame: &FrameBuf, loopback: bool) -> u8
         ensures function { self.new ≡ (given loopback frame.now self.old).function }
         ensures messages { result ≡ (given loopback frame.now self.old).messages }

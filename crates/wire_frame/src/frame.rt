@@ -1,5 +1,5 @@
 //! A frame, its addresses and its VLAN tag.
-ghost use Rattle.std.specs.Prelude.{◌≡◌, ℕ, ◌+◌, ◌*◌, ◌/◌, ◌%◌, ◌<◌, ◌≤◌, ◌↔◌, ◌++◌, ◌∷◌, [], take, drop, length, replicate, slice_index, slice_range, bytes_eq, IsTrue, IsOk, IfOk, IfErr, IfSome, is_ok, is_some, max, nat_le, ◌&&◌, if◌then◌else◌};
+ghost use Rattle.std.specs.Prelude.{◌≡◌, ℕ, List, ◌+◌, ◌*◌, ◌/◌, ◌%◌, ◌<◌, ◌≤◌, ◌↔◌, ◌++◌, ◌∷◌, [], take, drop, length, replicate, slice_index, slice_range, bytes_eq, IsTrue, IsOk, IfOk, IfErr, IfSome, is_ok, is_some, max, nat_le, ◌&&◌, if◌then◌else◌};
 ghost use Rattle.std.specs.Cmp.{partial_equiv_from_equiv};
 ghost use Rattle.std.specs.Cmp.Lexicographic.{nat_list_eq_equiv};
 ghost use Rattle.wire_frame.specs.Frame.{IsFrame, is_frame, is_frame_tagged, is_tagged, destination, source, tag_of, tag_control, tag_bytes, untagged, with_tag};
@@ -67,6 +67,16 @@ impl Default for FrameLimit {
     fn default() -> FrameLimit {
         FrameLimit::standard()
     }
+}
+
+/// Bytes that stand somewhere and can be copied from there.
+pub trait ByteSource {
+    ghost bytes: { Self → List ℕ };
+
+    /// Copies them all.
+    fn copy_to(&self, out: &mut [u8])
+        requires { length out.old ≡ length (bytes self.now) }
+        ensures { out.new ≡ bytes self.now };
 }
 
 /// A frame without FCS, of 14 to 9018 bytes; one with a VLAN tag has at least 18 (IEEE 802.3 and 802.1Q).
@@ -220,6 +230,19 @@ impl FrameBuf {
         true
     }
 
+    /// Makes this frame the bytes of a source, of which there are `len`: at least 18, which are a frame whatever they are, and
+    /// no more than this frame has. They are copied once, from where they stand.
+    #[inline]
+    pub fn fill_from<S: ByteSource>(&mut self, source: &S, len: usize)
+        requires all { length (S.bytes source.now) ≡ len }
+        requires least { 18 ≤ len }
+        requires most { len ≤ length self.old }
+        ensures { self.new ≡ S.bytes source.now }
+    {
+        self.kept.truncate(len);
+        source.copy_to(self.kept.as_mut_slice());
+    }
+
     /// Makes this frame the bytes with a tag after the two addresses, where that is a frame no longer than `limit`, and
     /// tells whether it is. Fewer than 12 bytes have no place for a tag.
     #[inline]
@@ -294,7 +317,11 @@ fn lay(kept: &mut FrameBytes, bytes: &[u8])
     ensures { kept.new.items ≡ bytes.now }
 {
     kept.truncate(bytes.len());
-    overlay(kept, 0, bytes);
+    let (front, back) = bytes.split_at(kept.len());
+    kept.as_mut_slice().copy_from_slice(front);
+    if !back.is_empty() {
+        extend(kept, back);
+    }
 }
 
 // The same, with a tag after the first 12 bytes.

@@ -2,7 +2,6 @@
 use Rattle.std.specs.Prelude.{◌≡◌, ℕ, ◌≤◌, ⊤, true, List, [], ◌∷◌, ◌++◌, map, take}
 use Rattle.atomic_table.specs.Seated.{TableId}
 use Rattle.atomic_table.specs.declared.badge.Badge.{Badge}
-use Rattle.device_lock.specs.Held.{Mine}
 use Rattle.crossbeam_channel.specs.Claims.{Pass, view}
 use Rattle.crossbeam_channel.specs.declared.flavors.array.Key.{Key}
 use Rattle.wire_pump.specs.declared.message.WireMsg.{WireMsg}
@@ -35,11 +34,6 @@ pub record SendEnd : Type 0 where
 pub record ReceiveEnd : Type 0 where
   pub channel : Channel
   pub received : List WireMsg
-
--- the door to a shared device: the pump's share, and the frames that it took
-pub record Doorway : Type 0 where
-  pub share : Mine
-  pub frames : List (List ℕ)
 
 -- ---- how a feed and a pump end
 

@@ -19,7 +19,6 @@ mod locked;
 mod making;
 mod message;
 mod pumping;
-mod told;
 
 pub use ends::{FrameReceiver, FrameSender};
 pub use feeding::{FeedEnd, feed};

@@ -1,33 +1,34 @@
 -- Events before `go`: what they add to the shares, and what they leave open.
-use Rattle.std.proofs.Common.{◌≡◌, ◌≢◌, ℕ, ◌+◌, ◌<◌, ◌==◌, Bool, List, [], ◌∷◌, ◌++◌, length, take, refl, sym, ap, ◌∙◌, subst, arith}
+use Rattle.std.proofs.Common.{◌≡◌, ◌≢◌, ℕ, ◌+◌, ◌<◌, ◌==◌, Bool, List, [], ◌∷◌, ◌++◌, length, take, refl, sym, ap, ◌∙◌, subst, append_assoc}
 use Rattle.std.specs.Prelude.{cond, slice_index_or}
-use Rattle.std.proofs.lemmas.List.{length-append, take_more}
+use Rattle.std.proofs.lemmas.List.{append-nil, take_more}
 use Rattle.std.proofs.lemmas.List.Elements.{filter-append}
 use Rattle.device.specs.declared.event.Event.{Event}
 use Rattle.device.specs.declared.event.Event.TheVariants.{Open, End, VfRead, VfWrite, MemRead, MemWrite, Serve, Flr, PfRead, PfWrite, PfReset, Wire}
 use Rattle.device.specs.declared.outcome.Outcome.{Outcome}
 use Rattle.device_lock.specs.declared.shares.Shares.{Shares}
-use Rattle.device_lock.specs.Held.{Mine, one_more}
+use Rattle.device_lock.specs.Held.{Mine, having_asked, having_asked_all}
 use Rattle.workers.specs.Callers.{caller_before, pf, service}
-use Rattle.workers.specs.Counts.{HaveRecorded, with_calls}
+use Rattle.workers.specs.Counts.{HaveRecorded}
 use Rattle.workers.specs.Opens.{MayCome, MayLeave, opened}
 use Rattle.workers.specs.Plans.{first_events}
 
-first_more : (c : ℕ) (es : List Event) (e : Event) → length (first_events c (es ++ e ∷ [])) ≡ length (first_events c es) + length (first_events c (e ∷ []))
+first_more : (c : ℕ) (es : List Event) (e : Event) → first_events c (es ++ e ∷ []) ≡ first_events c es ++ first_events c (e ∷ [])
 unfolding first_events
-first_more c es e = ap length (filter-append (λ x. caller_before x == c) es (e ∷ [])) ∙ length-append _ _
+first_more c es e = filter-append (λ x. caller_before x == c) es (e ∷ [])
 
--- calls of a caller, and then one more event's
-counted_more : (c : ℕ) (es : List Event) (e : Event) (old mid new : Mine) → mid ≡ with_calls (length (first_events c es)) old → new ≡ with_calls (length (first_events c (e ∷ []))) mid
-    → new ≡ with_calls (length (first_events c (es ++ e ∷ []))) old
-counted_more c es e old mid new before more =
-    more ∙ ap (with_calls (length (first_events c (e ∷ [])))) before
-    ∙ ap (λ (n : ℕ). record { caller = old.caller; count = n }) (omega (arith, first_more c es e))
+-- a caller's events, and then one more of them
+asked_more : (c : ℕ) (es : List Event) (e : Event) (old mid new : Mine) → mid ≡ having_asked_all (first_events c es) old → new ≡ having_asked_all (first_events c (e ∷ [])) mid
+    → new ≡ having_asked_all (first_events c (es ++ e ∷ [])) old
+asked_more c es e old mid new before more =
+    more ∙ ap (having_asked_all (first_events c (e ∷ []))) before
+    ∙ ap (λ (xs : List Event). record { caller = old.caller; asked = xs })
+    (append_assoc old.asked (first_events c es) (first_events c (e ∷ [])) ∙ ap (λ (xs : List Event). old.asked ++ xs) (sym (first_more c es e)))
 
 recorded_more : {L : Type 0} (es : List Event) (e : Event) (old mid new : Shares L) → HaveRecorded es old mid → HaveRecorded (e ∷ []) mid new → HaveRecorded (es ++ e ∷ []) old new
 recorded_more es e old mid new before more = record {
-  pf = counted_more pf es e old.pf mid.pf new.pf before.pf more.pf;
-  service = counted_more service es e old.service mid.service new.service before.service more.service;
+  pf = asked_more pf es e old.pf mid.pf new.pf before.pf more.pf;
+  service = asked_more service es e old.service mid.service new.service before.service more.service;
   pump = more.pump ∙ before.pump;
   ports = more.ports ∙ before.ports;
 }
@@ -49,14 +50,14 @@ left_next es k e o old mid new less is before come left =
 
 -- ---- where a list begins
 
-no_call_is : (m : Mine) → with_calls 0 m ≡ m
-no_call_is m = ap (λ (n : ℕ). record { caller = m.caller; count = n }) (omega arith)
+pub none_asked : (m : Mine) → having_asked_all [] m ≡ m
+none_asked m = ap (λ (xs : List Event). record { caller = m.caller; asked = xs }) (append-nil m.asked)
 
 pub recorded_none : {L : Type 0} (old new : Shares L) → new.pf ≡ old.pf → new.service ≡ old.service → new.pump ≡ old.pump → new.ports ≡ old.ports → HaveRecorded [] old new
 unfolding first_events
 recorded_none old new pf service pump ports = record {
-  pf = pf ∙ sym (no_call_is old.pf);
-  service = service ∙ sym (no_call_is old.service);
+  pf = pf ∙ sym (none_asked old.pf);
+  service = service ∙ sym (none_asked old.service);
   pump = pump;
   ports = ports;
 }
@@ -65,8 +66,8 @@ recorded_none old new pf service pump ports = record {
 pub recorded_still : {L : Type 0} (es : List Event) (old mid new : Shares L) → HaveRecorded es old mid → HaveRecorded [] mid new → HaveRecorded es old new
 unfolding first_events
 recorded_still es old mid new before none = record {
-  pf = none.pf ∙ no_call_is mid.pf ∙ before.pf;
-  service = none.service ∙ no_call_is mid.service ∙ before.service;
+  pf = none.pf ∙ none_asked mid.pf ∙ before.pf;
+  service = none.service ∙ none_asked mid.service ∙ before.service;
   pump = none.pump ∙ before.pump;
   ports = none.ports ∙ before.ports;
 }
@@ -74,12 +75,12 @@ recorded_still es old mid new before none = record {
 -- ---- one event
 
 -- the driver's call, or the service's
-pub recorded_pf : {L : Type 0} (e : Event) (old new : Shares L) → caller_before e ≡ pf → new.pf ≡ one_more old.pf → new.service ≡ old.service → new.pump ≡ old.pump → new.ports ≡ old.ports
+pub recorded_pf : {L : Type 0} (e : Event) (old new : Shares L) → caller_before e ≡ pf → new.pf ≡ having_asked e old.pf → new.service ≡ old.service → new.pump ≡ old.pump → new.ports ≡ old.ports
     → HaveRecorded (e ∷ []) old new
 unfolding first_events
 recorded_pf e old new is pf_called service_same pump_same ports_same = record {
-  pf = pf_called ∙ ap (λ (c : ℕ). with_calls (length (cond (c == 64) (e ∷ []) [])) old.pf) (sym is);
-  service = service_same ∙ sym (no_call_is old.service) ∙ ap (λ (c : ℕ). with_calls (length (cond (c == 66) (e ∷ []) [])) old.service) (sym is);
+  pf = pf_called ∙ ap (λ (c : ℕ). having_asked_all (cond (c == 64) (e ∷ []) []) old.pf) (sym is);
+  service = service_same ∙ sym (none_asked old.service) ∙ ap (λ (c : ℕ). having_asked_all (cond (c == 66) (e ∷ []) []) old.service) (sym is);
   pump = pump_same;
   ports = ports_same;
 }
@@ -98,12 +99,12 @@ is_pf_or_service (PfWrite offset x) other = absurd (other refl)
 is_pf_or_service PfReset other = absurd (other refl)
 is_pf_or_service (Wire frame) other = refl
 
-pub recorded_service : {L : Type 0} (e : Event) (old new : Shares L) → caller_before e ≢ pf → new.service ≡ one_more old.service → new.pf ≡ old.pf → new.pump ≡ old.pump → new.ports ≡ old.ports
+pub recorded_service : {L : Type 0} (e : Event) (old new : Shares L) → caller_before e ≢ pf → new.service ≡ having_asked e old.service → new.pf ≡ old.pf → new.pump ≡ old.pump → new.ports ≡ old.ports
     → HaveRecorded (e ∷ []) old new
 unfolding first_events
 recorded_service e old new other service_called pf_same pump_same ports_same = record {
-  pf = pf_same ∙ sym (no_call_is old.pf) ∙ ap (λ (c : ℕ). with_calls (length (cond (c == 64) (e ∷ []) [])) old.pf) (sym (is_pf_or_service e other));
-  service = service_called ∙ ap (λ (c : ℕ). with_calls (length (cond (c == 66) (e ∷ []) [])) old.service) (sym (is_pf_or_service e other));
+  pf = pf_same ∙ sym (none_asked old.pf) ∙ ap (λ (c : ℕ). having_asked_all (cond (c == 64) (e ∷ []) []) old.pf) (sym (is_pf_or_service e other));
+  service = service_called ∙ ap (λ (c : ℕ). having_asked_all (cond (c == 66) (e ∷ []) []) old.service) (sym (is_pf_or_service e other));
   pump = pump_same;
   ports = ports_same;
 }

@@ -2,3 +2,4 @@ pub mod Turns
 pub mod Places
 pub mod First
 pub mod Wires
+pub mod Swept

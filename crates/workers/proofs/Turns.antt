@@ -1,5 +1,5 @@
 -- What a caller's own events are: those that it may make, and what comes of them all.
-use Rattle.std.proofs.Common.{◌≡◌, ℕ, ◌<◌, ◌≤◌, ◌==◌, ◌||◌, Bool, true, false, nat_lt, nat_le, List, [], ◌∷◌, ◌++◌, ◌+◌, length, take, drop, if◌then◌else◌, refl, sym, ap, ◌∙◌, subst, arith}
+use Rattle.std.proofs.Common.{◌≡◌, ℕ, ◌<◌, ◌≤◌, ◌==◌, ◌||◌, Bool, true, false, nat_lt, nat_le, List, [], ◌∷◌, ◌++◌, ◌+◌, length, take, drop, if◌then◌else◌, refl, sym, ap, ◌∙◌, subst, arith, append_assoc}
 use Rattle.std.specs.Prelude.{slice_index_or}
 use Rattle.std.proofs.lemmas.Bool.{eqb-true, false≢true}
 use Rattle.std.proofs.lemmas.Bool.Decides.{nat_tests}
@@ -8,9 +8,10 @@ use Rattle.std.proofs.lemmas.List.Elements.{filter_passes}
 use Rattle.device.specs.declared.event.Event.{Event}
 use Rattle.device.specs.declared.event.Event.TheVariants.{Open, End, VfRead, VfWrite, MemRead, MemWrite, Serve, Flr, PfRead, PfWrite, PfReset, Wire}
 use Rattle.device_lock.specs.Callers.{may, is_port, is_pf, is_pump, is_service}
+use Rattle.device_lock.specs.Held.{Mine, having_asked, having_asked_all}
 use Rattle.device_lock.specs.Read.{bytes_asked}
 use Rattle.workers.specs.Callers.{caller_before, caller_of, port_or_service}
-use Rattle.guest_port.specs.Calls.{CallingPort, one_more_call}
+use Rattle.guest_port.specs.Calls.{CallingPort, having_called}
 use Rattle.workers.specs.Calls.{IsPortEvent, called, called_all, one_call}
 use Rattle.workers.specs.Plans.{Planned, own_events, start_of}
 
@@ -133,28 +134,28 @@ Seat = ℕ × Bool
 seat_of : CallingPort → Seat
 seat_of c = (c.port.pool, c.port.is_closed)
 
-one_call_seat : (c : CallingPort) → seat_of (one_call c) ≡ seat_of c
+one_call_seat : (e : Event) (c : CallingPort) → seat_of (one_call e c) ≡ seat_of c
 unfolding seat_of
-one_call_seat c = go c.port.is_open
+one_call_seat e c = go c.port.is_open
   where
-    go : (is_open : Bool) → seat_of (if is_open then one_more_call c else c) ≡ seat_of c
+    go : (is_open : Bool) → seat_of (if is_open then having_called e c else c) ≡ seat_of c
     go true = refl
     go false = refl
 
 called_seat : (e : Event) (c : CallingPort) → seat_of (called e c) ≡ seat_of c
 unfolding seat_of
-called_seat (Open p) c = one_call_seat c
+called_seat (Open p) c = one_call_seat (Open p) c
 called_seat (End p) c = refl
-called_seat (VfRead p offset) c = one_call_seat c
-called_seat (VfWrite p offset x) c = one_call_seat c
-called_seat (MemRead p at count) c = one_call_seat c
-called_seat (MemWrite p at bytes) c = one_call_seat c
-called_seat (Serve p q) c = one_call_seat c
-called_seat (Flr p) c = one_call_seat c
-called_seat (PfRead offset) c = one_call_seat c
-called_seat (PfWrite offset x) c = one_call_seat c
-called_seat PfReset c = one_call_seat c
-called_seat (Wire frame) c = one_call_seat c
+called_seat (VfRead p offset) c = one_call_seat (VfRead p offset) c
+called_seat (VfWrite p offset x) c = one_call_seat (VfWrite p offset x) c
+called_seat (MemRead p at count) c = one_call_seat (MemRead p at count) c
+called_seat (MemWrite p at bytes) c = one_call_seat (MemWrite p at bytes) c
+called_seat (Serve p q) c = one_call_seat (Serve p q) c
+called_seat (Flr p) c = one_call_seat (Flr p) c
+called_seat (PfRead offset) c = one_call_seat (PfRead offset) c
+called_seat (PfWrite offset x) c = one_call_seat (PfWrite offset x) c
+called_seat PfReset c = one_call_seat PfReset c
+called_seat (Wire frame) c = one_call_seat (Wire frame) c
 
 pub same_pool : (e : Event) (old new : CallingPort) (p : ℕ) → new ≡ called e old → old.port.pool ≡ p → new.port.pool ≡ p
 unfolding seat_of
@@ -165,6 +166,13 @@ unfolding seat_of
 same_close e old new closed is before = ap (λ (c : CallingPort). c.port.is_closed) is ∙ ap (λ (s : Seat). s.1) (called_seat e old) ∙ before
 
 -- ---- the events so far
+
+pub asked_more : (es : List Event) (k : ℕ) (e : Event) (m old new : Mine) → k < length es → e ≡ slice_index_or es k PfReset → old ≡ having_asked_all (take k es) m → new ≡ having_asked e old
+    → new ≡ having_asked_all (take (k + 1) es) m
+asked_more es k e m old new less is before more =
+    more ∙ ap (having_asked e) before
+    ∙ ap (λ (xs : List Event). record { caller = m.caller; asked = xs })
+    (append_assoc m.asked (take k es) (e ∷ []) ∙ ap (λ (x : Event). m.asked ++ (take k es ++ x ∷ [])) is ∙ ap (λ (xs : List Event). m.asked ++ xs) (sym (take_more es k PfReset less)))
 
 called_last : (es : List Event) (e : Event) (c : CallingPort) → called_all (es ++ e ∷ []) c ≡ called e (called_all es c)
 called_last [] e c = refl

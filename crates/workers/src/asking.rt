@@ -4,7 +4,7 @@ ghost use Rattle.device.specs.Request.{event_of};
 ghost use Rattle.device.specs.Outcome.{reply_by};
 ghost use Rattle.wire_frame.specs.declared.fault.Fault.{Fault};
 ghost use Rattle.device_lock.specs.Callers.{may};
-ghost use Rattle.device_lock.specs.Held.{one_more};
+ghost use Rattle.device_lock.specs.Held.{having_asked};
 ghost use Rattle.device_lock.specs.Read.{bytes_asked, bytes_told};
 ghost use Rattle.guest_port.specs.Calls.{MayReply};
 
@@ -32,7 +32,7 @@ pub fn ask<M: GuestMem, L: Ledger, R: Wait>(
     ensures answer { IfOk result (λ outcome. MayReply (event_of request.entry)
         (reply_by (λ span. take (bytes_told outcome) read.new) outcome)) }
     ensures rest { IfOk result (λ outcome. drop (bytes_told outcome) read.new ≡ drop (bytes_told outcome) read.old) }
-    ensures counted { OnOk result (share.new ≡ one_more share.old) }
+    ensures counted { OnOk result (share.new ≡ having_asked (event_of request.entry) share.old) }
     ensures unchanged { OnErr result ((share.new ≡ share.old) × (read.new ≡ read.old)) }
     ensures full { IfErr result (λ e. e ≡ Fault.HistoryFull) }
     ensures read { length read.new ≡ length read.old }

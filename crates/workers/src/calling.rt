@@ -1,6 +1,7 @@
 //! One event by a guest's port.
 ghost use Rattle.std.specs.Prelude.{◌≡◌, true, false, not, IfErr, OnOk, OnErr};
 ghost use Rattle.wire_frame.specs.declared.fault.Fault.{Fault};
+ghost use Rattle.device.specs.declared.event.Event.{Event};
 ghost use Rattle.device.specs.Request.{event_of};
 ghost use Rattle.guest_port.specs.Calls.{is_full};
 ghost use Rattle.workers.specs.Calls.{IsPortEvent, called, one_call};
@@ -74,7 +75,7 @@ fn read_memory<M: GuestMem, L: Ledger, P: GuestPort, R: Wait>(
     count: u16,
     read: &mut [u8; MOST_BYTES],
 ) -> bool
-    ensures done { result ≡ true → port.new ≡ one_call port.old }
+    ensures done { result ≡ true → port.new ≡ one_call (Event.MemRead port.old.port.pool at count) port.old }
     ensures undone { result ≡ false → port.new ≡ port.old }
 {
     match read.get_mut(..usize::from(count)) {

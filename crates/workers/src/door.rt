@@ -1,6 +1,7 @@
 //! The pump's door, with its gate and its folds.
-ghost use Rattle.std.specs.Prelude.{◌≡◌, ◌++◌, ◌∷◌, [], map, if◌then◌else◌};
+ghost use Rattle.std.specs.Prelude.{◌≡◌, ◌++◌, ◌∷◌, [], if◌then◌else◌};
 ghost use Rattle.device.specs.declared.event.Event.TheVariants.{Wire};
+ghost use Rattle.workers.specs.Callers.{pump};
 
 use crate::gate::Gate;
 use device_lock::{LockedDevice, PUMP, Share};
@@ -22,12 +23,14 @@ pub struct GatedDoor<M: GuestMem, L: Ledger, G: Gate + Drop> {
 }
 
 impl<M: GuestMem, L: Ledger, G: Gate + Drop> GatedDoor<M, L, G> {
-    /// A door that took nothing yet.
+    /// The door, which took what the inner one did.
     pub fn new(
         inner: LockedDoor<M, L>,
         device: Arc<LockedDevice<M, L>>,
         gate: Arc<G>,
-    ) -> GatedDoor<M, L, G> {
+    ) -> GatedDoor<M, L, G>
+        ensures { result.inner ≡ inner }
+    {
         GatedDoor {
             inner,
             device,
@@ -37,7 +40,10 @@ impl<M: GuestMem, L: Ledger, G: Gate + Drop> GatedDoor<M, L, G> {
     }
 
     /// The share, after all that the door took.
-    pub fn into_share(self) -> Share<L> {
+    pub fn into_share(self) -> Share<L>
+        ensures share { result ≡ self.inner }
+        ensures pump { result.caller ≡ pump }
+    {
         let GatedDoor {
             inner,
             device: _,
@@ -49,7 +55,7 @@ impl<M: GuestMem, L: Ledger, G: Gate + Drop> GatedDoor<M, L, G> {
 }
 
 impl<M: GuestMem, L: Ledger, G: Gate + Drop> Door for GatedDoor<M, L, G> {
-    ghost taken = { λ d. map Wire d.inner.frames };
+    ghost taken = { λ d. d.inner.asked };
 
     fn act<R: Wait>(&mut self, rt: &R, frame: &FrameBuf) -> bool {
         self.n = self.n.wrapping_add(1);
@@ -68,7 +74,7 @@ fn take<M: GuestMem, L: Ledger, R: Wait>(
     door: &mut LockedDoor<M, L>,
     frame: &FrameBuf,
 ) -> bool
-    ensures { map Wire door.new.frames ≡ (if result then map Wire door.old.frames ++ Wire frame.now ∷ [] else map Wire door.old.frames) }
+    ensures { door.new.asked ≡ (if result then door.old.asked ++ Wire frame.now ∷ [] else door.old.asked) }
 {
     for _ in rt.forever() {
         if door.act(rt, frame) {

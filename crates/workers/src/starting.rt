@@ -146,7 +146,11 @@ pub fn start_pump<
         return;
     }
     let door = GatedDoor::new(LockedDoor::new(other.device, share), mine.device, mine.gate);
-    match thread::spawn(&rt, move || pumping(&rt, receiver, door)) {
+    let work = move || {
+        let mut receiver = receiver;
+        pumping(&rt, &mut receiver, door)
+    };
+    match thread::spawn(&rt, work) {
         Ok(thread) => crew.add(log, Worker::Pump, thread),
         Err(_) => crew.refuse(),
     }

@@ -12,6 +12,7 @@ use std::sync::ledger::Ledger;
 
 /// Records `End p` for each pool whose note is found ended, takes that pair out, and answers how many they were. Where no
 /// more calls can be kept the event comes back, its pair stays, and so do those after it.
+#[tactic(auto, using(crate::proofs::Swept::swept_looked))]
 pub fn sweep<M: GuestMem, L: Ledger, R: Wait>(
     rt: &R,
     notes: &mut Vec<(u8, EndNote)>,
@@ -19,7 +20,7 @@ pub fn sweep<M: GuestMem, L: Ledger, R: Wait>(
     share: &mut Share<L>,
 ) -> Result<usize, Full>
     requires { share.old.caller ≡ service }
-    ensures swept { IsSwept (length notes.old.items) (length notes.new.items) share.old share.new }
+    ensures swept { IsSwept notes.old.items notes.new.items share.old share.new }
     ensures count { IfOk result (λ count. count + length notes.new.items ≡ length notes.old.items) }
 {
     let mut count = 0;

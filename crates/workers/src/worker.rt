@@ -1,11 +1,13 @@
 //! The workers, and what each of them does in its thread.
-ghost use Rattle.std.specs.Prelude.{◌≡◌, ℕ, ◌<◌, ◌≤◌, ◌++◌, true, false, length, take, Some, None, MatchOption};
+ghost use Rattle.std.specs.Prelude.{◌≡◌, ℕ, ◌<◌, ◌≤◌, List, ◌++◌, true, false, length, map, take, Some, None, IfSome, MatchOption};
 ghost use Rattle.wire_pump.specs.declared.feeding.FeedEnd.{FeedEnd};
-ghost use Rattle.wire_pump.specs.Ends.{fed, IsCounted};
+ghost use Rattle.device.specs.declared.event.Event.TheVariants.{Wire};
+ghost use Rattle.device_lock.specs.Held.{having_asked_all};
+ghost use Rattle.wire_pump.specs.declared.pumping.PumpEnd.{PumpEnd};
+ghost use Rattle.wire_pump.specs.Ends.{fed, IsCounted, pumped};
 ghost use Rattle.workers.specs.Callers.{pump};
 ghost use Rattle.workers.specs.Calls.{called_all, closed_after};
-ghost use Rattle.workers.specs.Counts.{with_calls};
-ghost use Rattle.workers.specs.Frames.{frames_of};
+ghost use Rattle.workers.specs.Frames.{frames_of, is_full};
 ghost use Rattle.workers.specs.Plans.{own_events};
 
 use crate::asking::ask;
@@ -75,6 +77,7 @@ pub fn guest<M: GuestMem, L: Ledger, P: GuestPort, G: Gate, R: Wait>(
         × (port.new ≡ closed_after (called_all (take done (own_events plan.now port.old.port.pool)) port.old)) }
     ensures share { MatchOption result.share (port.old.port.is_closed ≡ true)
         (λ share. (port.old.port.is_closed ≡ false) × (share.caller ≡ port.old.port.pool)) }
+    ensures asked { IfSome result.share (λ share. share ≡ having_asked_all port.new.calls port.new.made) }
 {
     let was_full = !calls(rt, plan, device, port, gate);
     let share = match port.close() {
@@ -128,9 +131,9 @@ pub fn driver<M: GuestMem, L: Ledger, G: Gate, R: Wait>(
 ) -> Done<L>
     requires { 64 ≤ share.caller }
     ensures all { result.was_full ≡ false →
-        result.share ≡ Some (with_calls (length (own_events plan.now share.caller)) share) }
+        result.share ≡ Some (having_asked_all (own_events plan.now share.caller) share) }
     ensures part { result.was_full ≡ true → (done : ℕ) × (done < length (own_events plan.now share.caller))
-        × (result.share ≡ Some (with_calls done share)) }
+        × (result.share ≡ Some (having_asked_all (take done (own_events plan.now share.caller)) share)) }
 {
     let was_full = !events(rt, plan, device, &mut share, gate);
     Done {
@@ -140,7 +143,7 @@ pub fn driver<M: GuestMem, L: Ledger, G: Gate, R: Wait>(
 }
 
 // Does the events of a share's caller, and tells whether all were done.
-#[tactic(auto, using(crate::proofs::Turns::own_may, crate::proofs::Turns::room_for))]
+#[tactic(auto, using(crate::proofs::Turns::own_may, crate::proofs::Turns::room_for, crate::proofs::Turns::asked_more, crate::proofs::First::none_asked))]
 fn events<M: GuestMem, L: Ledger, G: Gate, R: Wait>(
     rt: &R,
     plan: &Plan,
@@ -149,9 +152,9 @@ fn events<M: GuestMem, L: Ledger, G: Gate, R: Wait>(
     gate: &G,
 ) -> bool
     requires { 64 ≤ share.old.caller }
-    ensures all { result ≡ true → share.new ≡ with_calls (length (own_events plan.now share.old.caller)) share.old }
+    ensures all { result ≡ true → share.new ≡ having_asked_all (own_events plan.now share.old.caller) share.old }
     ensures part { result ≡ false → (done : ℕ) × (done < length (own_events plan.now share.old.caller))
-        × (share.new ≡ with_calls done share.old) }
+        × (share.new ≡ having_asked_all (take done (own_events plan.now share.old.caller)) share.old) }
 {
     let caller = share.caller();
     let mut room = Room::new();
@@ -208,10 +211,15 @@ fn send_frames<R: Wait>(rt: &R, plan: &Plan, sender: &mut FrameSender) -> FeedEn
 /// Gives the frames that come to the device, by the pump's share.
 pub fn pumping<M: GuestMem, L: Ledger, G: Gate + Drop, R: Wait>(
     rt: &R,
-    mut receiver: FrameReceiver,
+    receiver: &mut FrameReceiver,
     mut door: GatedDoor<M, L, G>,
-) -> Done<L> {
-    let was_full = match pump(&mut receiver, rt, &mut door) {
+) -> Done<L>
+    ensures asked { (frames : List (List ℕ)) × (end : PumpEnd)
+        × (receiver.new ≡ record receiver.old { received = receiver.old.received ++ pumped frames end })
+        × (result.share ≡ Some (record { caller = pump; asked = door.inner.asked ++ map Wire frames }))
+        × (result.was_full ≡ is_full end) }
+{
+    let was_full = match pump(receiver, rt, &mut door) {
         PumpEnd::Full(_) => true,
         PumpEnd::Last | PumpEnd::Gone => false,
     };

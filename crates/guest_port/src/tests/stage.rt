@@ -51,7 +51,7 @@ pub fn seated<M: GuestMem, L: Ledger, P: GuestPort>(
     shares: &mut Shares<L>,
     port: P,
 ) -> Option<LockedPort<M, L, P>>
-    ensures { IfSome result (λ r. r ≡ record { port = P.meaning port; calls = 0 }) }
+    ensures { IfSome result (λ r. (r.port ≡ P.meaning port) × (r.calls ≡ [])) }
 {
     if !port.is_open() {
         return None;

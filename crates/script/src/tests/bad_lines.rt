@@ -4,7 +4,7 @@ use crate::Fault;
 use std::test::Fail;
 
 // A text, and the number of its first bad line.
-static BAD: [(&str, u32); 73] = [
+static BAD: [(&str, u32); 81] = [
     // no device is asked for
     ("", 1),
     ("\n", 1),
@@ -66,6 +66,12 @@ static BAD: [(&str, u32); 73] = [
     ("vfs 1 4096\nmr 0 0 65536\n", 2),
     ("vfs 1 4096\nserve 0 2\n", 2),
     ("vfs 1 4096\npw 0 -1\n", 2),
+    // seventeen digits, and other bytes among digits or after them
+    ("vfs 1 4096\nmr 0 0x00000000000000001 0\n", 2),
+    ("vfs 1 4096\nr 0 16x\n", 2),
+    ("vfs 1 4096\nr 0 0x1g\n", 2),
+    ("vfs 1 4096\nmr 0 1\t 0\n", 2),
+    ("vfs 1 4096\nr 0\t16\n", 2),
     // bytes
     ("vfs 8 65536\nopen 0\nmw 0 0x1000 004\n", 3),
     ("vfs 1 4096\nmw 0 0 .\n", 2),
@@ -73,6 +79,9 @@ static BAD: [(&str, u32); 73] = [
     ("vfs 1 4096\nmw 0 0 -.aa\n", 2),
     ("vfs 1 4096\nmw 0 0 0x00\n", 2),
     ("vfs 1 4096\nmw 0 0 gg\n", 2),
+    ("vfs 1 4096\nmw 0 0 000102030405060708090a0b0c0d0g\n", 2),
+    ("vfs 1 4096\nmw 0 0 g00102030405060708090a0b0c0d0e\n", 2),
+    ("vfs 1 4096\nmw 0 0 000102030405060708090a0b0c0d0eg0\n", 2),
     ("vfs 1 4096\nmw 0 0 aabb*2\n", 2),
     ("vfs 1 4096\nmw 0 0 00*0x2\n", 2),
     ("vfs 1 4096\nmw 0 0 00*\n", 2),

@@ -4,7 +4,7 @@ use crate::number;
 use std::test::Fail;
 
 // A text, and its plain form.
-static SAID: [(&str, &str); 22] = [
+static SAID: [(&str, &str); 25] = [
     // each kind of line once
     (
         "vfs 8 65536\nopen 1\nend 2\nflr 3\nr 4 0x1014\nw 5 0x108 7\nmr 6 0x1000 16\nmw 7 0x10 cafe\nserve 0 0\nserve 1 1\n\
@@ -40,6 +40,26 @@ static SAID: [(&str, &str); 22] = [
     (
         "vfs 1 4096\nopen 255\nmr 255 0xffffffffffffffff 65535\nmr 0 18446744073709551615 0\n",
         "vfs 1 4096 1518\nopen 255\nmr 255 18446744073709551615 65535\nmr 0 18446744073709551615 0\n",
+    ),
+    // numbers of fifteen to eighteen digits, with spaces after them
+    (
+        "vfs 1 4096\nmr 0 999999999999999 1\nmr 0 1152921504606846975   1  \nmr 0 0000000000000016 2\n\
+            mr 0 00000000000000017 3\nmr 0 0x07ffffffffffffff 4\nmr 0 0x1000000000000000 5\n",
+        "vfs 1 4096 1518\nmr 0 999999999999999 1\nmr 0 1152921504606846975 1\nmr 0 16 2\n\
+            mr 0 17 3\nmr 0 576460752303423487 4\nmr 0 1152921504606846976 5\n",
+    ),
+    // digits of fifteen to seventeen bytes, alone and after others
+    (
+        "vfs 1 4096\nmw 0 0 000102030405060708090a0b0c0d0e\nmw 0 0 f0f1f2f3f4f5f6f7f8f9fafbfcfdfeff\n\
+            mw 0 0 77.000102030405060708090a0b0c0d0e0f10\n",
+        "vfs 1 4096 1518\nmw 0 0 00*1.01*1.02*1.03*1.04*1.05*1.06*1.07*1.08*1.09*1.0a*1.0b*1.0c*1.0d*1.0e*1.\n\
+            mw 0 0 f0*1.f1*1.f2*1.f3*1.f4*1.f5*1.f6*1.f7*1.f8*1.f9*1.fa*1.fb*1.fc*1.fd*1.fe*1.ff*1.\n\
+            mw 0 0 77*1.00*1.01*1.02*1.03*1.04*1.05*1.06*1.07*1.08*1.09*1.0a*1.0b*1.0c*1.0d*1.0e*1.0f*1.10*1.\n",
+    ),
+    // bytes that are as many as their word has, twice as many and more, one after another
+    (
+        "vfs 1 4096\nmw 0 0 11*5\nmw 0 0 22*10\nmw 0 0 33*11\nmw 0 0 44*200.55.66*300\nmw 0 0 77.77\n",
+        "vfs 1 4096 1518\nmw 0 0 11*5.\nmw 0 0 22*10.\nmw 0 0 33*11.\nmw 0 0 44*200.55*1.66*300.\nmw 0 0 77*2.\n",
     ),
     // bytes: none, digits of either case, and chunks
     ("vfs 1 4096\nmw 0 0 -", "vfs 1 4096 1518\nmw 0 0 \n"),

@@ -1,5 +1,4 @@
-ghost use Rattle.std.specs.Prelude.{◌≡◌, map};
-ghost use Rattle.device.specs.declared.event.Event.TheVariants.{Wire};
+ghost use Rattle.std.specs.Prelude.{◌≡◌};
 
 use super::*;
 use crate::LockedDoor;
@@ -20,7 +19,7 @@ struct FoldingDoor<M: GuestMem, L: Ledger> {
 }
 
 impl<M: GuestMem, L: Ledger> Door for FoldingDoor<M, L> {
-    ghost taken = { λ door. map Wire door.inner.frames };
+    ghost taken = { λ door. door.inner.asked };
 
     fn act<R: Wait>(&mut self, rt: &R, frame: &FrameBuf) -> bool {
         self.inner.act(rt, frame) || (self.device.fold(rt).is_some() && self.inner.act(rt, frame))

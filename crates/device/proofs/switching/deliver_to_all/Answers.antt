@@ -32,6 +32,10 @@ loop-rest-init g c =
 pub loop-rest-smaller : goal.loop-rest-smaller
 loop-rest-smaller g c = fewer_left c.loop-rest.rest (search rules) (search rules)
 
+pub note-requires-clause-silent : goal.note-requires-clause-silent
+note-requires-clause-silent g c =
+    c.loop-rest.invariant.silent _ (bit_at-trailing_zeros w64 c.loop-rest.rest (search rules) (search rules)).1
+
 pub loop-rest-preserved : goal.loop-rest-preserved
 loop-rest-preserved g c =
     let h = c.loop-rest.invariant in

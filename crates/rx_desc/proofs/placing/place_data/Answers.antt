@@ -9,19 +9,19 @@ counted : (b : ℕ) {l k : ℕ} → l ≡ k → (l + b - 1) / b ≡ (k + b - 1) 
 counted b e = ap (λ (n : ℕ). (n + b - 1) / b) e
 
 pub returns-then-count-available-clause-placed : goal.returns-then-count-available-clause-placed
-returns-then-count-available-clause-placed g c = ap (λ (d : Delivery). d.placed) (sym (deliver-no_room _ _ _ _ _ _ _ (counted c.args.size c.len.ensures) (omega arith)))
+returns-then-count-available-clause-placed g c = ap (λ (d : Delivery). d.placed) (sym (deliver-no_room _ _ _ _ _ _ _ (counted c.args.size c.len-2.ensures) (omega arith)))
 
 pub returns-then-count-available-clause-written : goal.returns-then-count-available-clause-written
-returns-then-count-available-clause-written g c = ap (λ (d : Delivery). d.memory) (sym (deliver-no_room _ _ _ _ _ _ _ (counted c.args.size c.len.ensures) (omega arith)))
+returns-then-count-available-clause-written g c = ap (λ (d : Delivery). d.memory) (sym (deliver-no_room _ _ _ _ _ _ _ (counted c.args.size c.len-2.ensures) (omega arith)))
 
 pub returns-then-count-available-clause-ring : goal.returns-then-count-available-clause-ring
-returns-then-count-available-clause-ring g c = ap (λ (d : Delivery). d.ring) (sym (deliver-no_room _ _ _ _ _ _ _ (counted c.args.size c.len.ensures) (omega arith)))
+returns-then-count-available-clause-ring g c = ap (λ (d : Delivery). d.ring) (sym (deliver-no_room _ _ _ _ _ _ _ (counted c.args.size c.len-2.ensures) (omega arith)))
 
-pub returns-then-count-eq1-clause-placed : goal.returns-then-count-eq1-clause-placed
-returns-then-count-eq1-clause-placed g c = c.place_one.ensures.placed ∙ ap (λ (ps : List (List ℕ)). (deliver_pieces c.args.loopback c.args.tag ps (g.M.GuestMem.bytes c.args.memory.now) c.args.ring.now).placed) (sym (pieces-one c.args.size (text_of c.args.source) (omega arith) (counted c.args.size (sym c.len.ensures) ∙ c.if-count-eq1.true)))
+pub returns-then-len-size-clause-placed : goal.returns-then-len-size-clause-placed
+returns-then-len-size-clause-placed g c = c.place_one.ensures.placed ∙ ap (λ (ps : List (List ℕ)). (deliver_pieces c.args.loopback c.args.tag ps (g.M.GuestMem.bytes c.args.memory.now) c.args.ring.now).placed) (sym (pieces-one c.args.size (text_of c.args.source) c.requires.some (omega arith)))
 
-pub returns-then-count-eq1-clause-written : goal.returns-then-count-eq1-clause-written
-returns-then-count-eq1-clause-written g c = c.place_one.ensures.written ∙ ap (λ (ps : List (List ℕ)). (deliver_pieces c.args.loopback c.args.tag ps (g.M.GuestMem.bytes c.args.memory.now) c.args.ring.now).memory) (sym (pieces-one c.args.size (text_of c.args.source) (omega arith) (counted c.args.size (sym c.len.ensures) ∙ c.if-count-eq1.true)))
+pub returns-then-len-size-clause-written : goal.returns-then-len-size-clause-written
+returns-then-len-size-clause-written g c = c.place_one.ensures.written ∙ ap (λ (ps : List (List ℕ)). (deliver_pieces c.args.loopback c.args.tag ps (g.M.GuestMem.bytes c.args.memory.now) c.args.ring.now).memory) (sym (pieces-one c.args.size (text_of c.args.source) c.requires.some (omega arith)))
 
-pub returns-then-count-eq1-clause-ring : goal.returns-then-count-eq1-clause-ring
-returns-then-count-eq1-clause-ring g c = c.place_one.ensures.ring ∙ ap (λ (ps : List (List ℕ)). (deliver_pieces c.args.loopback c.args.tag ps (g.M.GuestMem.bytes c.args.memory.now) c.args.ring.now).ring) (sym (pieces-one c.args.size (text_of c.args.source) (omega arith) (counted c.args.size (sym c.len.ensures) ∙ c.if-count-eq1.true)))
+pub returns-then-len-size-clause-ring : goal.returns-then-len-size-clause-ring
+returns-then-len-size-clause-ring g c = c.place_one.ensures.ring ∙ ap (λ (ps : List (List ℕ)). (deliver_pieces c.args.loopback c.args.tag ps (g.M.GuestMem.bytes c.args.memory.now) c.args.ring.now).ring) (sym (pieces-one c.args.size (text_of c.args.source) c.requires.some (omega arith)))

@@ -1,11 +1,11 @@
--- Each note that was taken out is an event that was counted.
+-- Each note that was taken out is an end that was asked.
 use Rattle.std.proofs.Common.{◌≡◌, ◌+◌, ◌-◌, length}
 use Rattle.workers.specs.Sweeps.{IsSwept}
 use Rattle.workers.proofs.sweeping.sweep.Given as goal
 
 abbrev pub invariant-loop-at : goal.invariant-loop-at
 invariant-loop-at g l = record {
-  swept : IsSwept (length l.fn.notes.items) (length l.notes.items) l.fn.share l.share;
+  swept : IsSwept l.fn.notes.items l.notes.items l.fn.share l.share;
   count : l.count + length l.notes.items ≡ length l.fn.notes.items;
 }
 

@@ -6,5 +6,5 @@ use Rattle.guest_memory.proofs.flat.FlatMem.new.Goals as goal
 
 pub invariant_of-result : goal.invariant_of-result
 invariant_of-result c =
-    is_paged_none c.args.size (c.args.size / 4096 + 1) _ _ _ _ _ (search rules) (search rules) (search rules)
-    (grind (arith, common_steps)) (grind (arith, common_steps)) (grind (arith, common_steps)) (grind (arith, common_steps))
+    is_paged_none c.args.size 0 _ _ _ _ _ _ (search rules) (search rules) (search rules)
+    (grind (arith, common_steps)) (grind (arith, common_steps)) (grind (arith, common_steps)) (grind (arith, common_steps)) (grind (arith, common_steps))

@@ -1,43 +1,71 @@
 -- A page that isn't stored gets the next place; the bytes change only where the write is.
-use Rattle.std.proofs.Common.{◌≡◌, ℕ, ◌+◌, ◌*◌, ◌/◌, ◌%◌, ◌<◌, ◌≤◌, length, get_or, arith, ap, sym, ◌∙◌}
-use Rattle.std.proofs.lemmas.List.{get_or_read}
-use Rattle.guest_memory.proofs.PagesLemmas.{length_paged, has_place, is_paged_first, write_paged, write_first_paged}
+use Rattle.std.proofs.Common.{◌≡◌, ℕ, ◌+◌, ◌*◌, ◌/◌, ◌%◌, ◌<◌, ◌≤◌, List, length, arith, ap, sym, ◌∙◌}
+use Rattle.guest_memory.specs.Pages.{place_in}
+use Rattle.guest_memory.proofs.PagesLemmas.{length_paged, free, is_paged_first, write_paged, write_first_paged}
 use Rattle.guest_memory.proofs.flat.FlatMem.write_page.Goals as goal
 
-pub store-requires-clause-free : goal.store-requires-clause-free
-store-requires-clause-free c =
-    let here : c.args.start / 4096 < length c.self.inside.table.items = grind (arith, length_paged) in
-    let none = sym (get_or_read _ _ _ here c.index-place.ensures 0) ∙ c.if-place.true in
-    has_place _ _ _ _ _ _ _ c.self.invariant here none
+pub store-requires-clause-few : goal.store-requires-clause-few
+store-requires-clause-few c =
+    let ends : c.args.start + length c.args.source.now ≤ c.self.inside.size = grind (arith, length_paged) in
+    let here : c.args.start / 4096 ≤ c.self.inside.size / 4096 = omega (arith, ends) in
+    let place = c.place_of-place.ensures ∙ ap (λ (t : List ℕ). place_in t (c.args.start / 4096)) c.deref.ensures.value in
+    let none = sym place ∙ c.if-place.true in
+    let f = free _ _ _ _ _ _ _ _ c.self.invariant here none in
+    f.few
 
-pub store-requires-clause-room : goal.store-requires-clause-room
-store-requires-clause-room c =
-    let here : c.args.start / 4096 < length c.self.inside.table.items = grind (arith, length_paged) in
-    let none = sym (get_or_read _ _ _ here c.index-place.ensures 0) ∙ c.if-place.true in
-    omega (arith, has_place _ _ _ _ _ _ _ c.self.invariant here none, c.self.invariant.seated)
+pub store-requires-clause-place : goal.store-requires-clause-place
+store-requires-clause-place c =
+    let ends : c.args.start + length c.args.source.now ≤ c.self.inside.size = grind (arith, length_paged) in
+    let here : c.args.start / 4096 ≤ c.self.inside.size / 4096 = omega (arith, ends) in
+    let place = c.place_of-place.ensures ∙ ap (λ (t : List ℕ). place_in t (c.args.start / 4096)) c.deref.ensures.value in
+    let none = sym place ∙ c.if-place.true in
+    let f = free _ _ _ _ _ _ _ _ c.self.invariant here none in
+    f.place
 
-pub write_first-requires-clause-room : goal.write_first-requires-clause-room
-write_first-requires-clause-room c =
-    let here : c.args.start / 4096 < length c.self.inside.table.items = grind (arith, length_paged) in
-    let none = sym (get_or_read _ _ _ here c.index-place.ensures 0) ∙ c.if-place.true in
-    omega (arith, has_place _ _ _ _ _ _ _ c.self.invariant here none, c.self.invariant.filled, c.self.invariant.fits)
+pub store-requires-clause-entry : goal.store-requires-clause-entry
+store-requires-clause-entry c =
+    let ends : c.args.start + length c.args.source.now ≤ c.self.inside.size = grind (arith, length_paged) in
+    let here : c.args.start / 4096 ≤ c.self.inside.size / 4096 = omega (arith, ends) in
+    let place = c.place_of-place.ensures ∙ ap (λ (t : List ℕ). place_in t (c.args.start / 4096)) c.deref.ensures.value in
+    let none = sym place ∙ c.if-place.true in
+    let f = free _ _ _ _ _ _ _ _ c.self.invariant here none in
+    f.entry
+
+pub store-requires-clause-seat : goal.store-requires-clause-seat
+store-requires-clause-seat c =
+    let ends : c.args.start + length c.args.source.now ≤ c.self.inside.size = grind (arith, length_paged) in
+    let here : c.args.start / 4096 ≤ c.self.inside.size / 4096 = omega (arith, ends) in
+    let place = c.place_of-place.ensures ∙ ap (λ (t : List ℕ). place_in t (c.args.start / 4096)) c.deref.ensures.value in
+    let none = sym place ∙ c.if-place.true in
+    let f = free _ _ _ _ _ _ _ _ c.self.invariant here none in
+    f.seat
+
+pub store-requires-clause-cells : goal.store-requires-clause-cells
+store-requires-clause-cells c =
+    let ends : c.args.start + length c.args.source.now ≤ c.self.inside.size = grind (arith, length_paged) in
+    let here : c.args.start / 4096 ≤ c.self.inside.size / 4096 = omega (arith, ends) in
+    let place = c.place_of-place.ensures ∙ ap (λ (t : List ℕ). place_in t (c.args.start / 4096)) c.deref.ensures.value in
+    let none = sym place ∙ c.if-place.true in
+    let f = free _ _ _ _ _ _ _ _ c.self.invariant here none in
+    f.cells
 
 pub invariant_of-self : goal.invariant_of-self
 invariant_of-self c =
-    let here : c.args.start / 4096 < length c.self.inside.table.items = grind (arith, length_paged) in
-    let none = sym (get_or_read _ _ _ here c.index-place.ensures 0) ∙ c.if-place.true in
-    is_paged_first _ _ _ _ _ _ _ _ _ _ _ _ c.self.invariant here none c.store.ensures.table c.store.ensures.stored c.write_first.ensures.len c.write_first.ensures.capacity c.store.ensures.capacity
+    let ends : c.args.start + length c.args.source.now ≤ c.self.inside.size = grind (arith, length_paged) in
+    let here : c.args.start / 4096 ≤ c.self.inside.size / 4096 = omega (arith, ends) in
+    let place = c.place_of-place.ensures ∙ ap (λ (t : List ℕ). place_in t (c.args.start / 4096)) c.deref.ensures.value in
+    let none = sym place ∙ c.if-place.true in
+    is_paged_first _ _ _ _ _ _ _ _ _ _ _ _ _ _ c.self.invariant here none c.store.ensures.table c.store.ensures.stored c.store.ensures.len c.store.ensures.room c.store.ensures.seats c.store.ensures.entries
 
 pub returns-then-place : goal.returns-then-place
 returns-then-place c =
-    let here : c.args.start / 4096 < length c.self.inside.table.items = grind (arith, length_paged) in
     let ends : c.args.start + length c.args.source.now ≤ c.self.inside.size = grind (arith, length_paged) in
-    let none = sym (get_or_read _ _ _ here c.index-place.ensures 0) ∙ c.if-place.true in
-    rw (c.store.ensures.table, c.write_first.ensures.cells, ← c.self.view_is) (write_first_paged _ _ _ _ _ _ _ _ c.self.invariant c.requires.one ends none)
+    let place = c.place_of-place.ensures ∙ ap (λ (t : List ℕ). place_in t (c.args.start / 4096)) c.deref.ensures.value in
+    let none = sym place ∙ c.if-place.true in
+    rw (c.store.ensures.table, c.store.ensures.cells, ← c.self.view_is) (write_first_paged _ _ _ _ _ _ _ _ _ c.self.invariant c.requires.one ends none)
 
 pub returns-else-place : goal.returns-else-place
 returns-else-place c =
-    let here : c.args.start / 4096 < length c.self.inside.table.items = grind (arith, length_paged) in
     let ends : c.args.start + length c.args.source.now ≤ c.self.inside.size = grind (arith, length_paged) in
-    let place : c.index-place.result.now ≡ get_or c.self.inside.table.items (c.args.start / 4096) 0 = get_or_read _ _ _ here c.index-place.ensures 0 in
-    rw (c.write_within.ensures.cells, ← c.self.view_is) (write_paged _ _ _ _ _ _ _ _ _ c.self.invariant (ap (λ (n : ℕ). n * 4096 + c.args.start % 4096) place) c.requires.one ends (omega arith))
+    let place = c.place_of-place.ensures ∙ ap (λ (t : List ℕ). place_in t (c.args.start / 4096)) c.deref.ensures.value in
+    rw (c.write_within.ensures.cells, ← c.self.view_is) (write_paged _ _ _ _ _ _ _ c.self.invariant.paired c.self.invariant.filled (ap (λ (n : ℕ). n * 4096 + c.args.start % 4096) place) c.requires.one ends (λ mark. c.if-place.false (place ∙ mark)))

@@ -5,5 +5,5 @@ use Rattle.guest_memory.proofs.flat.FlatMemGuestMem.clear.Goals as goal
 
 pub invariant_of-self : goal.invariant_of-self
 invariant_of-self c =
-    is_paged_none _ (length c.self.inside.table.items) _ _ _ _ _ c.forget.ensures (search rules) (search rules)
-    c.self.invariant.few c.self.invariant.covers (omega (arith, c.self.invariant.fits)) (omega (arith, c.self.invariant.seated))
+    is_paged_none _ (length c.self.inside.table.items) _ _ _ _ _ _ c.forget.ensures.table (search rules) (search rules)
+    c.self.invariant.few c.self.invariant.reach (omega (arith, c.self.invariant.fits)) (omega (arith, c.self.invariant.seated)) (omega (arith, c.self.invariant.entered, c.forget.ensures.capacity))

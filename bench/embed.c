@@ -1,0 +1,149 @@
+/* Prints the table of docs/EMBEDDING.md on what a call costs through the C interface: the shortest of many rounds of 2,000
+ * calls, and how much of a fresh stack a call writes.
+ *
+ *   bindings/test && cc -O2 -Iinclude bench/embed.c bindings/native/libvfdev_c.a bindings/native/liblibc_c.a -o embed
+ *   LD_BIND_NOW=1 ./embed
+ *
+ * Words on the command line let the device be over memories of the archive's own. */
+#include "vfdev.h"
+#include <stdio.h>
+#include <stdlib.h>
+#include <string.h>
+#include <time.h>
+#include <ucontext.h>
+
+enum { CALLS = 2000, ROUNDS = 2000, MEMORY = 65536, FRAME = 60, STACK = 1 << 18 };
+
+static uint8_t memory[2][MEMORY];
+static uint8_t messages[VFDEV_POOLS], out[VFDEV_MOST_FRAME], bytes[16], frame[FRAME];
+static uint8_t stack[STACK] __attribute__((aligned(64)));
+static vfdev device = VFDEV_NONE;
+static ucontext_t here, there;
+static size_t left;
+static uint32_t turn;
+
+static void vf(uint8_t function, uint32_t offset, uint32_t value)
+{
+    vfdev_vf_write(&device, function, offset, value, messages, sizeof messages);
+}
+
+/* ---- the calls, and what has to come before each so that it does its work */
+
+static void nothing(void) {}
+static void vf_read(void) { vfdev_vf_read(&device, 0, 8); }
+static void vf_write(void) { vf(0, 0x108, 1); }
+static void pf_read(void) { vfdev_pf_read(&device, 0x51e0); }
+static void mem_write(void) { vfdev_mem_write(&device, 1, 0x3000, bytes, sizeof bytes); }
+static void mem_read(void) { vfdev_mem_read(&device, 1, 0x3000, bytes, sizeof bytes); }
+static void more_buffers(void) { vf(0, 0x1018, ++turn & 7); }
+static void wire(void) { vfdev_wire(&device, frame, FRAME, messages, sizeof messages); }
+static void more_frames(void) { vf(1, 0x2018, ++turn & 7); }
+static void serve(void) { vfdev_serve(&device, 1, 0, out, sizeof out, &left, messages, sizeof messages); }
+
+static const struct workload {
+    const char *name;
+    void (*before)(void);
+    void (*call)(void);
+} WORKLOADS[] = {
+    {"register read of a function", nothing, vf_read},
+    {"register write of a function", nothing, vf_write},
+    {"register read of the physical function", nothing, pf_read},
+    {"16 bytes of a guest's memory, written", nothing, mem_write},
+    {"16 bytes of a guest's memory, read", nothing, mem_read},
+    {"frame of 60 bytes from the wire to a guest", more_buffers, wire},
+    {"service that sends 60 bytes to the wire", more_frames, serve},
+};
+
+static double now(void)
+{
+    struct timespec t;
+    clock_gettime(CLOCK_MONOTONIC, &t);
+    return (double)t.tv_sec * 1e9 + (double)t.tv_nsec;
+}
+
+/* The shortest round, a call. */
+static double shortest(void (*first)(void), void (*second)(void))
+{
+    double best = 1e9;
+    for (int round = 0; round < ROUNDS; round++) {
+        double start = now();
+        for (int i = 0; i < CALLS; i++) {
+            first();
+            second();
+        }
+        double took = (now() - start) / CALLS;
+        if (took < best)
+            best = took;
+    }
+    return best;
+}
+
+/* How much of a fresh stack a call writes. */
+static size_t stack_of(void (*call)(void))
+{
+    memset(stack, 0xa5, sizeof stack);
+    getcontext(&there);
+    there.uc_stack.ss_sp = stack;
+    there.uc_stack.ss_size = sizeof stack;
+    there.uc_link = &here;
+    makecontext(&there, call, 0);
+    swapcontext(&here, &there);
+    size_t blank = 0;
+    while (blank < sizeof stack && stack[blank] == 0xa5)
+        blank++;
+    return sizeof stack - blank;
+}
+
+static void must(uint32_t answer)
+{
+    if (answer != VFDEV_OK)
+        exit(1);
+}
+
+static void set_up(int own)
+{
+    static const uint32_t PF[][2] = {{0x51e0, 3}, {0x8110, 3}, {0xa200, 2}, {0xa204, 0x80000000u}, {0xa600, 1}};
+    static const uint32_t RECEIVE[][2] = {{0x1000, 0x1000}, {0x1008, 128}, {0x1014, 0x02000002}, {0x1028, 0x02000000}};
+    static const uint32_t SEND[][2] = {{0x2000, 0x2000}, {0x2008, 128}, {0x2028, 0x02000000}};
+    static const uint8_t ADDRESSES[14] = {2, 0, 0, 0, 0, 0, 2, 0, 0, 0, 0, 9, 8, 0};
+    if (own) {
+        must(vfdev_make(&device, 2, MEMORY, 1518));
+    } else {
+        must(vfdev_lend(&device, (vfdev_block){memory[0], MEMORY}));
+        must(vfdev_lend(&device, (vfdev_block){memory[1], MEMORY}));
+        must(vfdev_make_lent(&device, 1518));
+    }
+    vfdev_open(&device, 0);
+    vfdev_open(&device, 1);
+    for (size_t i = 0; i < 5; i++)
+        vfdev_pf_write(&device, PF[i][0], PF[i][1]);
+    for (size_t i = 0; i < 8; i++) {
+        const uint8_t buffer[16] = {0, 0x40}, sent[16] = {0, 0x60, 0, 0, 0, 0, 0, 0, 0x3c, 0, 0x30, 0x29};
+        vfdev_mem_write(&device, 0, 0x1000 + 16 * i, buffer, 16);
+        vfdev_mem_write(&device, 1, 0x2000 + 16 * i, sent, 16);
+    }
+    memcpy(frame, ADDRESSES, sizeof ADDRESSES);
+    vfdev_mem_write(&device, 1, 0x6000, (const uint8_t[]){2, 0, 0, 0, 0, 0x77, 2, 0, 0, 0, 0, 1, 8, 0}, 14);
+    for (size_t i = 0; i < 4; i++)
+        vf(0, RECEIVE[i][0], RECEIVE[i][1]);
+    for (size_t i = 0; i < 3; i++)
+        vf(1, SEND[i][0], SEND[i][1]);
+}
+
+int main(int argc, char **argv)
+{
+    (void)argv;
+    set_up(argc > 1);
+    printf("| Call | ns | Stack at first, bytes | Later |\n|---|---|---|---|\n");
+    size_t blank = stack_of(nothing);
+    for (size_t i = 0; i < sizeof WORKLOADS / sizeof *WORKLOADS; i++) {
+        const struct workload *w = &WORKLOADS[i];
+        w->before();
+        size_t at_first = stack_of(w->call) - blank;
+        double took = shortest(w->before, w->call) - shortest(w->before, nothing);
+        w->before();
+        printf("| %s | %.0f | %zu | %zu |\n", w->name, took, at_first, stack_of(w->call) - blank);
+    }
+    vfdev_free(&device);
+    return 0;
+}

@@ -1,0 +1,18 @@
+//! Links the two archives: `VFDEV_NATIVE` names their folder, and where it is unset `bindings/native` has them.
+use std::env;
+use std::path::PathBuf;
+
+fn main() {
+    let here = PathBuf::from(
+        env::var_os("CARGO_MANIFEST_DIR").expect("cargo sets the folder of the crate"),
+    );
+    let native = match env::var_os("VFDEV_NATIVE") {
+        Some(folder) => PathBuf::from(folder),
+        None => here.join("../../native"),
+    };
+    println!("cargo:rustc-link-search=native={}", native.display());
+    println!("cargo:rustc-link-lib=static=vfdev_c");
+    println!("cargo:rustc-link-lib=static=libc_c");
+    println!("cargo:rerun-if-changed={}", native.display());
+    println!("cargo:rerun-if-env-changed=VFDEV_NATIVE");
+}

@@ -1,0 +1,272 @@
+//! A device over the archive.
+
+use crate::kinds::{Fault, Messages, Queue, Served, MOST_FRAME};
+use crate::raw;
+
+/// A device. Calls take `&mut self`, so that one is made at a time; [`SharedDevice`](crate::SharedDevice) has a lock.
+///
+/// Functions are numbers from 0 to 255, of which those that the device does not have are refused.
+///
+/// ```
+/// use vfdev::{Device, Fault};
+/// let mut device = Device::new(2, 65536, 1518)?;
+/// device.open(0)?;
+/// assert_eq!(device.vf_read(0, 0x10)?, 0x7000_0000);
+/// assert_eq!(device.vf_read(1, 0x10), Err(Fault::NotOpen));
+/// # Ok::<(), Fault>(())
+/// ```
+#[derive(Debug)]
+pub struct Device<'m> {
+    handle: raw::Vfdev,
+    // the blocks that the device may write until it is dropped
+    lent: std::marker::PhantomData<&'m mut [u8]>,
+}
+
+// SAFETY: what the handle leads to holds nothing of a thread's own, which is proved of its type in the archive, and calls
+// are ordered by `&mut self`.
+unsafe impl Send for Device<'_> {}
+
+impl Drop for Device<'_> {
+    fn drop(&mut self) {
+        // SAFETY: the handle is one that the makers filled or left empty, and nothing else holds it.
+        unsafe { raw::vfdev_free(&mut self.handle) }
+    }
+}
+
+impl Device<'static> {
+    /// A device of closed functions over zero memories of the archive's own.
+    ///
+    /// # Errors
+    /// [`Fault::BadMake`] outside 1 to 64 functions, memories of 4096 to 16777216 bytes that are a multiple of 128, frames
+    /// of up to 1518 to 9018 bytes; [`Fault::NoMemory`] where the host refused.
+    ///
+    /// ```
+    /// use vfdev::{Device, Fault};
+    /// assert_eq!(Device::new(65, 4096, 1518).err(), Some(Fault::BadMake));
+    /// ```
+    pub fn new(functions: u32, memory: u64, limit: u16) -> Result<Device<'static>, Fault> {
+        let mut device = Device::empty()?;
+        // SAFETY: the handle is empty, and the reference leads to one live value.
+        let answer = unsafe { raw::vfdev_make(&mut device.handle, functions, memory, limit) };
+        made(answer).map(|()| device)
+    }
+}
+
+impl<'m> Device<'m> {
+    /// A device of closed functions, each over one of the blocks. Nobody else reaches the blocks while the device is there;
+    /// [`open`](Device::open) writes zeros over all of one.
+    ///
+    /// # Errors
+    /// [`Fault::BadMake`] and [`Fault::NoMemory`] as [`Device::new`] has them.
+    ///
+    /// ```
+    /// use vfdev::{Device, Fault};
+    /// let mut memory = vec![7u8; 4096];
+    /// let mut device = Device::over(vec![&mut memory[..]], 1518)?;
+    /// device.open(0)?;
+    /// device.mem_write(0, 16, &[1, 2])?;
+    /// drop(device);
+    /// assert_eq!(memory[15..18], [0, 1, 2]);
+    /// # Ok::<(), Fault>(())
+    /// ```
+    pub fn over(blocks: Vec<&'m mut [u8]>, limit: u16) -> Result<Device<'m>, Fault> {
+        let mut device = Device::empty()?;
+        for cells in blocks {
+            let block = raw::Block {
+                at: cells.as_mut_ptr(),
+                len: cells.len(),
+            };
+            // SAFETY: the block leads to bytes that are borrowed for 'm, which outlives the device, and to nobody else.
+            made(unsafe { raw::vfdev_lend(&mut device.handle, block) })?;
+        }
+        // SAFETY: the reference leads to one live value, which only this function holds.
+        made(unsafe { raw::vfdev_make_lent(&mut device.handle, limit) })?;
+        Ok(device)
+    }
+
+    fn empty() -> Result<Device<'m>, Fault> {
+        // SAFETY: the function takes nothing and reads nothing.
+        if unsafe { raw::vfdev_version() } != 1 {
+            return Err(Fault::Version);
+        }
+        Ok(Device {
+            handle: raw::Vfdev::NONE,
+            lent: std::marker::PhantomData,
+        })
+    }
+
+    /// Opens a function: its registers become initial, and its memory zero.
+    ///
+    /// # Errors
+    /// [`Fault::NoSuchVf`], then [`Fault::AlreadyOpen`].
+    pub fn open(&mut self, function: u8) -> Result<(), Fault> {
+        // SAFETY: the reference leads to one live value, which only this device holds.
+        done(unsafe { raw::vfdev_open(&mut self.handle, function) })
+    }
+
+    /// Closes a function.
+    ///
+    /// # Errors
+    /// [`Fault::NoSuchVf`], then [`Fault::NotOpen`].
+    pub fn end(&mut self, function: u8) -> Result<(), Fault> {
+        // SAFETY: the reference leads to one live value, which only this device holds.
+        done(unsafe { raw::vfdev_end(&mut self.handle, function) })
+    }
+
+    /// Function-level reset: the registers become initial, and the memory stays.
+    ///
+    /// # Errors
+    /// [`Fault::NoSuchVf`], then [`Fault::NotOpen`].
+    pub fn flr(&mut self, function: u8) -> Result<(), Fault> {
+        // SAFETY: the reference leads to one live value, which only this device holds.
+        done(unsafe { raw::vfdev_flr(&mut self.handle, function) })
+    }
+
+    /// Reads a register of a function, at an offset in bytes.
+    ///
+    /// # Errors
+    /// [`Fault::NoSuchVf`], then [`Fault::NotOpen`], then [`Fault::BadOffset`].
+    #[inline]
+    pub fn vf_read(&mut self, function: u8, offset: u32) -> Result<u32, Fault> {
+        // SAFETY: the reference leads to one live value, which only this device holds.
+        value(unsafe { raw::vfdev_vf_read(&mut self.handle, function, offset) })
+    }
+
+    /// Writes a register of a function, and answers the messages that this issues. A write to a tail of a transmit queue
+    /// serves nothing: [`serve`](Device::serve) does.
+    ///
+    /// # Errors
+    /// As [`vf_read`](Device::vf_read).
+    #[inline]
+    pub fn vf_write(&mut self, function: u8, offset: u32, word: u32) -> Result<Messages, Fault> {
+        let mut messages = Messages::NONE;
+        let (at, len) = (messages.0.as_mut_ptr(), messages.0.len());
+        // SAFETY: the pointer and the length are those of one live array, and the handle is this device's alone.
+        done(unsafe { raw::vfdev_vf_write(&mut self.handle, function, offset, word, at, len) })?;
+        Ok(messages)
+    }
+
+    /// Fills `out` with bytes of a function's memory; where it is refused, `out` stays.
+    ///
+    /// # Errors
+    /// [`Fault::NoSuchVf`], [`Fault::NotOpen`], [`Fault::TooLong`], [`Fault::BadRange`].
+    #[inline]
+    pub fn mem_read(&mut self, function: u8, at: u64, out: &mut [u8]) -> Result<(), Fault> {
+        let (start, len) = (out.as_mut_ptr(), out.len());
+        // SAFETY: the pointer and the length are those of one live slice, and the handle is this device's alone.
+        bytes(unsafe { raw::vfdev_mem_read(&mut self.handle, function, at, start, len) })
+    }
+
+    /// Writes bytes of a function's memory.
+    ///
+    /// # Errors
+    /// [`Fault::TooLong`], [`Fault::NoSuchVf`], [`Fault::NotOpen`], [`Fault::BadRange`].
+    #[inline]
+    pub fn mem_write(&mut self, function: u8, at: u64, source: &[u8]) -> Result<(), Fault> {
+        let (start, len) = (source.as_ptr(), source.len());
+        // SAFETY: the pointer and the length are those of one live slice, and the handle is this device's alone.
+        done(unsafe { raw::vfdev_mem_write(&mut self.handle, function, at, start, len) })
+    }
+
+    /// Takes the next descriptor of a transmit queue. A frame that leaves for the wire stands in the first bytes of `out`.
+    ///
+    /// # Errors
+    /// [`Fault::NoSuchVf`], then [`Fault::NotOpen`].
+    pub fn serve(
+        &mut self,
+        function: u8,
+        queue: Queue,
+        out: &mut [u8; MOST_FRAME],
+    ) -> Result<(Served, Messages), Fault> {
+        let mut left = 0;
+        let mut messages = Messages::NONE;
+        let (at, len) = (messages.0.as_mut_ptr(), messages.0.len());
+        let (queue, start) = (u8::from(queue == Queue::Q1), out.as_mut_ptr());
+        // SAFETY: each pointer and length are those of one live array, none overlaps another, and the handle is this
+        // device's alone.
+        let reply = unsafe {
+            let handle = &mut self.handle;
+            raw::vfdev_serve(
+                handle, function, queue, start, MOST_FRAME, &mut left, at, len,
+            )
+        };
+        let served = match reply.kind {
+            3 => Served::Idle,
+            4 => Served::More,
+            5 => Served::Sent((left > 0).then_some(left)),
+            6 => Served::Dropped,
+            7 => Served::Faulted,
+            _ => return Err(Fault::of(reply.value)),
+        };
+        Ok((served, messages))
+    }
+
+    /// Reads a register of the physical function, at an offset in bytes.
+    ///
+    /// # Errors
+    /// [`Fault::BadOffset`].
+    pub fn pf_read(&mut self, offset: u32) -> Result<u32, Fault> {
+        // SAFETY: the reference leads to one live value, which only this device holds.
+        value(unsafe { raw::vfdev_pf_read(&mut self.handle, offset) })
+    }
+
+    /// Writes a register of the physical function.
+    ///
+    /// # Errors
+    /// [`Fault::BadOffset`].
+    pub fn pf_write(&mut self, offset: u32, word: u32) -> Result<(), Fault> {
+        // SAFETY: the reference leads to one live value, which only this device holds.
+        done(unsafe { raw::vfdev_pf_write(&mut self.handle, offset, word) })
+    }
+
+    /// Resets the device: every function is closed and every setting initial.
+    pub fn pf_reset(&mut self) {
+        // SAFETY: the reference leads to one live value, which only this device holds.
+        let _done = unsafe { raw::vfdev_pf_reset(&mut self.handle) };
+    }
+
+    /// A frame comes from the wire; the messages that this issues.
+    ///
+    /// # Errors
+    /// [`Fault::BadFrame`] where the bytes are none, or more than the device takes.
+    #[inline]
+    pub fn wire(&mut self, frame: &[u8]) -> Result<Messages, Fault> {
+        let mut messages = Messages::NONE;
+        let (at, len) = (messages.0.as_mut_ptr(), messages.0.len());
+        let (start, count) = (frame.as_ptr(), frame.len());
+        // SAFETY: each pointer and length are those of one live slice, and the handle is this device's alone.
+        done(unsafe { raw::vfdev_wire(&mut self.handle, start, count, at, len) })?;
+        Ok(messages)
+    }
+}
+
+fn made(answer: u32) -> Result<(), Fault> {
+    match answer {
+        0 => Ok(()),
+        fault => Err(Fault::of(fault)),
+    }
+}
+
+#[inline]
+fn done(reply: raw::Reply) -> Result<(), Fault> {
+    match reply.kind {
+        0 => Ok(()),
+        _ => Err(Fault::of(reply.value)),
+    }
+}
+
+#[inline]
+fn value(reply: raw::Reply) -> Result<u32, Fault> {
+    match reply.kind {
+        1 => Ok(reply.value),
+        _ => Err(Fault::of(reply.value)),
+    }
+}
+
+#[inline]
+fn bytes(reply: raw::Reply) -> Result<(), Fault> {
+    match reply.kind {
+        2 => Ok(()),
+        _ => Err(Fault::of(reply.value)),
+    }
+}

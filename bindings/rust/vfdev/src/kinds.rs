@@ -1,0 +1,184 @@
+//! The small types of the interface.
+
+use std::fmt;
+
+/// How many pools there are, which is how many virtual functions a device may have.
+pub const POOLS: u8 = 64;
+/// How long a frame may be, in bytes.
+pub const MOST_FRAME: usize = 9018;
+/// How many bytes of a guest's memory one access names at most.
+pub const MOST_BYTES: usize = 2048;
+
+/// The number of a virtual function, which is also that of its pool: below 64.
+///
+/// ```
+/// use vfdev::Pool;
+/// assert_eq!(Pool::new(63).map(Pool::get), Some(63));
+/// assert_eq!(Pool::new(64), None);
+/// ```
+#[derive(Clone, Copy, Debug, PartialEq, Eq, PartialOrd, Ord, Hash)]
+pub struct Pool(u8);
+
+impl Pool {
+    /// The pool of that number, if it is below 64.
+    #[must_use]
+    pub const fn new(number: u8) -> Option<Pool> {
+        if number < POOLS {
+            Some(Pool(number))
+        } else {
+            None
+        }
+    }
+
+    /// The number.
+    #[must_use]
+    pub const fn get(self) -> u8 {
+        self.0
+    }
+}
+
+/// Why a call was refused. The device is as it was.
+///
+/// ```
+/// use vfdev::Fault;
+/// assert_eq!(Fault::BadRange.number(), 4);
+/// assert_eq!(Fault::BadRange.to_string(), "the range passes the end of the memory");
+/// ```
+#[derive(Clone, Copy, Debug, PartialEq, Eq)]
+#[non_exhaustive]
+pub enum Fault {
+    /// The device has no virtual function of that number.
+    NoSuchVf,
+    /// The virtual function is closed.
+    NotOpen,
+    /// The register offset is no multiple of 4, or past the registers.
+    BadOffset,
+    /// The bytes pass the end of the guest's memory.
+    BadRange,
+    /// More than [`MOST_BYTES`] bytes.
+    TooLong,
+    /// The bytes are no frame, or the frame is longer than the device takes.
+    BadFrame,
+    /// The virtual function is open already.
+    AlreadyOpen,
+    /// The host refused memory.
+    NoMemory,
+    /// A size or a count is outside its limits.
+    BadMake,
+    /// The archive has another version than this crate.
+    Version,
+    /// A number that this version does not know.
+    Other(u32),
+}
+
+impl Fault {
+    pub(crate) fn of(number: u32) -> Fault {
+        match number {
+            1 => Fault::NoSuchVf,
+            2 => Fault::NotOpen,
+            3 => Fault::BadOffset,
+            4 => Fault::BadRange,
+            5 => Fault::TooLong,
+            6 => Fault::BadFrame,
+            7 => Fault::AlreadyOpen,
+            9 => Fault::NoMemory,
+            10 => Fault::BadMake,
+            other => Fault::Other(other),
+        }
+    }
+
+    /// The number that scripts and replies show; 0 for [`Fault::Version`].
+    #[must_use]
+    pub fn number(self) -> u32 {
+        match self {
+            Fault::NoSuchVf => 1,
+            Fault::NotOpen => 2,
+            Fault::BadOffset => 3,
+            Fault::BadRange => 4,
+            Fault::TooLong => 5,
+            Fault::BadFrame => 6,
+            Fault::AlreadyOpen => 7,
+            Fault::NoMemory => 9,
+            Fault::BadMake => 10,
+            Fault::Version => 0,
+            Fault::Other(number) => number,
+        }
+    }
+}
+
+impl fmt::Display for Fault {
+    fn fmt(&self, f: &mut fmt::Formatter<'_>) -> fmt::Result {
+        f.write_str(match self {
+            Fault::NoSuchVf => "no such virtual function",
+            Fault::NotOpen => "the virtual function is not open",
+            Fault::BadOffset => "the register offset is not valid",
+            Fault::BadRange => "the range passes the end of the memory",
+            Fault::TooLong => "the access is longer than 2048 bytes",
+            Fault::BadFrame => "the bytes are no frame",
+            Fault::AlreadyOpen => "the virtual function is open already",
+            Fault::NoMemory => "no memory",
+            Fault::BadMake => "a size or a count is outside its limits",
+            Fault::Version => "the archive has another version than this crate",
+            Fault::Other(number) => return write!(f, "fault {number}"),
+        })
+    }
+}
+
+impl std::error::Error for Fault {}
+
+/// The interrupt messages that a call issued: for each pool a set of its vectors 0 to 2.
+#[derive(Clone, Copy, Debug, PartialEq, Eq)]
+pub struct Messages(pub(crate) [u8; POOLS as usize]);
+
+impl Messages {
+    /// None.
+    pub const NONE: Messages = Messages([0; POOLS as usize]);
+
+    /// The vectors of a pool: bit v for vector v.
+    #[must_use]
+    pub fn to(&self, pool: Pool) -> u8 {
+        self.0[usize::from(pool.0)]
+    }
+
+    /// Whether there are none.
+    #[must_use]
+    pub fn is_empty(&self) -> bool {
+        self.0 == [0; POOLS as usize]
+    }
+
+    /// Each pool that got any, with its vectors as [`Messages::to`] has them, in rising order.
+    ///
+    /// ```
+    /// use vfdev::Messages;
+    /// assert_eq!(Messages::NONE.iter().next(), None);
+    /// ```
+    pub fn iter(&self) -> impl Iterator<Item = (Pool, u8)> + '_ {
+        (0..POOLS)
+            .map(|p| (Pool(p), self.0[usize::from(p)]))
+            .filter(|(_, vectors)| *vectors != 0)
+    }
+}
+
+/// A transmit queue.
+#[derive(Clone, Copy, Debug, PartialEq, Eq)]
+pub enum Queue {
+    /// Queue 0.
+    Q0,
+    /// Queue 1.
+    Q1,
+}
+
+/// What came of a service of a transmit queue.
+#[derive(Clone, Copy, Debug, PartialEq, Eq)]
+pub enum Served {
+    /// No descriptor was taken: the pool may not transmit, or the queue is off or empty.
+    Idle,
+    /// A descriptor was taken, and its frame goes on.
+    More,
+    /// A frame was sent. So many bytes of it left for the wire, or none where it went to other functions alone.
+    Sent(Option<usize>),
+    /// A frame was dropped: it is overlong or no frame, or its pool's settings do not permit it.
+    Dropped,
+    /// The descriptor cannot be used, and the queue is off now.
+    Faulted,
+}

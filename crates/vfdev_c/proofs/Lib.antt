@@ -1,0 +1,3 @@
+mod HandleLemmas
+mod Silence
+pub mod Values

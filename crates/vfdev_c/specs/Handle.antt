@@ -1,0 +1,171 @@
+-- What a handle leads to, and what a call leaves of it and answers.
+use Rattle.std.specs.Prelude.{◌≡◌, ℕ, ◌<◌, Bool, true, false, ◌&&◌, nat_le, nat_lt, nat_eq, List, [], ◌∷◌, ◌++◌, drop, length, Option, Some, None, Result, Ok, Err, if◌then◌else◌}
+use Rattle.wire_frame.specs.Fault.{number_of}
+use Rattle.wire_frame.specs.Frame.{is_frame}
+use Rattle.wire_frame.specs.declared.fault.Fault.{Fault}
+use Rattle.wire_frame.specs.declared.fault.Fault.TheVariants.{TooLong, BadFrame}
+use Rattle.guest_memory.specs.Memory.{is_memory_size}
+use Rattle.irq_causes.specs.Messages.{no_messages}
+use Rattle.vf_unit.specs.declared.registers.Queue.{Queue}
+use Rattle.vf_unit.specs.declared.registers.Queue.TheVariants.{Q0, Q1}
+use Rattle.device.specs.declared.event.Event.{Event}
+use Rattle.device.specs.declared.event.Event.TheVariants.{VfWrite, MemWrite, Serve, Wire}
+use Rattle.device.specs.declared.event.Reply.{Reply}
+use Rattle.device.specs.declared.event.Reply.TheVariants.{Done, Value, Bytes, Idle, More, Sent, Dropped, Faulted, Refused}
+use Rattle.device.specs.World.{World, step, is_frame_limit}
+use Rattle.device.specs.Outcome.{left_by}
+use Rattle.device.specs.Lone.{keep, lone_of, lone_seen, lone_after, seen_by}
+use Rattle.vfdev_c.specs.declared.reply.VfdevReply.{VfdevReply}
+use Rattle.vfdev_c.specs.declared.stage.Stage.{Stage}
+use Rattle.vfdev_c.specs.declared.stage.Stage.TheVariants.{Lending, Made}
+
+-- what a handle leads to: nothing, memories that were lent for a device, or a device
+abbrev pub Held : Type 0
+Held = Option Stage
+
+-- ---- replies, as C sees them
+
+abbrev pub numbered : ℕ → ℕ → VfdevReply
+numbered kind value = record { kind = kind; value = value }
+
+-- the reply of a device: its kind, with the value of a register or the number of a refusal
+abbrev pub shown : Reply → VfdevReply
+shown Done = numbered 0 0
+shown (Value x) = numbered 1 x
+shown (Bytes bytes) = numbered 2 0
+shown Idle = numbered 3 0
+shown More = numbered 4 0
+shown Sent = numbered 5 0
+shown Dropped = numbered 6 0
+shown Faulted = numbered 7 0
+shown (Refused number) = numbered 8 number
+
+-- the replies of a call that asked no device
+abbrev pub no_device : VfdevReply
+no_device = numbered 9 0
+
+abbrev pub no_room : VfdevReply
+no_room = numbered 10 0
+
+abbrev pub no_queue : VfdevReply
+no_queue = numbered 11 0
+
+abbrev pub refused_as : Fault → VfdevReply
+refused_as fault = numbered 8 (number_of fault)
+
+-- ---- what a call asks: an event, or nothing, where an argument is refused with a reply
+
+abbrev pub Asked : Type 0
+Asked = Result Event VfdevReply
+
+-- there is room for the messages to the 64 pools
+abbrev pub has_room : List ℕ → Bool
+has_room messages = nat_le 64 (length messages)
+
+abbrev pub where_room : List ℕ → Asked → Asked
+where_room messages asked = if has_room messages then asked else Err no_room
+
+abbrev pub wire_asked : List ℕ → Asked
+wire_asked bytes = if is_frame 9018 bytes then Ok (Wire bytes) else Err (refused_as BadFrame)
+
+abbrev pub write_asked : ℕ → ℕ → List ℕ → Asked
+write_asked function at bytes = if nat_le (length bytes) 2048 then Ok (MemWrite function at bytes) else Err (refused_as TooLong)
+
+-- the transmit queue of that number
+abbrev pub queue_of : ℕ → Option Queue
+queue_of number = if nat_eq number 0 then Some Q0 else (if nat_eq number 1 then Some Q1 else None)
+
+-- a queue, where there is room for the longest frame
+abbrev pub serve_at : ℕ → Option Queue → List ℕ → Asked
+serve_at function (Some queue) out = if nat_le 9018 (length out) then Ok (Serve function queue) else Err no_room
+serve_at function None out = Err no_queue
+
+abbrev pub serve_asked : ℕ → ℕ → List ℕ → Asked
+serve_asked function queue out = serve_at function (queue_of queue) out
+
+-- ---- what a call does, by what it asks
+
+-- what the handle leads to after it: an event is given to the device, where there is one
+abbrev pub after : Held → Asked → Held
+after (Some (Made w)) (Ok e) = Some (Made (step w e).world)
+after held asked = held
+
+abbrev pub reply_to : Held → Asked → VfdevReply
+reply_to held (Err reply) = reply
+reply_to (Some (Made w)) (Ok e) = shown (step w e).answer.reply
+reply_to held (Ok e) = no_device
+
+-- the messages that it issued, for each pool
+abbrev pub raised_by : Held → Asked → List ℕ
+raised_by (Some (Made w)) (Ok e) = (step w e).answer.raised
+raised_by held asked = no_messages
+
+-- the messages stand in the first 64 bytes, where there is room; no other byte changes
+abbrev pub messages_in : List ℕ → List ℕ → List ℕ
+messages_in raised old = if has_room old then raised ++ drop 64 old else old
+
+-- the frame that left for the wire
+abbrev pub left_of : Held → Asked → Option (List ℕ)
+left_of (Some (Made w)) (Ok e) = left_by w e
+left_of held asked = None
+
+-- it stands in the first bytes, and no other byte changes
+abbrev pub frame_in : Option (List ℕ) → List ℕ → List ℕ
+frame_in (Some frame) out = frame ++ drop (length frame) out
+frame_in None out = out
+
+abbrev pub length_in : Option (List ℕ) → ℕ
+length_in (Some frame) = length frame
+length_in None = 0
+
+-- the bytes that were read, where they were, and else what was there
+abbrev pub bytes_shown : Reply → List ℕ → List ℕ
+bytes_shown (Bytes bytes) out = bytes
+bytes_shown reply out = out
+
+abbrev pub bytes_in : Held → Event → List ℕ → List ℕ
+bytes_in (Some (Made w)) e out = bytes_shown (step w e).answer.reply out
+bytes_in held e out = out
+
+-- it issues no messages, whatever the device is
+abbrev pub is_silent : Event → Bool
+is_silent (VfWrite p offset x) = false
+is_silent (Serve p q) = false
+is_silent (Wire frame) = false
+is_silent e = true
+
+-- ---- isolation
+
+-- to each function of the device an event is as if it were alone: what it sees of it, and what it is left as
+unfoldable pub IsolatedStep : World → Event → World → Type 0
+IsolatedStep w e new = (p : ℕ) → p < length w.functions →
+    (seen_by p (e ∷ []) ((step w e).answer ∷ []) ≡ lone_seen (lone_of p w) (keep p w (e ∷ [])))
+    × (lone_of p new ≡ lone_after (lone_of p w) (keep p w (e ∷ [])))
+
+abbrev pub Isolated : Held → Asked → Held → Type 0
+Isolated (Some (Made w)) (Ok e) (Some (Made new)) = IsolatedStep w e new
+Isolated held asked new = Unit
+
+-- ---- makers
+
+-- a device of so many functions over memories of one size can be made
+abbrev pub can_make : ℕ → ℕ → ℕ → Bool
+can_make functions size limit = nat_le 1 functions && (nat_le functions 64 && (is_memory_size size && is_frame_limit limit))
+
+abbrev pub is_lending : Held → Bool
+is_lending (Some (Lending blocks)) = true
+is_lending held = false
+
+-- the memories that were lent for a device, each with its bytes
+abbrev pub lent_in : Held → List (List ℕ)
+lent_in (Some (Lending blocks)) = blocks
+lent_in held = []
+
+-- a block of these bytes can be lent: they are a memory, and there are fewer than 64 yet
+abbrev pub can_lend : Held → List ℕ → Bool
+can_lend held bytes = is_memory_size (length bytes) && nat_lt (length (lent_in held)) 64
+
+-- a device is there
+abbrev pub is_made : Held → Bool
+is_made (Some (Made w)) = true
+is_made held = false

@@ -1,0 +1,3 @@
+pub mod Handle
+pub mod Memory
+pub mod Ownership

@@ -1,0 +1,204 @@
+//! The events, but for a service: each call gives one to the device.
+ghost use Rattle.std.specs.Prelude.{◌≡◌, length, Ok};
+ghost use Rattle.wire_frame.specs.Frame.{is_frame};
+ghost use Rattle.device.specs.declared.event.Event.{Event};
+ghost use Rattle.vfdev_c.specs.Handle.{after, reply_to, raised_by, messages_in, bytes_in, where_room, wire_asked, write_asked, Isolated};
+
+use crate::handle::Vfdev;
+use crate::reply::VfdevReply;
+use crate::stage::MOST_FRAME;
+use device::{MemSlice, Request};
+use irq_causes::Messages;
+use std::alloc::Global;
+use wire_frame::Fault;
+
+/// How many pools there are, each of which has a byte of the messages.
+pub const POOLS: usize = 64;
+
+/// Opens a virtual function: its registers become initial, and its memory zero, whatever it was.
+#[unsafe(no_mangle)]
+pub extern "C" fn vfdev_open(alloc: Global, handle: &mut Vfdev, function: u8) -> VfdevReply
+    ensures held { handle.new.owner.held ≡ after handle.old.owner.held (Ok (Event.Open function)) }
+    ensures reply { result ≡ reply_to handle.old.owner.held (Ok (Event.Open function)) }
+    ensures isolated { Isolated handle.old.owner.held (Ok (Event.Open function)) handle.new.owner.held }
+{
+    handle.give(alloc, Request::Open(function)).0
+}
+
+/// Closes a virtual function.
+#[unsafe(no_mangle)]
+pub extern "C" fn vfdev_end(alloc: Global, handle: &mut Vfdev, function: u8) -> VfdevReply
+    ensures held { handle.new.owner.held ≡ after handle.old.owner.held (Ok (Event.End function)) }
+    ensures reply { result ≡ reply_to handle.old.owner.held (Ok (Event.End function)) }
+    ensures isolated { Isolated handle.old.owner.held (Ok (Event.End function)) handle.new.owner.held }
+{
+    handle.give(alloc, Request::End(function)).0
+}
+
+/// Resets a virtual function (SR-IOV 1.1, function-level reset).
+#[unsafe(no_mangle)]
+pub extern "C" fn vfdev_flr(alloc: Global, handle: &mut Vfdev, function: u8) -> VfdevReply
+    ensures held { handle.new.owner.held ≡ after handle.old.owner.held (Ok (Event.Flr function)) }
+    ensures reply { result ≡ reply_to handle.old.owner.held (Ok (Event.Flr function)) }
+    ensures isolated { Isolated handle.old.owner.held (Ok (Event.Flr function)) handle.new.owner.held }
+{
+    handle.give(alloc, Request::Flr(function)).0
+}
+
+/// Reads the register of a virtual function at an offset in bytes.
+#[unsafe(no_mangle)]
+pub extern "C" fn vfdev_vf_read(
+    alloc: Global,
+    handle: &mut Vfdev,
+    function: u8,
+    offset: u32,
+) -> VfdevReply
+    ensures held { handle.new.owner.held ≡ after handle.old.owner.held (Ok (Event.VfRead function offset)) }
+    ensures reply { result ≡ reply_to handle.old.owner.held (Ok (Event.VfRead function offset)) }
+    ensures isolated { Isolated handle.old.owner.held (Ok (Event.VfRead function offset)) handle.new.owner.held }
+{
+    handle.give(alloc, Request::VfRead(function, offset)).0
+}
+
+/// Writes the register of a virtual function at an offset in bytes. The messages that this issues stand in the first 64
+/// bytes of `messages`.
+#[unsafe(no_mangle)]
+pub extern "C" fn vfdev_vf_write(
+    alloc: Global,
+    handle: &mut Vfdev,
+    function: u8,
+    offset: u32,
+    value: u32,
+    messages: &mut [u8],
+) -> VfdevReply
+    ensures held { handle.new.owner.held ≡ after handle.old.owner.held (where_room messages.old (Ok (Event.VfWrite function offset value))) }
+    ensures reply { result ≡ reply_to handle.old.owner.held (where_room messages.old (Ok (Event.VfWrite function offset value))) }
+    ensures messages { messages.new ≡ messages_in (raised_by handle.old.owner.held (Ok (Event.VfWrite function offset value))) messages.old }
+    ensures isolated { Isolated handle.old.owner.held (where_room messages.old (Ok (Event.VfWrite function offset value))) handle.new.owner.held }
+{
+    if messages.len() < POOLS {
+        return VfdevReply::no_room();
+    }
+    let (reply, raised) = handle.give(alloc, Request::VfWrite(function, offset, value));
+    put_messages(raised, messages);
+    reply
+}
+
+/// Fills `out` with the bytes of a guest's memory from an address on, at most 2048. Where it is refused, `out` stays.
+#[unsafe(no_mangle)]
+pub extern "C" fn vfdev_mem_read(
+    alloc: Global,
+    handle: &mut Vfdev,
+    function: u8,
+    at: u64,
+    out: &mut [u8],
+) -> VfdevReply
+    ensures held { handle.new.owner.held ≡ after handle.old.owner.held (Ok (Event.MemRead function at (length out.old))) }
+    ensures reply { result ≡ reply_to handle.old.owner.held (Ok (Event.MemRead function at (length out.old))) }
+    ensures bytes { out.new ≡ bytes_in handle.old.owner.held (Event.MemRead function at (length out.old)) out.old }
+    ensures isolated { Isolated handle.old.owner.held (Ok (Event.MemRead function at (length out.old))) handle.new.owner.held }
+{
+    handle.mem_read(alloc, function, at, out)
+}
+
+/// Writes bytes of a guest's memory from an address on. More than 2048 are refused as too long before the device is asked.
+#[unsafe(no_mangle)]
+pub extern "C" fn vfdev_mem_write(
+    alloc: Global,
+    handle: &mut Vfdev,
+    function: u8,
+    at: u64,
+    bytes: &[u8],
+) -> VfdevReply
+    ensures held { handle.new.owner.held ≡ after handle.old.owner.held (write_asked function at bytes.now) }
+    ensures reply { result ≡ reply_to handle.old.owner.held (write_asked function at bytes.now) }
+    ensures isolated { Isolated handle.old.owner.held (write_asked function at bytes.now) handle.new.owner.held }
+{
+    match MemSlice::new(bytes) {
+        Ok(written) => handle
+            .give(alloc, Request::MemWrite(function, at, written))
+            .0,
+        Err(fault) => VfdevReply::refused(fault),
+    }
+}
+
+/// Reads the register of the physical function at an offset in bytes.
+#[unsafe(no_mangle)]
+pub extern "C" fn vfdev_pf_read(alloc: Global, handle: &mut Vfdev, offset: u32) -> VfdevReply
+    ensures held { handle.new.owner.held ≡ after handle.old.owner.held (Ok (Event.PfRead offset)) }
+    ensures reply { result ≡ reply_to handle.old.owner.held (Ok (Event.PfRead offset)) }
+    ensures isolated { Isolated handle.old.owner.held (Ok (Event.PfRead offset)) handle.new.owner.held }
+{
+    handle.give(alloc, Request::PfRead(offset)).0
+}
+
+/// Writes the register of the physical function at an offset in bytes.
+#[unsafe(no_mangle)]
+pub extern "C" fn vfdev_pf_write(
+    alloc: Global,
+    handle: &mut Vfdev,
+    offset: u32,
+    value: u32,
+) -> VfdevReply
+    ensures held { handle.new.owner.held ≡ after handle.old.owner.held (Ok (Event.PfWrite offset value)) }
+    ensures reply { result ≡ reply_to handle.old.owner.held (Ok (Event.PfWrite offset value)) }
+    ensures isolated { Isolated handle.old.owner.held (Ok (Event.PfWrite offset value)) handle.new.owner.held }
+{
+    handle.give(alloc, Request::PfWrite(offset, value)).0
+}
+
+/// Resets the device: every virtual function is closed and every setting initial.
+#[unsafe(no_mangle)]
+pub extern "C" fn vfdev_pf_reset(alloc: Global, handle: &mut Vfdev) -> VfdevReply
+    ensures held { handle.new.owner.held ≡ after handle.old.owner.held (Ok Event.PfReset) }
+    ensures reply { result ≡ reply_to handle.old.owner.held (Ok Event.PfReset) }
+    ensures isolated { Isolated handle.old.owner.held (Ok Event.PfReset) handle.new.owner.held }
+{
+    handle.give(alloc, Request::PfReset).0
+}
+
+/// A frame comes from the wire. The messages that this issues stand in the first 64 bytes of `messages`. Bytes that are no
+/// frame are refused as such before the device is asked.
+#[unsafe(no_mangle)]
+pub extern "C" fn vfdev_wire(
+    alloc: Global,
+    handle: &mut Vfdev,
+    bytes: &[u8],
+    messages: &mut [u8],
+) -> VfdevReply
+    ensures held { handle.new.owner.held ≡ after handle.old.owner.held (where_room messages.old (wire_asked bytes.now)) }
+    ensures reply { result ≡ reply_to handle.old.owner.held (where_room messages.old (wire_asked bytes.now)) }
+    ensures messages { messages.new ≡ messages_in (raised_by handle.old.owner.held (wire_asked bytes.now)) messages.old }
+    ensures isolated { Isolated handle.old.owner.held (where_room messages.old (wire_asked bytes.now)) handle.new.owner.held }
+{
+    if messages.len() < POOLS {
+        return VfdevReply::no_room();
+    }
+    if !is_frame(bytes) {
+        put_messages(Messages::none(), messages);
+        return VfdevReply::refused(Fault::BadFrame);
+    }
+    let (reply, raised) = handle.wire(alloc, bytes);
+    put_messages(raised, messages);
+    reply
+}
+
+// Whether the bytes are a frame of any device: 14 to 9018, and at least 18 where they have a VLAN tag.
+#[inline]
+fn is_frame(bytes: &[u8]) -> bool
+    ensures { result ≡ is_frame 9018 bytes.now }
+{
+    let len = bytes.len();
+    len >= 14 && len <= MOST_FRAME && (len >= 18 || !(bytes[12] == 0x81 && bytes[13] == 0))
+}
+
+// Lays the messages into the first 64 bytes, where there is room.
+#[inline]
+pub(crate) fn put_messages(raised: Messages, messages: &mut [u8])
+    ensures { messages.new ≡ messages_in raised messages.old }
+{
+    if messages.len() >= POOLS {
+        raised.masks_are_small();
+        messages[..POOLS].copy_from_slice(&raised.to_masks());
+    }
+}

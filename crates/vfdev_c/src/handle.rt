@@ -1,0 +1,172 @@
+//! What C holds of a device.
+ghost use Rattle.std.specs.Prelude.{◌≡◌, ◌≤◌, true, length, is_some, Some, None, MatchOption, Ok};
+ghost use Rattle.wire_frame.specs.Frame.{is_frame};
+ghost use Rattle.device.specs.declared.event.Event.{Event};
+ghost use Rattle.device.specs.Request.{event_of};
+ghost use Rattle.vfdev_c.specs.Handle.{after, reply_to, raised_by, left_of, frame_in, length_in, bytes_in, Isolated};
+
+use crate::loose::Loose;
+use crate::owner::Owner;
+use crate::reply::VfdevReply;
+use crate::stage::Stage;
+use device::{Queue, Request};
+use irq_causes::Messages;
+use std::alloc::Global;
+use std::mem::replace;
+
+/// What C holds of a device: it leads to nothing, to memories that were lent for a device, or to a device.
+#[repr(C)]
+#[derive(Drop)]
+pub struct Vfdev {
+    /// Whether it leads to anything.
+    pub live: bool,
+    /// What it leads to.
+    pub owner: Owner,
+    ghost linked: { is_some owner.held ≡ live },
+}
+
+impl Vfdev {
+    // Leads to nothing.
+    #[inline]
+    pub(crate) fn none() -> Vfdev
+        ensures { result.owner.held ≡ None }
+    {
+        Vfdev {
+            live: false,
+            owner: Owner::none(),
+        }
+    }
+
+    // Takes out what it leads to.
+    #[inline]
+    pub(crate) fn take(&mut self, alloc: Global) -> Option<Box<Stage>>
+        ensures value { MatchOption result (self.old.owner.held ≡ None) (λ b. self.old.owner.held ≡ Some b.value) }
+        ensures left { self.new.owner.held ≡ None }
+    {
+        let Vfdev { live, owner } = replace(self, Vfdev::none());
+        if live {
+            Some(owner.into_loose(alloc).into_box())
+        } else {
+            None
+        }
+    }
+
+    // Lets it lead to what is in a box.
+    #[inline]
+    pub(crate) fn put(&mut self, stage: Box<Stage>)
+        ensures { self.new.owner.held ≡ Some stage.value }
+    {
+        *self = Vfdev {
+            live: true,
+            owner: Owner::of(Loose::of(stage)),
+        };
+    }
+
+    // Gives the device the event that a request stands for. It is inlined, so that each call has its own event's path alone.
+    #[inline(always)]
+    pub(crate) fn give(&mut self, alloc: Global, request: Request<'_>) -> (VfdevReply, Messages)
+        ensures held { self.new.owner.held ≡ after self.old.owner.held (Ok (event_of request.entry)) }
+        ensures reply { result.0 ≡ reply_to self.old.owner.held (Ok (event_of request.entry)) }
+        ensures messages { result.1 ≡ raised_by self.old.owner.held (Ok (event_of request.entry)) }
+        ensures isolated { Isolated self.old.owner.held (Ok (event_of request.entry)) self.new.owner.held }
+    {
+        let Some(mut stage) = self.take(alloc) else {
+            return (VfdevReply::no_device(), Messages::none());
+        };
+        let given = match &mut *stage {
+            Stage::Made(running) => running.take(request),
+            Stage::Lending(_) => (VfdevReply::no_device(), Messages::none()),
+        };
+        self.put(stage);
+        given
+    }
+
+    // Gives the device a frame from the wire.
+    #[inline]
+    pub(crate) fn wire(&mut self, alloc: Global, bytes: &[u8]) -> (VfdevReply, Messages)
+        requires { is_frame 9018 bytes.now ≡ true }
+        ensures held { self.new.owner.held ≡ after self.old.owner.held (Ok (Event.Wire bytes.now)) }
+        ensures reply { result.0 ≡ reply_to self.old.owner.held (Ok (Event.Wire bytes.now)) }
+        ensures messages { result.1 ≡ raised_by self.old.owner.held (Ok (Event.Wire bytes.now)) }
+        ensures isolated { Isolated self.old.owner.held (Ok (Event.Wire bytes.now)) self.new.owner.held }
+    {
+        let Some(mut stage) = self.take(alloc) else {
+            return (VfdevReply::no_device(), Messages::none());
+        };
+        let given = match &mut *stage {
+            Stage::Made(running) => running.wire(bytes),
+            Stage::Lending(_) => (VfdevReply::no_device(), Messages::none()),
+        };
+        self.put(stage);
+        given
+    }
+
+    // Reads bytes of a guest's memory.
+    #[inline]
+    pub(crate) fn mem_read(
+        &mut self,
+        alloc: Global,
+        function: u8,
+        at: u64,
+        out: &mut [u8],
+    ) -> VfdevReply
+        ensures held { self.new.owner.held ≡ after self.old.owner.held (Ok (Event.MemRead function at (length out.old))) }
+        ensures reply { result ≡ reply_to self.old.owner.held (Ok (Event.MemRead function at (length out.old))) }
+        ensures bytes { out.new ≡ bytes_in self.old.owner.held (Event.MemRead function at (length out.old)) out.old }
+        ensures isolated { Isolated self.old.owner.held (Ok (Event.MemRead function at (length out.old))) self.new.owner.held }
+    {
+        let Some(stage) = self.take(alloc) else {
+            return VfdevReply::no_device();
+        };
+        let reply = match &*stage {
+            Stage::Made(running) => running.mem_read(function, at, out),
+            Stage::Lending(_) => VfdevReply::no_device(),
+        };
+        self.put(stage);
+        reply
+    }
+
+    // Takes the next descriptor of a transmit queue.
+    #[inline]
+    pub(crate) fn serve(
+        &mut self,
+        alloc: Global,
+        function: u8,
+        queue: Queue,
+        out: &mut [u8],
+        left: &mut usize,
+    ) -> (VfdevReply, Messages)
+        requires { 9018 ≤ length out.old }
+        ensures held { self.new.owner.held ≡ after self.old.owner.held (Ok (Event.Serve function queue)) }
+        ensures reply { result.0 ≡ reply_to self.old.owner.held (Ok (Event.Serve function queue)) }
+        ensures messages { result.1 ≡ raised_by self.old.owner.held (Ok (Event.Serve function queue)) }
+        ensures frame { out.new ≡ frame_in (left_of self.old.owner.held (Ok (Event.Serve function queue))) out.old }
+        ensures left { left.new ≡ length_in (left_of self.old.owner.held (Ok (Event.Serve function queue))) }
+        ensures isolated { Isolated self.old.owner.held (Ok (Event.Serve function queue)) self.new.owner.held }
+    {
+        *left = 0;
+        let Some(mut stage) = self.take(alloc) else {
+            return (VfdevReply::no_device(), Messages::none());
+        };
+        let given = match &mut *stage {
+            Stage::Made(running) => running.serve(function, queue, out, left),
+            Stage::Lending(_) => (VfdevReply::no_device(), Messages::none()),
+        };
+        self.put(stage);
+        given
+    }
+}
+
+// Gives back a value that may go to another thread.
+fn sent<T: Send>(value: T) -> T
+    ensures { result ≡ value }
+{
+    value
+}
+
+/// A handle may go from one thread to another: it holds nothing of a thread's own. The call does nothing.
+pub fn handle_is_send(handle: Vfdev) -> Vfdev
+    ensures { result ≡ handle }
+{
+    sent(handle)
+}

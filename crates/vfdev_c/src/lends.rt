@@ -1,0 +1,130 @@
+//! Devices over memories of the caller's.
+ghost use Rattle.std.specs.Prelude.{◌≡◌, ◌++◌, ◌∷◌, [], ◌&&◌, true, false, nat_eq, map, length, Some, None, IfOk, IfErr, if◌then◌else◌};
+ghost use Rattle.device.specs.World.{fresh, is_frame_limit, is_makeable};
+ghost use Rattle.vfdev_c.specs.Memory.{bytes_of};
+ghost use Rattle.vfdev_c.specs.Handle.{can_lend, is_made, lent_in};
+
+use crate::block::Block;
+use crate::handle::Vfdev;
+use crate::lending::{LentBlocks, MOST_BLOCKS};
+use crate::making::{HELD, MADE};
+use crate::memory::HostMem;
+use crate::stage::{Running, Stage};
+use device::Device;
+use guest_memory::is_memory_size;
+use std::alloc::{AllocError, Global};
+use wire_frame::{Fault, FrameLimit};
+
+/// Lends a block as the memory of the next function of a device, which [`vfdev_make_lent`] makes of all that were lent: 0,
+/// or the number of a fault, or 11 where the handle leads to a device already.
+#[unsafe(no_mangle)]
+pub extern "C" fn vfdev_lend(alloc: Global, handle: &mut Vfdev, block: Block) -> u32
+    ensures lent { handle.new.owner.held ≡ (if nat_eq result 0 then Some (Stage.Lending (lent_in handle.old.owner.held ++ block.bytes ∷ [])) else handle.old.owner.held) }
+    ensures taken { is_made handle.old.owner.held ≡ true → result ≡ 11 }
+    ensures bad_make { is_made handle.old.owner.held ≡ false → can_lend handle.old.owner.held block.bytes ≡ false → result ≡ 10 }
+    ensures no_memory { is_made handle.old.owner.held ≡ false → can_lend handle.old.owner.held block.bytes ≡ true → nat_eq result 0 ≡ false → result ≡ 9 }
+{
+    let cells = block.into_cells();
+    let Some(mut stage) = handle.take(alloc) else {
+        return lend_first(alloc, handle, cells);
+    };
+    let answer = match &mut *stage {
+        Stage::Lending(blocks) => lend_next(blocks, cells),
+        Stage::Made(_) => HELD,
+    };
+    handle.put(stage);
+    answer
+}
+
+// Lends the first block.
+fn lend_first(alloc: Global, handle: &mut Vfdev, cells: &'static mut [u8]) -> u32
+    requires { handle.old.owner.held ≡ None }
+    ensures lent { handle.new.owner.held ≡ (if nat_eq result 0 then Some (Stage.Lending (cells.old ∷ [])) else None) }
+    ensures bad_make { can_lend None cells.old ≡ false → result ≡ 10 }
+    ensures no_memory { can_lend None cells.old ≡ true → nat_eq result 0 ≡ false → result ≡ 9 }
+{
+    if !is_memory_size(cells.len() as u64) {
+        return u32::from(Fault::BadMake.number());
+    }
+    let Ok(mut blocks) = LentBlocks::new(alloc) else {
+        return u32::from(Fault::NoMemory.number());
+    };
+    blocks.push(cells);
+    let Ok(stage) = Box::new(alloc, Stage::Lending(blocks)) else {
+        return u32::from(Fault::NoMemory.number());
+    };
+    handle.put(stage);
+    MADE
+}
+
+// Lends one more block.
+fn lend_next(blocks: &mut LentBlocks, cells: &'static mut [u8]) -> u32
+    ensures lent { blocks.new ≡ (if nat_eq result 0 then blocks.old ++ cells.old ∷ [] else blocks.old) }
+    ensures bad_make { can_lend (Some (Stage.Lending blocks.old)) cells.old ≡ false → result ≡ 10 }
+    ensures made { can_lend (Some (Stage.Lending blocks.old)) cells.old ≡ true → result ≡ 0 }
+{
+    if !is_memory_size(cells.len() as u64) || blocks.len() >= MOST_BLOCKS {
+        return u32::from(Fault::BadMake.number());
+    }
+    blocks.push(cells);
+    MADE
+}
+
+/// Makes a device of closed functions over the blocks that were lent, in their order: 0, or the number of a fault, or 11
+/// where the handle leads to a device already. Where the limit is one and the device is not made, the blocks are the
+/// caller's again.
+#[unsafe(no_mangle)]
+#[tactic(auto, using(crate::proofs::HandleLemmas::none_makeable))]
+pub extern "C" fn vfdev_make_lent(alloc: Global, handle: &mut Vfdev, limit: u16) -> u32
+    ensures made { nat_eq result 0 ≡ true → handle.new.owner.held ≡ Some (Stage.Made (fresh limit (map length (lent_in handle.old.owner.held)))) }
+    ensures taken { is_made handle.old.owner.held ≡ true → result ≡ 11 }
+    ensures bad_make { is_made handle.old.owner.held ≡ false → (is_frame_limit limit && is_makeable (map length (lent_in handle.old.owner.held))) ≡ false → result ≡ 10 }
+    ensures no_memory { is_made handle.old.owner.held ≡ false → (is_frame_limit limit && is_makeable (map length (lent_in handle.old.owner.held))) ≡ true → nat_eq result 0 ≡ false → result ≡ 9 }
+    ensures refused { is_made handle.old.owner.held ≡ true → handle.new.owner.held ≡ handle.old.owner.held }
+    ensures bad_limit { is_frame_limit limit ≡ false → handle.new.owner.held ≡ handle.old.owner.held }
+    ensures given_back { is_made handle.old.owner.held ≡ false → is_frame_limit limit ≡ true → nat_eq result 0 ≡ false → handle.new.owner.held ≡ None }
+{
+    let Some(stage) = handle.take(alloc) else {
+        return u32::from(Fault::BadMake.number());
+    };
+    if let Stage::Made(_) = &*stage {
+        handle.put(stage);
+        return HELD;
+    }
+    if FrameLimit::new(limit).is_none() {
+        handle.put(stage);
+        return u32::from(Fault::BadMake.number());
+    }
+    let blocks = match Box::into_inner(stage) {
+        Stage::Lending(blocks) => blocks,
+        Stage::Made(_) => unreachable!(),
+    };
+    match boxed_over(alloc, blocks.into_memories(), limit) {
+        Ok(stage) => {
+            handle.put(stage);
+            MADE
+        }
+        Err(fault) => u32::from(fault.number()),
+    }
+}
+
+// A device over these memories, in a box.
+#[inline(never)]
+pub(crate) fn boxed_over(
+    alloc: Global,
+    memories: Vec<HostMem<'static>>,
+    limit: u16,
+) -> Result<Box<Stage>, Fault>
+    ensures ok { IfOk result (λ b. b.value ≡ Stage.Made (fresh limit (map (λ m. length (bytes_of m)) memories.entry.items))) }
+    ensures bad_make { (is_frame_limit limit && is_makeable (map (λ m. length (bytes_of m)) memories.entry.items)) ≡ false → result ≡ Err Fault.BadMake }
+    ensures no_memory { IfErr result (λ e. (is_frame_limit limit && is_makeable (map (λ m. length (bytes_of m)) memories.entry.items)) ≡ true → e ≡ Fault.NoMemory) }
+{
+    let device = match Device::with_limit(alloc, memories, limit) {
+        Ok(device) => device,
+        Err(fault) => return Err(fault),
+    };
+    match Box::new(alloc, Stage::Made(Running::of(device))) {
+        Ok(stage) => Ok(stage),
+        Err(_) => Err(Fault::NoMemory),
+    }
+}

@@ -1,0 +1,62 @@
+//! The service of a transmit queue, with the frame that leaves.
+ghost use Rattle.std.specs.Prelude.{◌≡◌};
+ghost use Rattle.vfdev_c.specs.Handle.{after, reply_to, raised_by, messages_in, left_of, frame_in, length_in, where_room, serve_asked, queue_of, Isolated};
+
+use crate::events::{POOLS, put_messages};
+use crate::handle::Vfdev;
+use crate::reply::VfdevReply;
+use crate::stage::MOST_FRAME;
+use device::Queue;
+use irq_causes::Messages;
+use std::alloc::Global;
+
+/// Takes the next descriptor of transmit queue 0 or 1 of a function. A frame that leaves for the wire stands in the first
+/// `left` bytes of `out`, and `left` is 0 where none leaves. The messages stand in the first 64 bytes of `messages`.
+///
+/// No room is replied where `messages` has fewer than 64 bytes, or `out` fewer than 9018, and no queue where there is no
+/// such queue, before the device is asked.
+#[unsafe(no_mangle)]
+pub extern "C" fn vfdev_serve(
+    alloc: Global,
+    handle: &mut Vfdev,
+    function: u8,
+    queue: u8,
+    out: &mut [u8],
+    left: &mut usize,
+    messages: &mut [u8],
+) -> VfdevReply
+    ensures held { handle.new.owner.held ≡ after handle.old.owner.held (where_room messages.old (serve_asked function queue out.old)) }
+    ensures reply { result ≡ reply_to handle.old.owner.held (where_room messages.old (serve_asked function queue out.old)) }
+    ensures messages { messages.new ≡ messages_in (raised_by handle.old.owner.held (serve_asked function queue out.old)) messages.old }
+    ensures frame { out.new ≡ frame_in (left_of handle.old.owner.held (where_room messages.old (serve_asked function queue out.old))) out.old }
+    ensures left { left.new ≡ length_in (left_of handle.old.owner.held (where_room messages.old (serve_asked function queue out.old))) }
+    ensures isolated { Isolated handle.old.owner.held (where_room messages.old (serve_asked function queue out.old)) handle.new.owner.held }
+{
+    *left = 0;
+    if messages.len() < POOLS {
+        return VfdevReply::no_room();
+    }
+    let Some(queue) = queue_of(queue) else {
+        put_messages(Messages::none(), messages);
+        return VfdevReply::no_queue();
+    };
+    if out.len() < MOST_FRAME {
+        put_messages(Messages::none(), messages);
+        return VfdevReply::no_room();
+    }
+    let (reply, raised) = handle.serve(alloc, function, queue, out, left);
+    put_messages(raised, messages);
+    reply
+}
+
+// The transmit queue of that number.
+#[inline]
+fn queue_of(number: u8) -> Option<Queue>
+    ensures { result ≡ queue_of number }
+{
+    match number {
+        0 => Some(Queue::Q0),
+        1 => Some(Queue::Q1),
+        _ => None,
+    }
+}

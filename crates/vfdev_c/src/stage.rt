@@ -1,0 +1,227 @@
+//! What a handle leads to.
+ghost use Rattle.std.specs.Prelude.{◌≡◌, ◌≤◌, true, length, option_copied};
+ghost use Rattle.irq_causes.specs.Messages.{no_messages};
+ghost use Rattle.wire_frame.specs.Frame.{is_frame};
+ghost use Rattle.device.specs.declared.event.Event.{Event};
+ghost use Rattle.device.specs.World.{step};
+ghost use Rattle.device.specs.Request.{event_of};
+ghost use Rattle.device.specs.Outcome.{left_by, done_or_refused, value_or_refused, messages_or_refused};
+ghost use Rattle.vfdev_c.specs.Handle.{shown, bytes_shown, frame_in, length_in, IsolatedStep};
+
+use crate::lending::LentBlocks;
+use crate::memory::HostMem;
+use crate::reply::VfdevReply;
+use device::laws::isolation;
+use device::{Device, Queue, Request};
+use irq_causes::Messages;
+use std::marker::Model;
+use wire_frame::{Fault, FrameBuf, FrameLimit};
+
+/// How long a frame may be, in bytes.
+pub const MOST_FRAME: usize = 9018;
+
+/// What a handle leads to, where it leads to anything.
+#[derive(Drop)]
+pub enum Stage {
+    /// Memories that were lent for a device that is not made yet.
+    Lending(LentBlocks),
+    /// A device.
+    Made(Running),
+}
+
+/// A device, with room for a frame that comes or goes.
+#[derive(Drop)]
+pub struct Running {
+    device: Device<HostMem<'static>>,
+    frame: FrameBuf,
+}
+
+impl Model for Running {
+    ghost use Rattle.device.specs.World.{World};
+
+    ghost Value = { World };
+
+    ghost view = { λ r. r.device };
+}
+
+impl Running {
+    /// The device.
+    pub fn of(device: Device<HostMem<'static>>) -> Running
+        ensures { result ≡ device.entry }
+    {
+        Running {
+            device,
+            frame: FrameBuf::blank(),
+        }
+    }
+
+    // To each function an event is as if it were alone.
+    #[inline]
+    #[tactic(auto, unfolding(crate::specs::Handle::IsolatedStep))]
+    fn isolates(&self)
+        ensures { (e : Event) → IsolatedStep self.now e (step self.now e).world }
+    {
+        let count = self.device.functions();
+        prove!(count <= 64);
+        isolation();
+    }
+
+    /// Gives it the event that a request stands for.
+    #[inline(always)]
+    #[tactic(auto, using(crate::proofs::HandleLemmas::isolated_at))]
+    pub fn take(&mut self, request: Request<'_>) -> (VfdevReply, Messages)
+        ensures world { self.new ≡ (step self.old (event_of request.entry)).world }
+        ensures reply { result.0 ≡ shown (step self.old (event_of request.entry)).answer.reply }
+        ensures messages { result.1 ≡ (step self.old (event_of request.entry)).answer.raised }
+        ensures isolated { IsolatedStep self.old (event_of request.entry) self.new }
+    {
+        self.isolates();
+        // By name: what a request is, is known where this is inlined, and a register is read with no more than the read.
+        match request {
+            Request::VfRead(function, offset) => valued(self.device.vf_read(function, offset)),
+            Request::VfWrite(function, offset, value) => issued(
+                self.device.vf_write(function, offset, value),
+            ),
+            Request::MemWrite(function, at, written) => done(
+                self.device.mem_write(function, at, written),
+            ),
+            Request::PfRead(offset) => valued(self.device.pf_read(offset)),
+            Request::PfWrite(offset, value) => done(self.device.pf_write(offset, value)),
+            Request::Open(function) => done(self.device.open(function)),
+            Request::End(function) => done(self.device.end(function)),
+            Request::Flr(function) => done(self.device.flr(function)),
+            _ => self.take_any(request),
+        }
+    }
+
+    // The same, of any request.
+    fn take_any(&mut self, request: Request<'_>) -> (VfdevReply, Messages)
+        ensures world { self.new ≡ (step self.old (event_of request.entry)).world }
+        ensures reply { result.0 ≡ shown (step self.old (event_of request.entry)).answer.reply }
+        ensures messages { result.1 ≡ (step self.old (event_of request.entry)).answer.raised }
+    {
+        let taken = self.device.take(request, &mut self.frame);
+        (VfdevReply::of(taken.outcome), taken.messages)
+    }
+
+    /// Gives it a frame from the wire.
+    #[inline]
+    #[tactic(auto, using(crate::proofs::HandleLemmas::isolated_at))]
+    pub fn wire(&mut self, bytes: &[u8]) -> (VfdevReply, Messages)
+        requires { is_frame 9018 bytes.now ≡ true }
+        ensures world { self.new ≡ (step self.old (Event.Wire bytes.now)).world }
+        ensures reply { result.0 ≡ shown (step self.old (Event.Wire bytes.now)).answer.reply }
+        ensures messages { result.1 ≡ (step self.old (Event.Wire bytes.now)).answer.raised }
+        ensures isolated { IsolatedStep self.old (Event.Wire bytes.now) self.new }
+    {
+        self.isolates();
+        lay(&mut self.frame, bytes);
+        issued(self.device.wire(&self.frame))
+    }
+
+    /// Fills `out` with the bytes of a guest's memory from an address on; where it is refused, `out` stays.
+    #[inline]
+    #[tactic(auto, using(crate::proofs::HandleLemmas::isolated_at))]
+    pub fn mem_read(&self, function: u8, at: u64, out: &mut [u8]) -> VfdevReply
+        ensures world { self.now ≡ (step self.now (Event.MemRead function at (length out.old))).world }
+        ensures reply { result ≡ shown (step self.now (Event.MemRead function at (length out.old))).answer.reply }
+        ensures bytes { out.new ≡ bytes_shown (step self.now (Event.MemRead function at (length out.old))).answer.reply out.old }
+        ensures isolated { IsolatedStep self.now (Event.MemRead function at (length out.old)) self.now }
+    {
+        self.isolates();
+        match self.device.mem_read(function, at, out) {
+            Ok(()) => VfdevReply::bytes(),
+            Err(fault) => VfdevReply::refused(fault),
+        }
+    }
+
+    /// Takes the next descriptor of a transmit queue. A frame that leaves for the wire is laid into the first bytes of
+    /// `out`, and `left` is its length, and else 0.
+    #[inline]
+    #[tactic(auto, using(crate::proofs::HandleLemmas::isolated_at))]
+    pub fn serve(
+        &mut self,
+        function: u8,
+        queue: Queue,
+        out: &mut [u8],
+        left: &mut usize,
+    ) -> (VfdevReply, Messages)
+        requires { 9018 ≤ length out.old }
+        ensures world { self.new ≡ (step self.old (Event.Serve function queue)).world }
+        ensures reply { result.0 ≡ shown (step self.old (Event.Serve function queue)).answer.reply }
+        ensures messages { result.1 ≡ (step self.old (Event.Serve function queue)).answer.raised }
+        ensures frame { out.new ≡ frame_in (left_by self.old (Event.Serve function queue)) out.old }
+        ensures left { left.new ≡ length_in (left_by self.old (Event.Serve function queue)) }
+        ensures isolated { IsolatedStep self.old (Event.Serve function queue) self.new }
+    {
+        self.isolates();
+        let taken = self.device.serve(function, queue, &mut self.frame);
+        *left = put_frame(taken.left, out);
+        (VfdevReply::of(taken.outcome), taken.messages)
+    }
+}
+
+// What was done, or refused.
+#[inline]
+fn done(done: Result<(), Fault>) -> (VfdevReply, Messages)
+    ensures reply { result.0 ≡ shown (done_or_refused done) }
+    ensures messages { result.1 ≡ no_messages }
+{
+    match done {
+        Ok(()) => (VfdevReply::done(), Messages::none()),
+        Err(fault) => (VfdevReply::refused(fault), Messages::none()),
+    }
+}
+
+// A value, or a refusal.
+#[inline]
+fn valued(value: Result<u32, Fault>) -> (VfdevReply, Messages)
+    ensures reply { result.0 ≡ shown (value_or_refused value) }
+    ensures messages { result.1 ≡ no_messages }
+{
+    match value {
+        Ok(value) => (VfdevReply::value(value), Messages::none()),
+        Err(fault) => (VfdevReply::refused(fault), Messages::none()),
+    }
+}
+
+// What was done with these messages, or refused.
+#[inline]
+fn issued(messages: Result<Messages, Fault>) -> (VfdevReply, Messages)
+    ensures reply { result.0 ≡ shown (messages_or_refused messages).reply }
+    ensures messages { result.1 ≡ (messages_or_refused messages).raised }
+{
+    match messages {
+        Ok(messages) => (VfdevReply::done(), messages),
+        Err(fault) => (VfdevReply::refused(fault), Messages::none()),
+    }
+}
+
+// Makes a frame these bytes, which are one.
+#[inline]
+fn lay(frame: &mut FrameBuf, bytes: &[u8])
+    requires { is_frame 9018 bytes.now ≡ true }
+    ensures { frame.new ≡ bytes.now }
+{
+    if let Some(limit) = FrameLimit::new(9018) {
+        frame.refill(bytes, limit);
+    }
+}
+
+// Lays a frame that left into the first bytes of `out`, and tells its length.
+#[inline]
+fn put_frame(frame: Option<&FrameBuf>, out: &mut [u8]) -> usize
+    requires { 9018 ≤ length out.old }
+    ensures bytes { out.new ≡ frame_in (option_copied frame.entry) out.old }
+    ensures len { result ≡ length_in (option_copied frame.entry) }
+{
+    match frame {
+        Some(frame) => {
+            let bytes = frame.bytes();
+            prove!(bytes.len() <= MOST_FRAME);
+            out[..bytes.len()].copy_from_slice(bytes);
+            bytes.len()
+        }
+        None => 0,
+    }
+}

@@ -1,0 +1,200 @@
+/* vfdev: a model of the Intel 82599 in SR-IOV mode, to be linked into a hypervisor.
+ *
+ * The archive libvfdev_c.a is made of code that is proved to meet its contracts: after each call the device is what its
+ * definition says, the reply, the messages and the bytes that are handed out are those of the definition, and to each
+ * virtual function an event is as if that function were alone. docs/EMBEDDING.md says what this rests on.
+ *
+ * What C owes, and nothing checks:
+ *   - A vfdev begins as VFDEV_NONE. Its fields are never read or written, and it is never copied while it leads to
+ *     anything.
+ *   - A pointer with a length leads to so many bytes of one live object, also where the length is 0; it is never NULL. A
+ *     buffer that is written is touched by nothing else during the call, and overlaps no other argument.
+ *   - One call at a time for one vfdev. It may go from thread to thread; a lock or the like orders the calls.
+ *   - No call from a signal handler, or in the child of a fork of a process with threads.
+ *   - malloc, realloc and free are those of one allocator, which aligns a block to each power of two up to 16 that divides
+ *     its size.
+ *
+ * No call takes memory but vfdev_make, vfdev_lend and vfdev_make_lent. No call blocks, prints or ends the process.
+ */
+#ifndef VFDEV_H
+#define VFDEV_H
+
+#include <stdbool.h>
+#include <stddef.h>
+#include <stdint.h>
+
+#ifdef __cplusplus
+extern "C" {
+#endif
+
+/* The version of this interface, which vfdev_version answers. It grows with each change that a caller has to know. */
+#define VFDEV_VERSION 1u
+
+/* How many pools there are, each of which has a byte of the messages. */
+#define VFDEV_POOLS 64u
+/* The room that a service wants for a frame, in bytes. */
+#define VFDEV_MOST_FRAME 9018u
+/* How many bytes of a guest's memory one call reads or writes at most. */
+#define VFDEV_MOST_BYTES 2048u
+
+/* What C holds of a device. It leads to nothing, to blocks that were lent for a device, or to a device. */
+typedef struct vfdev {
+    bool live;
+    void *owner;
+} vfdev;
+/* It leads to nothing. */
+#define VFDEV_NONE { false, NULL }
+
+/* A block of bytes that is lent for a device. Its length is below 2^63. */
+typedef struct vfdev_block {
+    uint8_t *at;
+    size_t len;
+} vfdev_block;
+
+/* Kinds of replies. */
+enum vfdev_kind {
+    VFDEV_DONE = 0,      /* it was done */
+    VFDEV_VALUE = 1,     /* a register was read: the value */
+    VFDEV_BYTES = 2,     /* the bytes of the memory stand where they were asked */
+    VFDEV_IDLE = 3,      /* no descriptor was taken: the pool may not transmit, or the queue is off or empty */
+    VFDEV_MORE = 4,      /* a descriptor was taken, and its frame goes on */
+    VFDEV_SENT = 5,      /* a frame was sent */
+    VFDEV_DROPPED = 6,   /* a frame was dropped: it is overlong or no frame, or its pool's settings do not permit it */
+    VFDEV_FAULTED = 7,   /* the descriptor cannot be used, and the queue is off now */
+    VFDEV_REFUSED = 8,   /* refused, and nothing has changed: the value is an enum vfdev_fault */
+    VFDEV_NO_DEVICE = 9, /* there is no device: none was made, or it was freed */
+    VFDEV_NO_ROOM = 10,  /* there is no room for a frame, or for the messages; the device was not asked */
+    VFDEV_NO_QUEUE = 11  /* there is no transmit queue of that number; the device was not asked */
+};
+
+/* Why a call is refused, and what the makers answer. */
+enum vfdev_fault {
+    VFDEV_OK = 0,           /* it was made, or lent */
+    VFDEV_NO_SUCH_VF = 1,   /* the device has no virtual function of that number */
+    VFDEV_NOT_OPEN = 2,     /* the virtual function is closed */
+    VFDEV_BAD_OFFSET = 3,   /* the offset is no multiple of 4, or past the registers */
+    VFDEV_BAD_RANGE = 4,    /* the bytes pass the end of the guest's memory */
+    VFDEV_TOO_LONG = 5,     /* more than VFDEV_MOST_BYTES bytes */
+    VFDEV_BAD_FRAME = 6,    /* the bytes are no frame, or the frame is longer than the device takes */
+    VFDEV_ALREADY_OPEN = 7, /* the virtual function is open already */
+    VFDEV_NO_MEMORY = 9,    /* the host refused memory */
+    VFDEV_BAD_MAKE = 10,    /* a size or a count is outside its limits */
+    VFDEV_HELD = 11         /* the vfdev leads to something already */
+};
+
+/* A reply. The value is 0 but for VFDEV_VALUE and VFDEV_REFUSED. */
+typedef struct vfdev_reply {
+    uint32_t kind;  /* enum vfdev_kind */
+    uint32_t value; /* of VFDEV_VALUE the register, of VFDEV_REFUSED an enum vfdev_fault */
+} vfdev_reply;
+
+/* The version of the archive. */
+uint32_t vfdev_version(void);
+
+/* ---- makers: each answers VFDEV_OK or why not -------------------------------------------------------------------- */
+
+/* Makes a device of `functions` closed virtual functions, each over `memory` zero bytes of the archive's own. Functions are
+ * 1 to 64, memory is 4096 to 16777216 and a multiple of 128, frames have up to `limit` bytes, 1518 to 9018.
+ * VFDEV_HELD where the vfdev leads to anything, then VFDEV_BAD_MAKE exactly where a number is outside its limits, and
+ * VFDEV_NO_MEMORY only where the host refused. The vfdev leads to what it led to wherever the answer is not VFDEV_OK. */
+uint32_t vfdev_make(vfdev *device, uint32_t functions, uint64_t memory, uint16_t limit);
+
+/* Lends a block as the memory of the next virtual function of a device that is to be made; its first byte is at address 0 of
+ * that memory. Blocks have the sizes of memories, and there are at most 64. VFDEV_HELD where there is a device, then
+ * VFDEV_BAD_MAKE exactly where the length is no memory's or 64 were lent, and VFDEV_NO_MEMORY only where the host refused.
+ * Wherever the answer is not VFDEV_OK the block is not used.
+ *
+ * The block stays the device's until vfdev_free. During a call nothing else reads or writes it: no other thread, and no
+ * processor of a guest. Between calls its owner may change it, as the guest's driver does: each call is proved of the bytes
+ * that stand there when it begins. vfdev_open writes zeros over all of it. */
+uint32_t vfdev_lend(vfdev *device, vfdev_block block);
+
+/* Makes a device of closed virtual functions over the blocks that were lent, in their order. VFDEV_HELD where there is a
+ * device already; VFDEV_BAD_MAKE exactly where none was lent or the limit is not 1518 to 9018; VFDEV_NO_MEMORY only where the
+ * host refused. After VFDEV_NO_MEMORY the vfdev leads to nothing, and the blocks are no longer lent. */
+uint32_t vfdev_make_lent(vfdev *device, uint16_t limit);
+
+/* Frees what the vfdev leads to. It leads to nothing then, and a second call does nothing. Blocks that were lent are the
+ * caller's again. */
+void vfdev_free(vfdev *device);
+
+/* ---- events ------------------------------------------------------------------------------------------------------
+ *
+ * Each call gives one event to the device and answers its reply. A call whose reply is VFDEV_REFUSED has changed nothing.
+ *
+ * Messages: messages[p] has bit v set where the call issued the interrupt of vector v, 0 to 2, of function p, for p below 64.
+ * Whatever is replied they are those of this call, so zeros where none was issued, but for VFDEV_NO_ROOM because of
+ * messages_len, which leaves them alone. The calls without messages issue none.
+ *
+ * Refusals, the first that fits: VFDEV_NO_ROOM for messages_len below 64; VFDEV_NO_QUEUE; VFDEV_NO_ROOM for a frame;
+ * VFDEV_BAD_FRAME of bytes that are no frame, VFDEV_TOO_LONG of bytes to be written; VFDEV_NO_DEVICE; what the device
+ * refuses. */
+
+/* Opens a function: its registers become initial, and its memory zero. VFDEV_NO_SUCH_VF, VFDEV_ALREADY_OPEN. */
+vfdev_reply vfdev_open(vfdev *device, uint8_t function);
+
+/* Closes a function. VFDEV_NO_SUCH_VF, VFDEV_NOT_OPEN. */
+vfdev_reply vfdev_end(vfdev *device, uint8_t function);
+
+/* Function-level reset: the registers become initial, and the memory stays. VFDEV_NO_SUCH_VF, VFDEV_NOT_OPEN. */
+vfdev_reply vfdev_flr(vfdev *device, uint8_t function);
+
+/* Reads a register of a function; offsets are in bytes, below 0x4000. VFDEV_NO_SUCH_VF, VFDEV_NOT_OPEN, VFDEV_BAD_OFFSET. */
+vfdev_reply vfdev_vf_read(vfdev *device, uint8_t function, uint32_t offset);
+
+/* Writes a register of a function. Refused as vfdev_vf_read is. A write to a tail of a transmit queue serves nothing: the
+ * caller calls vfdev_serve when it sees fit. */
+vfdev_reply vfdev_vf_write(vfdev *device, uint8_t function, uint32_t offset, uint32_t value, uint8_t *messages,
+                           size_t messages_len);
+
+/* Reads `len` bytes of a function's memory from the address `at` on into `out`; where it is refused, `out` stays.
+ * VFDEV_NO_SUCH_VF, VFDEV_NOT_OPEN, VFDEV_TOO_LONG, VFDEV_BAD_RANGE. */
+vfdev_reply vfdev_mem_read(vfdev *device, uint8_t function, uint64_t at, uint8_t *out, size_t len);
+
+/* Writes `len` bytes of a function's memory from the address `at` on. VFDEV_TOO_LONG before the device is asked,
+ * VFDEV_NO_SUCH_VF, VFDEV_NOT_OPEN, VFDEV_BAD_RANGE. */
+vfdev_reply vfdev_mem_write(vfdev *device, uint8_t function, uint64_t at, const uint8_t *bytes, size_t len);
+
+/* Takes the next descriptor of transmit queue 0 or 1 of a function. A frame that leaves for the wire stands in the first
+ * *left bytes of `out`; *left is 0 where none leaves, and then `out` stays. `out_len` is at least VFDEV_MOST_FRAME.
+ * VFDEV_NO_SUCH_VF, VFDEV_NOT_OPEN; else VFDEV_IDLE, VFDEV_MORE, VFDEV_SENT, VFDEV_DROPPED or VFDEV_FAULTED. */
+vfdev_reply vfdev_serve(vfdev *device, uint8_t function, uint8_t queue, uint8_t *out, size_t out_len, size_t *left,
+                        uint8_t *messages, size_t messages_len);
+
+/* Reads a register of the physical function; offsets are in bytes, below 0x20000. VFDEV_BAD_OFFSET. */
+vfdev_reply vfdev_pf_read(vfdev *device, uint32_t offset);
+
+/* Writes a register of the physical function. VFDEV_BAD_OFFSET. */
+vfdev_reply vfdev_pf_write(vfdev *device, uint32_t offset, uint32_t value);
+
+/* Resets the device: every function is closed and every setting initial. Always VFDEV_DONE where there is a device. */
+vfdev_reply vfdev_pf_reset(vfdev *device);
+
+/* A frame comes from the wire: 14 to 9018 bytes without FCS, at least 18 where it has a VLAN tag. VFDEV_BAD_FRAME where it is
+ * none, before the device is asked, and where it is longer than the device takes. */
+vfdev_reply vfdev_wire(vfdev *device, const uint8_t *frame, size_t len, uint8_t *messages, size_t messages_len);
+
+/* What a fault means, as a sentence. */
+static inline const char *vfdev_fault_text(uint32_t fault)
+{
+    switch (fault) {
+    case VFDEV_OK: return "done";
+    case VFDEV_NO_SUCH_VF: return "no such virtual function";
+    case VFDEV_NOT_OPEN: return "the virtual function is not open";
+    case VFDEV_BAD_OFFSET: return "the register offset is not valid";
+    case VFDEV_BAD_RANGE: return "the range passes the end of the memory";
+    case VFDEV_TOO_LONG: return "the access is longer than 2048 bytes";
+    case VFDEV_BAD_FRAME: return "the bytes are no frame";
+    case VFDEV_ALREADY_OPEN: return "the virtual function is open already";
+    case VFDEV_NO_MEMORY: return "no memory";
+    case VFDEV_BAD_MAKE: return "a size or a count is outside its limits";
+    case VFDEV_HELD: return "the handle leads to something already";
+    default: return "no fault of this version";
+    }
+}
+
+#ifdef __cplusplus
+}
+#endif
+
+#endif

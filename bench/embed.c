@@ -4,7 +4,7 @@
  *   bindings/test && cc -O2 -Iinclude bench/embed.c bindings/native/libvfdev_c.a bindings/native/liblibc_c.a -o embed
  *   LD_BIND_NOW=1 ./embed
  *
- * Words on the command line let the device be over memories of the archive's own. */
+ * The word `own` lets the device be over memories of the archive's own, and `kept` lets its calls be kept besides. */
 #include "vfdev.h"
 #include <stdio.h>
 #include <stdlib.h>
@@ -13,6 +13,10 @@
 #include <ucontext.h>
 
 enum { CALLS = 2000, ROUNDS = 2000, MEMORY = 65536, FRAME = 60, STACK = 1 << 18 };
+/* So many rounds of two calls fit into a history of the most calls, beside those of the setup; so many histories are filled. */
+enum { KEPT_ROUNDS = 16, HISTORIES = 40 };
+
+static enum { LENT, OWN, KEPT } how;
 
 static uint8_t memory[2][MEMORY];
 static uint8_t messages[VFDEV_POOLS], out[VFDEV_MOST_FRAME], bytes[16], frame[FRAME];
@@ -62,16 +66,33 @@ static double now(void)
 }
 
 /* The shortest round, a call. */
-static double shortest(void (*first)(void), void (*second)(void))
+static double shortest_of(int rounds, void (*first)(void), void (*second)(void))
 {
     double best = 1e9;
-    for (int round = 0; round < ROUNDS; round++) {
+    for (int round = 0; round < rounds; round++) {
         double start = now();
         for (int i = 0; i < CALLS; i++) {
             first();
             second();
         }
         double took = (now() - start) / CALLS;
+        if (took < best)
+            best = took;
+    }
+    return best;
+}
+
+static void set_up(void);
+
+static double shortest(void (*first)(void), void (*second)(void))
+{
+    if (how != KEPT)
+        return shortest_of(ROUNDS, first, second);
+    double best = 1e9;
+    for (int history = 0; history < HISTORIES; history++) {
+        vfdev_free(&device);
+        set_up();
+        double took = shortest_of(KEPT_ROUNDS, first, second);
         if (took < best)
             best = took;
     }
@@ -100,13 +121,15 @@ static void must(uint32_t answer)
         exit(1);
 }
 
-static void set_up(int own)
+static void set_up(void)
 {
     static const uint32_t PF[][2] = {{0x51e0, 3}, {0x8110, 3}, {0xa200, 2}, {0xa204, 0x80000000u}, {0xa600, 1}};
     static const uint32_t RECEIVE[][2] = {{0x1000, 0x1000}, {0x1008, 128}, {0x1014, 0x02000002}, {0x1028, 0x02000000}};
     static const uint32_t SEND[][2] = {{0x2000, 0x2000}, {0x2008, 128}, {0x2028, 0x02000000}};
     static const uint8_t ADDRESSES[14] = {2, 0, 0, 0, 0, 0, 2, 0, 0, 0, 0, 9, 8, 0};
-    if (own) {
+    if (how == KEPT) {
+        must(vfdev_make_recorded(&device, 2, MEMORY, 1518, VFDEV_MOST_CALLS));
+    } else if (how == OWN) {
         must(vfdev_make(&device, 2, MEMORY, 1518));
     } else {
         must(vfdev_lend(&device, (vfdev_block){memory[0], MEMORY}));
@@ -132,8 +155,9 @@ static void set_up(int own)
 
 int main(int argc, char **argv)
 {
-    (void)argv;
-    set_up(argc > 1);
+    if (argc > 1)
+        how = strcmp(argv[1], "kept") == 0 ? KEPT : OWN;
+    set_up();
     printf("| Call | ns | Stack at first, bytes | Later |\n|---|---|---|---|\n");
     size_t blank = stack_of(nothing);
     for (size_t i = 0; i < sizeof WORKLOADS / sizeof *WORKLOADS; i++) {

@@ -14,7 +14,8 @@
  *   - malloc, realloc and free are those of one allocator, which aligns a block to each power of two up to 16 that divides
  *     its size.
  *
- * No call takes memory but vfdev_make, vfdev_lend and vfdev_make_lent. No call blocks, prints or ends the process.
+ * No call takes memory but vfdev_make, vfdev_make_recorded, vfdev_lend and vfdev_make_lent. No call blocks, prints or ends the
+ * process.
  */
 #ifndef VFDEV_H
 #define VFDEV_H
@@ -37,7 +38,11 @@ extern "C" {
 /* How many bytes of a guest's memory one call reads or writes at most. */
 #define VFDEV_MOST_BYTES 2048u
 
-/* What C holds of a device. It leads to nothing, to blocks that were lent for a device, or to a device. */
+/* How many calls of a device may be kept at most. */
+#define VFDEV_MOST_CALLS 65536u
+
+/* What C holds of a device. It leads to nothing, to blocks that were lent for a device, to a device, or to a device whose calls
+ * are kept. */
 typedef struct vfdev {
     bool live;
     void *owner;
@@ -64,7 +69,8 @@ enum vfdev_kind {
     VFDEV_REFUSED = 8,   /* refused, and nothing has changed: the value is an enum vfdev_fault */
     VFDEV_NO_DEVICE = 9, /* there is no device: none was made, or it was freed */
     VFDEV_NO_ROOM = 10,  /* there is no room for a frame, or for the messages; the device was not asked */
-    VFDEV_NO_QUEUE = 11  /* there is no transmit queue of that number; the device was not asked */
+    VFDEV_NO_QUEUE = 11, /* there is no transmit queue of that number; the device was not asked */
+    VFDEV_HISTORY_FULL = 12 /* no more calls of this device can be kept; it was not asked, and nothing has changed */
 };
 
 /* Why a call is refused, and what the makers answer. */
@@ -80,6 +86,14 @@ enum vfdev_fault {
     VFDEV_NO_MEMORY = 9,    /* the host refused memory */
     VFDEV_BAD_MAKE = 10,    /* a size or a count is outside its limits */
     VFDEV_HELD = 11         /* the vfdev leads to something already */
+};
+
+/* What a replay answers. */
+enum vfdev_replayed {
+    VFDEV_SAME = 0,         /* the other device answered each kept call as it was kept */
+    VFDEV_DIFFERENT = 1,    /* it answered one otherwise */
+    VFDEV_NOT_RECORDED = 2, /* no calls are kept of the first device, or there is none; the other was not asked */
+    VFDEV_NO_OTHER = 3      /* there is no other device, or its own calls are kept; it was not asked */
 };
 
 /* A reply. The value is 0 but for VFDEV_VALUE and VFDEV_REFUSED. */
@@ -98,6 +112,13 @@ uint32_t vfdev_version(void);
  * VFDEV_HELD where the vfdev leads to anything, then VFDEV_BAD_MAKE exactly where a number is outside its limits, and
  * VFDEV_NO_MEMORY only where the host refused. The vfdev leads to what it led to wherever the answer is not VFDEV_OK. */
 uint32_t vfdev_make(vfdev *device, uint32_t functions, uint64_t memory, uint16_t limit);
+
+/* Makes a device as vfdev_make does, whose calls are kept from the first on, `calls` at most, 1 to VFDEV_MOST_CALLS. The makers'
+ * answers are those of vfdev_make; VFDEV_BAD_MAKE also for that number.
+ *
+ * Room for all calls is taken at once: 9074 bytes for each, of which a call touches 32, the bytes that it brings or reads, and
+ * 8 for each vector of its messages. */
+uint32_t vfdev_make_recorded(vfdev *device, uint32_t functions, uint64_t memory, uint16_t limit, uint32_t calls);
 
 /* Lends a block as the memory of the next virtual function of a device that is to be made; its first byte is at address 0 of
  * that memory. Blocks have the sizes of memories, and there are at most 64. VFDEV_HELD where there is a device, then
@@ -127,8 +148,8 @@ void vfdev_free(vfdev *device);
  * messages_len, which leaves them alone. The calls without messages issue none.
  *
  * Refusals, the first that fits: VFDEV_NO_ROOM for messages_len below 64; VFDEV_NO_QUEUE; VFDEV_NO_ROOM for a frame;
- * VFDEV_BAD_FRAME of bytes that are no frame, VFDEV_TOO_LONG of bytes to be written; VFDEV_NO_DEVICE; what the device
- * refuses. */
+ * VFDEV_BAD_FRAME of bytes that are no frame, VFDEV_TOO_LONG of bytes to be written; VFDEV_NO_DEVICE; VFDEV_HISTORY_FULL; what
+ * the device refuses. */
 
 /* Opens a function: its registers become initial, and its memory zero. VFDEV_NO_SUCH_VF, VFDEV_ALREADY_OPEN. */
 vfdev_reply vfdev_open(vfdev *device, uint8_t function);
@@ -167,12 +188,30 @@ vfdev_reply vfdev_pf_read(vfdev *device, uint32_t offset);
 /* Writes a register of the physical function. VFDEV_BAD_OFFSET. */
 vfdev_reply vfdev_pf_write(vfdev *device, uint32_t offset, uint32_t value);
 
-/* Resets the device: every function is closed and every setting initial. Always VFDEV_DONE where there is a device. */
+/* Resets the device: every function is closed and every setting initial. VFDEV_DONE where there is a device, but for
+ * VFDEV_HISTORY_FULL. */
 vfdev_reply vfdev_pf_reset(vfdev *device);
 
 /* A frame comes from the wire: 14 to 9018 bytes without FCS, at least 18 where it has a VLAN tag. VFDEV_BAD_FRAME where it is
  * none, before the device is asked, and where it is longer than the device takes. */
 vfdev_reply vfdev_wire(vfdev *device, const uint8_t *frame, size_t len, uint8_t *messages, size_t messages_len);
+
+/* ---- kept calls --------------------------------------------------------------------------------------------------
+ *
+ * Of a device of vfdev_make_recorded each event that the device is asked is kept with its answer, also one that it refuses: the
+ * reply with its bytes, and the messages of each pool. What is refused before the device is asked is not. A read of more than
+ * 65535 bytes is kept as one of 65535, which is refused alike. */
+
+/* How many calls are kept; 0 where none are. */
+size_t vfdev_kept(vfdev *device);
+
+/* Gives `other`, a device whose own calls are not kept, the events of the kept calls in their order, and answers VFDEV_SAME
+ * exactly where it answered each as was kept, and else VFDEV_DIFFERENT. VFDEV_NOT_RECORDED, then VFDEV_NO_OTHER. Nothing of
+ * `device` changes; `other` is what the events make of it.
+ *
+ * VFDEV_SAME is certain of an `other` that vfdev_make or vfdev_make_lent just made, with as many functions, memories of the
+ * same sizes and the same limit; it is then as `device` is. Takes no memory, and some 40 KB of stack. */
+uint32_t vfdev_replay(vfdev *device, vfdev *other);
 
 /* What a fault means, as a sentence. */
 static inline const char *vfdev_fault_text(uint32_t fault)

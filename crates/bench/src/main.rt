@@ -12,6 +12,7 @@ use anyhow::{Result, anyhow};
 use guest_memory::{FlatMem, GuestMem};
 use rings::{Ring, RingRegister};
 use rx_desc::{Placed, RxConfig, place};
+use std::alloc::Global;
 use std::env;
 use tx_desc::Progress;
 use vf_unit::offsets::*;
@@ -69,8 +70,8 @@ fn place_many<M: GuestMem>(mut memory: M, frame: &FrameBuf, strip_tag: bool, tur
 }
 
 // An open function, set up to send `len` bytes from address 0 by each descriptor.
-fn sender<M: GuestMem>(memory: M, len: u16) -> VfUnit<M> {
-    let mut unit = VfUnit::new(memory);
+fn sender<M: GuestMem>(alloc: Global, memory: M, len: u16) -> Result<VfUnit<M>> {
+    let mut unit = VfUnit::new(alloc, memory)?;
     unit.open();
     let word = (LAST_DATA | u32::from(len)).to_le_bytes();
     for i in 0..COUNT {
@@ -79,7 +80,7 @@ fn sender<M: GuestMem>(memory: M, len: u16) -> VfUnit<M> {
     for (offset, x) in SETUP {
         unit.reg_write(offset, x);
     }
-    unit
+    Ok(unit)
 }
 
 // Serves a queue; how often that was what came of it.
@@ -118,7 +119,13 @@ fn read_many<M: GuestMem>(mut unit: VfUnit<M>, turns: u32) -> u32 {
 }
 
 // Does the workload; how many turns did what they should.
-fn work<M: GuestMem>(workload: &str, memory: M, len: u16, turns: u32) -> Result<u32> {
+fn work<M: GuestMem>(
+    alloc: Global,
+    workload: &str,
+    memory: M,
+    len: u16,
+    turns: u32,
+) -> Result<u32> {
     let mut bytes = [7u8; 9018];
     bytes[12] = 0x81;
     bytes[13] = 0;
@@ -127,13 +134,13 @@ fn work<M: GuestMem>(workload: &str, memory: M, len: u16, turns: u32) -> Result<
     let service = match workload {
         "place" => return Ok(place_many(memory, &frame, false, turns)),
         "strip" => return Ok(place_many(memory, &frame, true, turns)),
-        "read" => return Ok(read_many(sender(memory, len), turns)),
+        "read" => return Ok(read_many(sender(alloc, memory, len)?, turns)),
         "serve" => (Queue::Q0, PortVlan::Never, Progress::Ended),
         "insert" => (Queue::Q0, PortVlan::Always(100), Progress::Ended),
         "idle" => (Queue::Q1, PortVlan::Descriptor, Progress::Idle),
         _ => return Err(anyhow!("no such workload")),
     };
-    Ok(serve_many(sender(memory, len), service, limit, turns))
+    Ok(serve_many(sender(alloc, memory, len)?, service, limit, turns))
 }
 
 fn main(rt: HostRuntime) -> Result<()> {
@@ -142,7 +149,7 @@ fn main(rt: HostRuntime) -> Result<()> {
         return Err(anyhow!("usage: bench WORKLOAD LENGTH TURNS"));
     };
     let memory: Box<dyn GuestMem + Send> = Box::new(rt.alloc(), FlatMem::new(rt.alloc(), 65_536)?)?;
-    let done = work(&workload, memory, len.parse()?, turns.parse()?)?;
+    let done = work(rt.alloc(), &workload, memory, len.parse()?, turns.parse()?)?;
     println!(rt; "{workload} {len} {turns}: {done}")?;
     Ok(())
 }

@@ -146,13 +146,14 @@ fn is_makeable<M: GuestMem>(memories: &[M]) -> bool
     true
 }
 
-// A closed function over each of the memories.
+// A closed function over each of the memories. The error comes only where the host refused the room.
 fn close_all<M: GuestMem>(alloc: Global, memories: Vec<M>) -> Result<Vec<VfUnit<M>>, AllocError>
     ensures { IfOk result (λ units. units.items ≡ map (λ m. Closed (length (M.bytes m))) memories.items) }
 {
     let mut units = Vec::with_capacity(alloc, memories.len())?;
     for memory in memories {
-        units.push(VfUnit::new(memory))?;
+        let unit = VfUnit::new(alloc, memory)?;
+        units.push(unit)?;
     }
     Ok(units)
 }

@@ -12,7 +12,7 @@ use crate::fault::Fault;
 use crate::keep::keep;
 use crate::mode::{Mode, Task};
 use crate::run::run;
-use guest_memory::{FlatMem, GuestMem};
+use guest_memory::FlatMem;
 use script::Script;
 use std::alloc::Global;
 use std::io::{Read, Write};
@@ -115,20 +115,13 @@ fn tell<W: Write>(
     let shape = script.shape();
     let mut memories = Vec::with_capacity(alloc, usize::from(shape.functions))?;
     for _ in 0..shape.functions {
-        let memory: Box<dyn GuestMem + Send> = Box::new(
-            alloc,
-            FlatMem::new(alloc, shape.memory_size)?,
-        )?;
-        memories.push(memory)?;
+        memories.push(FlatMem::new(alloc, shape.memory_size)?)?;
     }
     match task {
         Task::Run => run(alloc, script, memories, output, writer),
         Task::Keep(pool) => keep(alloc, script, pool, memories, output, writer),
         Task::Lone(pool) => {
-            let memory: Box<dyn GuestMem + Send> = Box::new(
-                alloc,
-                FlatMem::new(alloc, shape.memory_size)?,
-            )?;
+            let memory = FlatMem::new(alloc, shape.memory_size)?;
             lone_function(alloc, script, pool, memories, memory, output, writer)
         }
     }

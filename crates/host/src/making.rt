@@ -76,5 +76,5 @@ pub fn make_lone<M: GuestMem>(
     ensures ok { IfOk result (λ l. l.value ≡ alone limit (length (M.bytes memory))) }
     ensures err { IfErr result (λ e. is_late e ≡ true) }
 {
-    Ok(Box::new(alloc, Lone::new(memory, limit))?)
+    Ok(Box::new(alloc, Lone::new(alloc, memory, limit)?)?)
 }

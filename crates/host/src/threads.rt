@@ -43,16 +43,8 @@ pub fn drive_threads<R: Threads + Wait + Copy + Send + 'static, I: Read, W: Writ
     let mut live = Vec::with_capacity(alloc, count)?;
     let mut other = Vec::with_capacity(alloc, count)?;
     for _ in 0..shape.functions {
-        let memory: Box<dyn GuestMem + Send> = Box::new(
-            alloc,
-            FlatMem::new(alloc, shape.memory_size)?,
-        )?;
-        live.push(memory)?;
-        let memory: Box<dyn GuestMem + Send> = Box::new(
-            alloc,
-            FlatMem::new(alloc, shape.memory_size)?,
-        )?;
-        other.push(memory)?;
+        live.push(FlatMem::new(alloc, shape.memory_size)?)?;
+        other.push(FlatMem::new(alloc, shape.memory_size)?)?;
     }
     with_ports(rt, alloc, script, live, other, writer)
 }

@@ -1,5 +1,5 @@
 //! One function and its own settings.
-ghost use Rattle.std.specs.Prelude.{◌≡◌, ℕ, length, replicate, Some};
+ghost use Rattle.std.specs.Prelude.{◌≡◌, ℕ, length, replicate, Some, IfOk, IfErr};
 ghost use Rattle.std.specs.Option.{option_map};
 ghost use Rattle.vf_unit.specs.Unit.{bytes_at};
 ghost use Rattle.device.specs.Request.{event_of};
@@ -11,9 +11,10 @@ use device::{Request, Span, act, read_or_zero, serve_queue};
 use guest_memory::GuestMem;
 use irq_causes::Vectors;
 use pool_filter::Own;
+use std::alloc::Global;
 use std::marker::Model;
 use vf_unit::VfUnit;
-use wire_frame::{FrameBuf, FrameLimit};
+use wire_frame::{Fault, FrameBuf, FrameLimit};
 
 /// One function and its own settings.
 #[derive(Drop)]
@@ -34,16 +35,21 @@ impl<M: GuestMem> Model for Lone<M> {
 }
 
 impl<M: GuestMem> Lone<M> {
-    /// A closed function over this memory that has no settings. Its frames have up to `limit` bytes.
-    pub fn new(memory: M, limit: FrameLimit) -> Lone<M>
-        ensures { result ≡ alone limit (length (M.bytes memory)) }
+    /// A closed function over this memory that has no settings. Its frames have up to `limit` bytes. [`Fault::NoMemory`]
+    /// comes only where the host refused the room.
+    pub fn new(alloc: Global, memory: M, limit: FrameLimit) -> Result<Lone<M>, Fault>
+        ensures ok { IfOk result (λ l. l ≡ alone limit (length (M.bytes memory))) }
+        ensures err { IfErr result (λ e. e ≡ Fault.NoMemory) }
     {
-        Lone {
+        let Ok(unit) = VfUnit::new(alloc, memory) else {
+            return Err(Fault::NoMemory);
+        };
+        Ok(Lone {
             limit,
-            unit: VfUnit::new(memory),
+            unit,
             settings: Own::none(),
             frame: FrameBuf::blank(),
-        }
+        })
     }
 
     /// Takes what it is given, and tells what is seen of it.

@@ -4,7 +4,7 @@
 //! settings that a write changed, that the device was reset, or a frame that the pool's filters accept or that falls to it.
 //! A [`Lone`] function is one unit with own settings: no other pool, no table, no switch. It takes these items and tells
 //! what is seen of it. That a run shows the pool the same is what `device` promises of its runs; here it is promised that
-//! both are what that promise speaks of. It stands on `device`, and no call takes memory.
+//! both are what that promise speaks of. It stands on `device`, and no call takes memory but the making of a function.
 #![tactic(auto)]
 
 pub mod function;

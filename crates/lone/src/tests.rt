@@ -65,7 +65,7 @@ fn watch_pair(alloc: Global) -> Result<Watch<FlatMem>, Fail> {
 // A function by itself with as much memory.
 fn alone(alloc: Global) -> Result<Lone<FlatMem>, Fail> {
     let memory = FlatMem::new(alloc, 65536)?;
-    Ok(Lone::new(memory, FrameLimit::standard()))
+    Ok(Lone::new(alloc, memory, FrameLimit::standard())?)
 }
 
 // What kind of item an event leaves.
@@ -334,5 +334,45 @@ fn a_frame_of_another_function(rt: HostRuntime) -> Result<(), Fail> {
     let mut bytes = [9; 16];
     lone.read_span(span, &mut bytes);
     assert_eq!(rt; bytes, written_back);
+    Ok(())
+}
+
+// Takes all the room that the host gives, in ever smaller parts. It gives up at a heap that does not run out, as that of
+// a sanitizer.
+fn all_room(alloc: Global) -> Option<Vec<Vec<u8>>> {
+    let mut taken = Vec::with_capacity(alloc, 40_000).ok()?;
+    let mut size = 1usize << 46;
+    for _ in 0..35 {
+        for _ in 0..16_384 {
+            let Ok(part) = Vec::<u8>::with_capacity(alloc, size) else {
+                break;
+            };
+            if taken.push(part).is_err() {
+                return None;
+            }
+        }
+        size /= 2;
+    }
+    Some(taken)
+}
+
+// The fault of making a function by itself, if it has one.
+fn fault_of(alloc: Global, memory: FlatMem) -> Option<Fault> {
+    match Lone::new(alloc, memory, FrameLimit::standard()) {
+        Ok(_) => None,
+        Err(fault) => Some(fault),
+    }
+}
+
+#[test]
+fn tells_of_refused_memory(rt: HostRuntime) -> Result<(), Fail> {
+    let alloc = rt.alloc();
+    let (first, second) = (FlatMem::new(alloc, 4096)?, FlatMem::new(alloc, 4096)?);
+    // The stack grows to what the call wants before nothing is left.
+    assert_eq!(rt; fault_of(alloc, FlatMem::new(alloc, 4096)?), None);
+    let taken = all_room(alloc).ok_or("the heap does not run out")?;
+    assert_eq!(rt; fault_of(alloc, first), Some(Fault::NoMemory));
+    drop(taken);
+    assert_eq!(rt; fault_of(alloc, second), None);
     Ok(())
 }

@@ -1,5 +1,5 @@
 -- The loops over the pieces of a frame, one piece at a time.
-use Rattle.std.proofs.Common.{◌≡◌, ℕ, zero, suc, ◌+◌, ◌-◌, ◌*◌, ◌/◌, ◌%◌, ◌<◌, ◌≤◌, min, List, [], ◌∷◌, length, take, drop, set, get_or, map, Option, Bool, true, false, nat_lt, ◌||◌, refl, sym, ◌∙◌, ap, arith, eqb, inl, inr}
+use Rattle.std.proofs.Common.{◌≡◌, ℕ, zero, suc, ◌+◌, ◌-◌, ◌*◌, ◌/◌, ◌<◌, ◌≤◌, min, List, [], ◌∷◌, length, take, drop, set, get_or, map, Option, Bool, true, false, nat_lt, ◌||◌, refl, sym, ◌∙◌, ap, arith, eqb, inl, inr}
 use Rattle.std.proofs.lemmas.List.{drop_more, take_more, take_more_set, take_min, drop_min, take_all, get_or-map, length-map}
 use Rattle.std.proofs.lemmas.Nat.{div-mul-add}
 use Rattle.std.proofs.lemmas.Bool.{ltb-false, lt-ltb, le-ltb, cases_eq, eq-eqb, ne_eqb}

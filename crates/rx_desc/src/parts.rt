@@ -53,16 +53,27 @@ impl<'a> Parts<'a> {
 
 // Writes the bytes over those of the memory from `at` on.
 #[inline]
-pub(crate) fn write_parts<M: GuestMem>(memory: &mut M, at: u64, source: &Parts)
-    requires inside { at + length (text_of source.now) ≤ length (M.bytes memory.old) }
-    requires fits { at + length (text_of source.now) < 2 ^ 64 }
-    ensures written { M.bytes memory.new ≡ overwrite at (text_of source.now) (M.bytes memory.old) }
+pub(crate) fn write_parts<M: GuestMem>(memory: &mut M, at: u64, source: Parts)
+    requires inside { at + length (text_of source) ≤ length (M.bytes memory.old) }
+    requires fits { at + length (text_of source) < 2 ^ 64 }
+    ensures written { M.bytes memory.new ≡ overwrite at (text_of source.entry) (M.bytes memory.old) }
     ensures size { length (M.bytes memory.new) ≡ length (M.bytes memory.old) }
 {
     if source.front.is_empty() {
         write_bytes(memory, at, source.back);
     } else {
-        write_bytes(memory, at, source.front);
-        write_bytes(memory, at + source.front.len() as u64, source.back);
+        write_both(memory, at, source);
     }
+}
+
+// Writes both parts, one behind the other. It stands apart, so that bytes in one part are written in few instructions.
+#[inline(never)]
+fn write_both<M: GuestMem>(memory: &mut M, at: u64, source: Parts)
+    requires inside { at + length (text_of source) ≤ length (M.bytes memory.old) }
+    requires fits { at + length (text_of source) < 2 ^ 64 }
+    ensures written { M.bytes memory.new ≡ overwrite at (text_of source.entry) (M.bytes memory.old) }
+    ensures size { length (M.bytes memory.new) ≡ length (M.bytes memory.old) }
+{
+    write_bytes(memory, at, source.front);
+    write_bytes(memory, at + source.front.len() as u64, source.back);
 }

@@ -203,7 +203,7 @@ fn place_one<M: GuestMem>(
         ring.disable();
         return Placed::Faulted;
     }
-    write_parts(memory, address, &source);
+    write_parts(memory, address, source);
     write_words(memory, descriptor, 0, status(count, loopback, tag, true));
     ring.advance(1);
     Placed::Put
@@ -292,7 +292,7 @@ fn write_pieces<M: GuestMem>(
     let mut rest = source;
     for i in 0..count {
         let (piece, tail) = rest.split_at(size.min(rest.len()));
-        write_parts(memory, addresses[i], &piece);
+        write_parts(memory, addresses[i], piece);
         rest = tail;
     }
 }

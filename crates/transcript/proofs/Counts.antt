@@ -1,10 +1,10 @@
 -- Numbers that differ in the last digit alone.
-use Rattle.std.proofs.Common.{◌≡◌, ℕ, ◌+◌, ◌/◌, ◌%◌, ◌^◌, ◌<◌, ◌≤◌, Bool, true, false, nat_lt, List, [], ◌∷◌, ◌++◌, length, length-append, length-drop, drop, slice_index, slice_set, refl, sym, ap, ◌∙◌, arith}
+use Rattle.std.proofs.Common.{◌≡◌, ℕ, ◌+◌, ◌/◌, ◌%◌, ◌^◌, ◌<◌, ◌≤◌, Bool, true, false, nat_lt, List, [], ◌∷◌, ◌++◌, length, length-append, length-drop, drop, take, length-take-le, slice_index, slice_set, refl, sym, ap, ◌∙◌, arith}
 use Rattle.std.specs.Prelude.{decimal}
 use Rattle.std.proofs.lemmas.Bool.Decides.{nat_tests}
 use Rattle.std.proofs.lemmas.Fmt.{decimal_digit, decimal_step}
-use Rattle.std.proofs.lemmas.List.{drop-set-add, get_or-drop}
-use Rattle.std.proofs.Math.Seq.{get_or-append_seam, set-append_seam}
+use Rattle.std.proofs.lemmas.List.{drop-set-add, get_or-drop, get_or-take}
+use Rattle.std.proofs.Math.Seq.{get_or-append_seam, set-append_seam, take-set-lt}
 
 -- the digits of a number before its last one
 record Front (n : ℕ) : Type 0 where
@@ -40,7 +40,7 @@ front_of n fits = go (nat_lt n 10) refl
         }
 
 -- the last digit rises by one, where it is no 9
-pub counted : (digits : List ℕ) (first n m : ℕ) → length digits ≡ 20 → first < 20 → n < 2 ^ 64 → m < 2 ^ 64
+counted : (digits : List ℕ) (first n m : ℕ) → length digits ≡ 20 → first < 20 → n < 2 ^ 64 → m < 2 ^ 64
     → drop first digits ≡ decimal n → m ≡ n + 1 → slice_index digits 19 < 57
     → drop first (slice_set digits 19 (slice_index digits 19 + 1)) ≡ decimal m
 counted digits first n m all inside fits more is next less =
@@ -60,3 +60,13 @@ counted digits first n m all inside fits more is next less =
     ∙ set-append_seam front x [] (slice_index digits 19 + 1)
     ∙ ap (λ (d : ℕ). front ++ (d + 1) ∷ []) last
     ∙ sym (f.next small (omega arith)) ∙ ap decimal (sym next)
+
+-- the same of digits that stand before index 20
+pub counted_on : (digits : List ℕ) (first n m : ℕ) → length digits ≡ 40 → first < 20 → n < 2 ^ 64 → m < 2 ^ 64
+    → drop first (take 20 digits) ≡ decimal n → m ≡ n + 1 → slice_index digits 19 < 57
+    → drop first (take 20 (slice_set digits 19 (slice_index digits 19 + 1))) ≡ decimal m
+counted_on digits first n m all inside fits more is next less =
+    let last : slice_index (take 20 digits) 19 ≡ slice_index digits 19 = get_or-take 20 digits 19 0 (omega arith) in
+    let long : length (take 20 digits) ≡ 20 = length-take-le 20 digits (omega arith) in
+    ap (drop first) (take-set-lt 20 digits 19 (slice_index digits 19 + 1) (omega arith) ∙ ap (λ d. slice_set (take 20 digits) 19 (d + 1)) (sym last))
+    ∙ counted (take 20 digits) first n m long inside fits more is next (omega (arith, last, less))

@@ -1,8 +1,11 @@
--- Marks of the pools that a word has, from the lowest on.
-use Rattle.std.proofs.Common.{arith, ◌≡◌, ◌≢◌, ℕ, zero, suc, ◌+◌, ◌*◌, ◌%◌, ◌^◌, ◌<◌, ◌≤◌, false, eqb, ltb, List, [], ◌∷◌, ◌++◌, length, get_or, bit_and, refl, sym, ap, ◌∙◌}
+-- Marks of the pools that a word has, from the lowest on, and how long they are.
+use Rattle.std.proofs.Common.{arith, ◌≡◌, ◌≢◌, ℕ, zero, suc, ◌+◌, ◌*◌, ◌%◌, ◌^◌, ◌<◌, ◌≤◌, Bool, true, false, eqb, ltb, List, [], ◌∷◌, ◌++◌, length, length-append, length-take-le, take, get_or, bit_and, append_assoc, refl, sym, ap, ◌∙◌}
 use Rattle.std.specs.Int.{bit_at, bit_not, trailing_zeros, w64}
+use Rattle.std.specs.Prelude.{codes, decimal}
 use Rattle.std.proofs.lemmas.Bool.Decides.{nat_tests}
+use Rattle.std.proofs.lemmas.Fmt.{decimal_digit, length-decimal-le}
 use Rattle.std.proofs.lemmas.Nat.Bits.{bit_at-lt, bit_at-zero, bit_at_clear_same, bit_at_clear_other, bit_at-trailing_zeros}
+use Rattle.itoa.proofs.Decimal.{length_one}
 use Rattle.wire_frame.specs.Bits.{has_bit}
 use Rattle.transcript.specs.Text.{mark_text, marks_text}
 
@@ -91,3 +94,53 @@ marks_lowest rest masks all some fits =
     let lowest = bit_at-trailing_zeros w64 rest some fits in
     lowest_from rest _ p 0 p masks (omega arith) (omega (arith, lowest.0)) lowest.2 lowest.1 (bit_at_clear_same w64 rest p lowest.0)
     (λ q below other. bit_at_clear_other w64 rest p lowest.0 q (omega arith) other)
+
+-- ---- the parts of a mark
+
+mark_open : (pool vectors : ℕ) → eqb vectors 0 ≡ false → mark_text pool vectors ≡ codes " !" ++ (decimal pool ++ (codes ":" ++ decimal vectors))
+unfolding mark_text
+mark_open pool vectors some = rw some refl
+
+pub mark_parts : (front : List ℕ) (pool vectors : ℕ) → eqb vectors 0 ≡ false → vectors < 10
+    → ((front ++ codes " !") ++ (decimal pool ++ codes ":")) ++ (48 + vectors) ∷ [] ≡ front ++ mark_text pool vectors
+mark_parts front pool vectors some few =
+    let digit : List ℕ = (48 + vectors) ∷ [] in
+    append_assoc (front ++ codes " !") (decimal pool ++ codes ":") digit
+    ∙ append_assoc front (codes " !") ((decimal pool ++ codes ":") ++ digit)
+    ∙ ap (λ (t : List ℕ). front ++ (codes " !" ++ t))
+    (append_assoc (decimal pool) (codes ":") digit ∙ ap (λ (t : List ℕ). decimal pool ++ (codes ":" ++ t)) (sym (decimal_digit vectors few)))
+    ∙ ap (λ (t : List ℕ). front ++ t) (sym (mark_open pool vectors some))
+
+-- ---- how long marks are
+
+mark_none : (pool mask : ℕ) → eqb mask 0 ≡ true → mark_text pool mask ≡ []
+unfolding mark_text
+mark_none pool mask none = rw none refl
+
+mark_short : (pool mask : ℕ) → pool < 64 → mask < 8 → length (mark_text pool mask) ≤ 6
+mark_short pool mask below few = go (eqb mask 0) refl
+  where
+    go : (none : Bool) → eqb mask 0 ≡ none → length (mark_text pool mask) ≤ 6
+    go true is = rw (mark_none pool mask is) (omega arith)
+    go false is =
+        let one = length_one mask (omega arith) in
+        let two = length-decimal-le 2 pool (omega arith) (omega arith) (omega arith) in
+        let all = length-append (decimal pool) (codes ":" ++ decimal mask) in
+        rw (mark_open pool mask is) (omega (arith, one, two, all))
+
+marks_short : (pool : ℕ) (masks : List ℕ) → pool + length masks ≤ 64 → ((k : ℕ) → get_or masks k 0 < 8) → length (marks_text pool masks) ≤ 6 * length masks
+marks_short pool [] below few = omega arith
+marks_short pool (mask ∷ masks) below few =
+    let here = mark_short pool mask (omega arith) (few 0) in
+    let rest = marks_short (suc pool) masks (omega arith) (λ k. few (suc k)) in
+    let all = length-append (mark_text pool mask) (marks_text (suc pool) masks) in
+    omega (arith, here, rest, all)
+
+-- marks that were written, with those of a word that are left, are the marks of all
+pub marks_fit : (first room : List ℕ) (at end word : ℕ) (masks : List ℕ) → length masks ≡ 64 → ((k : ℕ) → get_or masks k 0 < 8)
+    → at ≤ length first → end ≤ length room → take end room ++ marks_of word 0 masks ≡ take at first ++ marks_text 0 masks → end ≤ at + 384
+marks_fit first room at end word masks all few fits inside same =
+    let long = ap (λ (t : List ℕ). length t) same in
+    let left = length-append (take end room) (marks_of word 0 masks) in
+    let right = length-append (take at first) (marks_text 0 masks) in
+    omega (arith, long, left, right, length-take-le at first fits, length-take-le end room inside, marks_short 0 masks (omega arith) few, all)

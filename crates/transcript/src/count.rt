@@ -1,10 +1,11 @@
 //! Numbers that follow one another, in decimal digits.
-ghost use Rattle.std.specs.Prelude.{◌≡◌, decimal};
+ghost use Rattle.std.specs.Prelude.{◌≡◌, ◌+◌, ◌≤◌, ◌++◌, length, take, decimal};
 
+use crate::text::{put_front, word_at};
 use std::marker::Model;
 
-// Room for the digits of any number of 64 bits.
-const MOST_DIGITS: usize = 20;
+/// How many digits a number of 64 bits has at most.
+pub const MOST_DIGITS: usize = 20;
 
 const LAST: usize = MOST_DIGITS - 1;
 
@@ -12,19 +13,19 @@ const LAST: usize = MOST_DIGITS - 1;
 #[derive(Drop)]
 pub struct Count {
     number: u64,
-    // the digits stand at the end, from the first one on
-    digits: [u8; MOST_DIGITS],
+    // the digits stand from the first one on up to index 20; behind them is room, so that from each as many can be copied
+    digits: [u8; 2 * MOST_DIGITS],
     first: usize,
 }
 
 impl Model for Count {
-    ghost use Rattle.std.specs.Prelude.{◌≡◌, ◌<◌, ℕ, decimal, drop};
+    ghost use Rattle.std.specs.Prelude.{◌≡◌, ◌<◌, ℕ, decimal, drop, take};
 
     ghost Value = { ℕ };
 
     ghost view = { λ c. c.number };
 
-    ghost invariant = { λ c. (c.first < 20) × (drop c.first c.digits ≡ decimal c.number) };
+    ghost invariant = { λ c. (c.first < 20) × (drop c.first (take 20 c.digits) ≡ decimal c.number) };
 }
 
 impl Count {
@@ -34,19 +35,21 @@ impl Count {
     {
         Count {
             number: 0,
-            digits: [b'0'; MOST_DIGITS],
+            digits: [b'0'; 2 * MOST_DIGITS],
             first: LAST,
         }
     }
 
-    /// Goes to a number, and lends its digits.
+    /// Goes to a number, and writes its digits from an index on. Answers the index behind them.
     #[inline]
-    pub fn digits_of(&mut self, number: u64) -> &[u8]
-        ensures { result.now ≡ decimal number }
+    pub fn put(&mut self, number: u64, room: &mut [u8], at: usize) -> usize
+        requires { at + MOST_DIGITS ≤ length room.old }
+        ensures end { result ≤ at + MOST_DIGITS }
+        ensures text { take result room.new ≡ take at room.old ++ decimal number }
     {
         self.go_to(number);
-        let digits = &self.digits;
-        &digits[self.first..]
+        let digits = word_at(&self.digits, self.first);
+        put_front::<MOST_DIGITS>(room, at, digits, MOST_DIGITS - self.first)
     }
 
     // Goes to a number. Nine of ten that follow the one before differ from it in the last digit alone.

@@ -1,5 +1,4 @@
 //! Why the output stopped.
-use std::alloc::{AllocError, AllocFailed};
 use thiserror::Error;
 
 /// Why the output stopped.
@@ -8,19 +7,7 @@ pub enum Fault {
     /// Writing failed. The writer has a beginning of the text.
     #[error("writing failed")]
     Io,
-    /// A growth of memory was refused.
+    /// The host refused the room for what is held.
     #[error("no memory")]
     NoMemory,
-}
-
-impl From<AllocError> for Fault {
-    fn from(_error: AllocError) -> Fault {
-        Fault::NoMemory
-    }
-}
-
-impl<T: Drop> From<AllocFailed<T>> for Fault {
-    fn from(_error: AllocFailed<T>) -> Fault {
-        Fault::NoMemory
-    }
 }

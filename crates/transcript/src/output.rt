@@ -1,14 +1,17 @@
 //! Lines on their way to a writer.
-ghost use Rattle.std.specs.Prelude.{◌≡◌, [], ◌++◌, IfOk, OnOk, OnErr};
+ghost use Rattle.std.specs.Prelude.{◌≡◌, ◌+◌, ◌≤◌, [], ◌++◌, length, IfOk, IfErr, OnOk, OnErr};
 ghost use Rattle.std.specs.Io.KnownBytes.{Appends};
+ghost use Rattle.hex.specs.Hex.{encode_lower};
 ghost use Rattle.device.specs.Outcome.{answer_in};
 ghost use Rattle.lone.specs.Kept.{item_of, observation_of};
 ghost use Rattle.transcript.specs.Known.{Began, Sent};
 ghost use Rattle.transcript.specs.Text.{frame_line, item_line, line, seen_line};
 
-use crate::count::Count;
+use crate::count::{Count, MOST_DIGITS};
 use crate::fault::Fault;
+use crate::lines::MOST_ITEM;
 use crate::send::send;
+use crate::text::{MOST_READ, put};
 use device::{Device, Taken};
 use guest_memory::GuestMem;
 use lone::{Given, Lone, Seen};
@@ -17,39 +20,50 @@ use std::io::Write;
 use std::marker::Model;
 use wire_frame::PoolId;
 
-// How many bytes are held before they are written.
-const HELD: usize = 65_536;
+/// How many bytes are held before they are written.
+pub(crate) const HELD: usize = 65_536;
 
-// How many bytes one access to a guest's memory reads at most.
-pub(crate) const MOST_READ: usize = 2048;
+/// How many bytes a frame has at most. Digits of more bytes are held in parts.
+pub(crate) const MOST_BYTES: usize = 9018;
+
+/// How many bytes stand in the room at most: what is held, and the longest line, which offers a frame.
+pub(crate) const ROOM: usize = HELD + MOST_DIGITS + MOST_ITEM + 1;
 
 /// Lines on their way to a writer, which gets many at a time.
 #[derive(Drop)]
 pub struct Output {
-    pub(crate) held: Vec<u8>,
+    // what is held stands in front, and the bytes behind it mean nothing
+    pub(crate) room: Vec<u8>,
+    pub(crate) end: usize,
     // bytes of a guest's memory are read to here before their digits are written
-    pub(crate) room: [u8; MOST_READ],
+    pub(crate) read: [u8; MOST_READ],
     // the number of the last line that has one
     pub(crate) count: Count,
 }
 
 impl Model for Output {
-    ghost use Rattle.std.specs.Prelude.{List, ℕ};
+    ghost use Rattle.std.specs.Prelude.{◌≡◌, ◌≤◌, List, ℕ, length, take};
+    ghost use Rattle.transcript.specs.declared.output.TheConstants.{ROOM};
 
     ghost Value = { List ℕ };
 
-    ghost view = { λ o. o.held.items };
+    ghost view = { λ o. take o.end o.room.items };
+
+    ghost invariant = { λ o. (length o.room.items ≡ ROOM) × (o.end ≤ ROOM) };
 }
 
 impl Output {
-    /// No bytes yet. [`Fault::NoMemory`] where the host refused the room.
+    /// No bytes yet. [`Fault::NoMemory`] where the host refused the room; no later call takes memory.
     pub fn new(alloc: Global) -> Result<Output, Fault>
         ensures { IfOk result (λ o. o ≡ []) }
     {
-        let held = Vec::with_capacity(alloc, 2 * HELD)?;
+        let Ok(room) = vec![in alloc; 0; ROOM] else {
+            return Err(Fault::NoMemory);
+        };
         Ok(Output {
-            held,
-            room: [0; MOST_READ],
+            room,
+            end: 0,
+            read: [0; MOST_READ],
             count: Count::new(),
         })
     }
@@ -65,18 +79,22 @@ impl Output {
     ) -> Result<(), Fault>
         ensures ok { OnOk result (Sent (W.contents writer.old) (W.contents writer.new) (self.old ++ line number (answer_in device.now taken.now)) self.new) }
         ensures err { OnErr result (Began (W.contents writer.old) (W.contents writer.new) (self.old ++ line number (answer_in device.now taken.now))) }
+        ensures io { IfErr result (λ e. e ≡ Fault.Io) }
     {
-        self.hold_answer(number, device, taken)?;
-        self.relieve(writer)
+        self.relieve(writer)?;
+        self.hold_answer(number, device, taken);
+        Ok(())
     }
 
     /// The line of a frame that went to the wire.
     pub fn frame<W: Write>(&mut self, bytes: &[u8], writer: &mut W) -> Result<(), Fault>
         ensures ok { OnOk result (Sent (W.contents writer.old) (W.contents writer.new) (self.old ++ frame_line bytes.now) self.new) }
         ensures err { OnErr result (Began (W.contents writer.old) (W.contents writer.new) (self.old ++ frame_line bytes.now)) }
+        ensures io { IfErr result (λ e. e ≡ Fault.Io) }
     {
-        self.hold_frame(bytes)?;
-        self.relieve(writer)
+        self.piece(b"out ", writer)?;
+        self.digits(bytes, writer)?;
+        self.piece(b"\n", writer)
     }
 
     /// The line of what an event leaves for a pool, with the event's number.
@@ -88,9 +106,11 @@ impl Output {
     ) -> Result<(), Fault>
         ensures ok { OnOk result (Sent (W.contents writer.old) (W.contents writer.new) (self.old ++ item_line number (item_of given.entry)) self.new) }
         ensures err { OnErr result (Began (W.contents writer.old) (W.contents writer.new) (self.old ++ item_line number (item_of given.entry))) }
+        ensures io { IfErr result (λ e. e ≡ Fault.Io) }
     {
-        self.hold_item(number, given)?;
-        self.relieve(writer)
+        self.relieve(writer)?;
+        self.hold_item(number, given);
+        Ok(())
     }
 
     /// The line of what is seen of a pool's lone function: the number of the event that it comes of, the reply where there
@@ -105,39 +125,79 @@ impl Output {
     ) -> Result<(), Fault>
         ensures ok { OnOk result (Sent (W.contents writer.old) (W.contents writer.new) (self.old ++ seen_line pool number (observation_of lone.now.function seen)) self.new) }
         ensures err { OnErr result (Began (W.contents writer.old) (W.contents writer.new) (self.old ++ seen_line pool number (observation_of lone.now.function seen))) }
+        ensures io { IfErr result (λ e. e ≡ Fault.Io) }
     {
-        self.hold_seen(number, pool, lone, seen)?;
-        self.relieve(writer)
+        self.relieve(writer)?;
+        self.hold_seen(number, pool, lone, seen);
+        Ok(())
     }
 
     /// Hands over what is left, and flushes the writer.
     pub fn finish<W: Write>(mut self, writer: &mut W) -> Result<(), Fault>
         ensures ok { OnOk result (Appends (W.contents writer.old) (W.contents writer.new) self) }
         ensures err { OnErr result (Began (W.contents writer.old) (W.contents writer.new) self) }
+        ensures io { IfErr result (λ e. e ≡ Fault.Io) }
     {
         self.hand_over(writer)?;
         writer.flush().map_err(|_| Fault::Io)
     }
 
+    // A few bytes as they are.
+    fn piece<W: Write>(&mut self, bytes: &[u8], writer: &mut W) -> Result<(), Fault>
+        requires { HELD + length bytes.now ≤ ROOM }
+        ensures ok { OnOk result (Sent (W.contents writer.old) (W.contents writer.new)
+            (self.old ++ bytes.now) self.new) }
+        ensures err { OnErr result (Began (W.contents writer.old) (W.contents writer.new)
+            (self.old ++ bytes.now)) }
+        ensures io { IfErr result (λ e. e ≡ Fault.Io) }
+    {
+        self.relieve(writer)?;
+        self.end = put(self.room.as_mut_slice(), self.end, bytes);
+        Ok(())
+    }
+
+    // Two digits for each byte. More bytes than a frame may have go in parts.
+    fn digits<W: Write>(&mut self, bytes: &[u8], writer: &mut W) -> Result<(), Fault>
+        ensures ok { OnOk result (Sent (W.contents writer.old) (W.contents writer.new)
+            (self.old ++ encode_lower bytes.now) self.new) }
+        ensures err { OnErr result (Began (W.contents writer.old) (W.contents writer.new)
+            (self.old ++ encode_lower bytes.now)) }
+        ensures io { IfErr result (λ e. e ≡ Fault.Io) }
+    {
+        let mut rest = bytes;
+        while !rest.is_empty() {
+            self.relieve(writer)?;
+            let (part, tail) = rest.split_at(rest.len().min(MOST_BYTES));
+            self.hold_digits(part);
+            rest = tail;
+        }
+        Ok(())
+    }
+
     // Hands over what is held where it is much.
+    #[inline]
     fn relieve<W: Write>(&mut self, writer: &mut W) -> Result<(), Fault>
         ensures ok { OnOk result (Sent (W.contents writer.old) (W.contents writer.new) self.old self.new) }
+        ensures few { OnOk result (length self.new ≤ HELD) }
         ensures err { OnErr result (Began (W.contents writer.old) (W.contents writer.new) self.old) }
+        ensures io { IfErr result (λ e. e ≡ Fault.Io) }
     {
-        if self.held.len() < HELD {
+        if self.end <= HELD {
             return Ok(());
         }
         self.hand_over(writer)
     }
 
     // Hands over what is held.
+    #[inline(never)]
     fn hand_over<W: Write>(&mut self, writer: &mut W) -> Result<(), Fault>
         ensures ok { OnOk result (Appends (W.contents writer.old) (W.contents writer.new) self.old) }
         ensures empty { OnOk result (self.new ≡ []) }
         ensures err { OnErr result (Began (W.contents writer.old) (W.contents writer.new) self.old) }
+        ensures io { IfErr result (λ e. e ≡ Fault.Io) }
     {
-        send(writer, self.held.as_slice())?;
-        self.held.clear();
+        send(writer, &self.room[..self.end])?;
+        self.end = 0;
         Ok(())
     }
 }

@@ -1,5 +1,5 @@
 //! Bytes to a writer.
-ghost use Rattle.std.specs.Prelude.{◌≡◌, ◌≤◌, length, take, true, OnOk, OnErr};
+ghost use Rattle.std.specs.Prelude.{◌≡◌, ◌≤◌, length, take, true, IfErr, OnOk, OnErr};
 ghost use Rattle.std.specs.Io.KnownBytes.{Appends};
 ghost use Rattle.transcript.specs.Known.{Began};
 
@@ -10,6 +10,7 @@ use std::io::{ErrorKind, Write};
 pub fn send<W: Write>(writer: &mut W, bytes: &[u8]) -> Result<(), Fault>
     ensures ok { OnOk result (Appends (W.contents writer.old) (W.contents writer.new) bytes.now) }
     ensures err { OnErr result (Began (W.contents writer.old) (W.contents writer.new) bytes.now) }
+    ensures io { IfErr result (λ e. e ≡ Fault.Io) }
 {
     match taken(writer, bytes) {
         (_, true) => Ok(()),

@@ -177,7 +177,7 @@ fn keep(alloc: Global, steps: &[Step], pool: PoolId) -> Result<String, Fail> {
 // The lines of what is seen of the pool's lone function.
 fn lone(alloc: Global, steps: &[Step], pool: PoolId) -> Result<String, Fail> {
     let mut watch = Watch::new(device_of_8(alloc)?, pool);
-    let mut lone = Lone::new(FlatMem::new(alloc, 65536)?, FrameLimit::standard());
+    let mut lone = Lone::new(alloc, FlatMem::new(alloc, 65536)?, FrameLimit::standard())?;
     let mut output = Output::new(alloc)?;
     let mut written = Vec::new(alloc);
     let mut room = FrameBuf::blank();

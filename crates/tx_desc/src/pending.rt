@@ -1,52 +1,51 @@
 //! The frame that is being sent, as far as it is gathered.
-ghost use Rattle.std.specs.Prelude.{◌≡◌, ◌↔◌, IsTrue, ℕ, ◌+◌, ◌≤◌, [], length, slice_range, if◌then◌else◌};
+ghost use Rattle.std.specs.Prelude.{◌≡◌, ◌↔◌, IsTrue, ℕ, ◌+◌, ◌-◌, ◌≤◌, ◌++◌, [], length, replicate, slice_range, vec_capacity, IfOk, if◌then◌else◌};
 ghost use Rattle.tx_desc.specs.Transmit.{Gathering, Gathered, Overlong, joined, ended, refuses};
 ghost use Rattle.tx_desc.specs.Lent.{lent_after};
 ghost use Rattle.tx_desc.specs.declared.outcome.Fetched.TheVariants.{Frame, Dropped};
 
 use crate::descriptor::TxDescriptor;
 use guest_memory::{GuestMem, read_bytes};
+use std::alloc::{AllocError, Global};
 use std::marker::Model;
 use wire_frame::{FrameBuf, FrameLimit, PortVlan};
 
+/// The most bytes that a frame has.
+const MOST_BYTES: usize = 9018;
+
 /// The bytes gathered so far of the frame that is being sent, or that they are too many.
+///
+/// The room for the longest frame is taken when it is made, and stays untouched as far as no frame has come yet.
 #[derive(Drop)]
 pub struct Pending {
-    cells: [u8; 9018],
+    // the first `len` are gathered; what earlier frames left stands behind them
+    cells: Vec<u8>,
     len: usize,
     is_overlong: bool,
 }
 
 impl Model for Pending {
-    ghost use Rattle.std.specs.Prelude.{take, ◌≤◌, if◌then◌else◌};
+    ghost use Rattle.std.specs.Prelude.{take, length, vec_capacity, ◌≤◌, if◌then◌else◌};
     ghost use Rattle.tx_desc.specs.Transmit.{Gathering, Gathered, Overlong};
 
     ghost Value = { Gathering };
 
-    ghost view = { λ p. if p.is_overlong then Overlong else Gathered (take p.len p.cells) };
+    ghost view = { λ p. if p.is_overlong then Overlong else Gathered (take p.len p.cells.items) };
 
-    ghost invariant = { λ p. p.len ≤ 9018 };
-}
-
-impl Default for Pending {
-    ghost is_default = { λ p. p ≡ Gathered [] };
-
-    /// No bytes.
-    fn default() -> Pending {
-        Pending::new()
-    }
+    ghost invariant = { λ p. (p.len ≤ length p.cells.items) × (9018 ≤ vec_capacity p.cells) };
 }
 
 impl Pending {
-    /// No bytes.
-    pub fn new() -> Pending
-        ensures { result ≡ Gathered [] }
+    /// No bytes, and room for those of the longest frame.
+    pub fn new(alloc: Global) -> Result<Pending, AllocError>
+        ensures { IfOk result (λ p. p ≡ Gathered []) }
     {
-        Pending {
-            cells: [0; 9018],
+        let cells = Vec::with_capacity(alloc, MOST_BYTES)?;
+        Ok(Pending {
+            cells,
             len: 0,
             is_overlong: false,
-        }
+        })
     }
 
     /// Forgets what is gathered, as where a queue goes off.
@@ -79,6 +78,9 @@ impl Pending {
             return;
         }
         let end = self.len + size;
+        if end > self.cells.len() {
+            reach(&mut self.cells, end);
+        }
         read_bytes(memory, at, &mut self.cells[self.len..end]);
         self.len = end;
     }
@@ -106,6 +108,22 @@ impl Pending {
             None => frame.refill(bytes, limit),
             Some(tag) => frame.refill_tagged(tag, bytes, limit),
         }
+    }
+}
+
+// Makes the cells that long, by zeros behind those that there are. There is room, so nothing is allocated.
+#[cold]
+#[inline(never)]
+fn reach(cells: &mut Vec<u8>, len: usize)
+    requires longer { length cells.old.items ≤ len }
+    requires room { len ≤ vec_capacity cells.old }
+    ensures cells { cells.new.items ≡ cells.old.items ++ replicate (len - length cells.old.items) 0 }
+    ensures len { length cells.new.items ≡ len }
+    ensures capacity { vec_capacity cells.old ≤ vec_capacity cells.new }
+{
+    match cells.resize(len, 0) {
+        Ok(()) => {}
+        Err(_) => unreachable!(),
     }
 }
 

@@ -97,7 +97,7 @@ fn kinds_of_descriptors(rt: HostRuntime) -> Result<(), Fail> {
     for (buffer, word, outcome, word_after, head) in rows {
         let mut memory = memory_of(&rt, rt.alloc(), PLAIN, buffer, word)?;
         let mut ring = ring_of(1);
-        let mut pending = Pending::new();
+        let mut pending = Pending::new(rt.alloc())?;
         let mut frame = FrameBuf::blank();
         let rule = PortVlan::Descriptor;
         let limit = FrameLimit::standard();
@@ -146,7 +146,7 @@ fn frames_under_port_rules(rt: HostRuntime) -> Result<(), Fail> {
     for (word, bytes, rule, start, len) in rows {
         let mut memory = memory_of(&rt, rt.alloc(), bytes, FIRST, word)?;
         let mut ring = ring_of(1);
-        let mut pending = Pending::new();
+        let mut pending = Pending::new(rt.alloc())?;
         let limit = FrameLimit::standard();
         match fetch(&mut memory, &mut ring, &mut pending, rule, limit) {
             (Fetched::Frame(frame), true) => assert!(rt;
@@ -165,7 +165,7 @@ fn frames_under_port_rules(rt: HostRuntime) -> Result<(), Fail> {
 fn a_descriptor_sends_itself(rt: HostRuntime) -> Result<(), Fail> {
     let mut memory = memory_of(&rt, rt.alloc(), ZEROS, RING, 0x2930_0010)?;
     let mut ring = ring_of(1);
-    let mut pending = Pending::new();
+    let mut pending = Pending::new(rt.alloc())?;
     let mut frame = FrameBuf::blank();
     let rule = PortVlan::Descriptor;
     let limit = FrameLimit::standard();
@@ -195,7 +195,7 @@ fn two_descriptors(rt: HostRuntime) -> Result<(), Fail> {
         let mut memory = memory_of(&rt, rt.alloc(), PLAIN, FIRST, 0x2830_03E8)?;
         write_words(&mut memory, RING + 16, SECOND, 0x2930_0258);
         let mut ring = ring_of(2);
-        let mut pending = Pending::new();
+        let mut pending = Pending::new(rt.alloc())?;
         let (first, reported) = fetch(&mut memory, &mut ring, &mut pending, rule, limit);
         assert_eq!(rt; (first, reported), (Fetched::More, true), "under {most}");
         let (second, reported) = fetch(&mut memory, &mut ring, &mut pending, rule, limit);
@@ -220,7 +220,7 @@ fn pending_bytes(rt: HostRuntime) -> Result<(), Fail> {
         let mut memory = memory_of(&rt, rt.alloc(), PLAIN, FIRST, 0x5_0000_4800_003C)?;
         write_words(&mut memory, RING + 16, SECOND, 0x0900_000E);
         let mut ring = ring_of(2);
-        let mut pending = Pending::default();
+        let mut pending = Pending::new(rt.alloc())?;
         let mut frame = FrameBuf::blank();
         let rule = PortVlan::Descriptor;
         let first = fetch_into(
@@ -249,6 +249,41 @@ fn pending_bytes(rt: HostRuntime) -> Result<(), Fail> {
     Ok(())
 }
 
+/// Frames of two descriptors, one after another in one room: a longest one, a shorter one, a longer one again. Each has its own
+/// bytes, and none of those before it.
+#[test]
+fn frames_in_turn(rt: HostRuntime) -> Result<(), Fail> {
+    let limit = FrameLimit::new(9018).ok_or("no limit")?;
+    let rule = PortVlan::Descriptor;
+    let mut pending = Pending::new(rt.alloc())?;
+    for (first, second, byte) in [(9000u16, 18u16, 0xA5), (14, 46, 0x11), (8000, 1018, 0x22)] {
+        let mut memory = FlatMem::new(rt.alloc(), SIZE)?;
+        assert_eq!(rt; memory.size(), 65536);
+        write_bytes(&mut memory, SECOND, &[byte; 9018]);
+        write_words(&mut memory, RING, SECOND, 0x2830_0000 + u64::from(first));
+        write_words(
+            &mut memory,
+            RING + 16,
+            SECOND,
+            0x2930_0000 + u64::from(second),
+        );
+        let mut ring = ring_of(2);
+        let (more, _) = fetch(&mut memory, &mut ring, &mut pending, rule, limit);
+        assert_eq!(rt; more, Fetched::More, "of {first}");
+        let (ended, _) = fetch(&mut memory, &mut ring, &mut pending, rule, limit);
+        let Fetched::Frame(frame) = ended else {
+            return Err("no frame")?;
+        };
+        let len = usize::from(first) + usize::from(second);
+        assert_eq!(rt; frame.bytes().len(), len);
+        assert!(rt;
+            frame.bytes().iter().all(|found| *found == byte),
+            "of {first}"
+        );
+    }
+    Ok(())
+}
+
 /// Where the ring of eight begins and its head, and where the descriptor at the head and the 60 bytes of a frame stand: at the
 /// borders of pages of 4096 bytes, and of the memory. The lent frame is shorter, as long, and longer.
 #[test]
@@ -268,7 +303,7 @@ fn page_borders(rt: HostRuntime) -> Result<(), Fail> {
         write_bytes(&mut memory, buffer, &PLAIN);
         write_words(&mut memory, at, buffer, 0x2930_003C);
         let mut ring = ring_at(base, head, (head + 1) % 8);
-        let mut pending = Pending::new();
+        let mut pending = Pending::new(rt.alloc())?;
         let other = [0xFF; 64];
         let mut frame = FrameBuf::from_bytes(&other[..lent.min(64)])?;
         let rule = PortVlan::Descriptor;
@@ -295,7 +330,7 @@ fn no_frame_leaves_the_lent_one(rt: HostRuntime) -> Result<(), Fail> {
     for word in [0x2930_0011, 0x2930_05EF] {
         let mut memory = memory_of(&rt, rt.alloc(), TAGGED_5, FIRST, word)?;
         let mut ring = ring_of(1);
-        let mut pending = Pending::new();
+        let mut pending = Pending::new(rt.alloc())?;
         let mut frame = FrameBuf::from_bytes(&[0xFF; 1600])?;
         let rule = PortVlan::Descriptor;
         let limit = FrameLimit::standard();

@@ -1,5 +1,5 @@
 //! An open virtual function.
-ghost use Rattle.std.specs.Prelude.{◌≡◌, ℕ, ◌+◌, ◌≤◌, ◌<◌, ◌^◌, ◌%◌, length, slice_range, replicate};
+ghost use Rattle.std.specs.Prelude.{◌≡◌, ℕ, ◌+◌, ◌≤◌, ◌<◌, ◌^◌, ◌%◌, length, slice_range, replicate, IfOk};
 ghost use Rattle.guest_memory.specs.Memory.{overwrite};
 ghost use Rattle.rings.specs.Ring.{ring_written};
 ghost use Rattle.tx_desc.specs.Lent.{told, lent_after};
@@ -13,6 +13,7 @@ use guest_memory::{GuestMem, read_bytes, write_bytes};
 use irq_causes::Causes;
 use rings::RingRegister;
 use rx_desc::{Placed, RxConfig, place_within};
+use std::alloc::{AllocError, Global};
 use std::marker::Model;
 use tx_desc::{Progress, Served, fetch_within};
 use wire_frame::{FrameBuf, FrameLimit, PortVlan, has_bit};
@@ -56,23 +57,25 @@ impl<M: GuestMem> Model for OpenVf<M> {
 
 impl<M: GuestMem> OpenVf<M> {
     /// A function over this memory, with every register initial.
-    pub fn new(memory: M) -> OpenVf<M>
-        ensures { result ≡ initial (M.bytes memory) }
+    pub fn new(alloc: Global, memory: M) -> Result<OpenVf<M>, AllocError>
+        ensures { IfOk result (λ f. f ≡ initial (M.bytes memory)) }
     {
         let memory_size = memory.size();
-        OpenVf {
+        let transmit_0 = TransmitQueue::new(alloc)?;
+        let transmit_1 = TransmitQueue::new(alloc)?;
+        Ok(OpenVf {
             memory,
             memory_size,
             receive_0: ReceiveQueue::new(),
             receive_1: ReceiveQueue::new(),
-            transmit_0: TransmitQueue::new(),
-            transmit_1: TransmitQueue::new(),
+            transmit_0,
+            transmit_1,
             causes: Causes::new(),
             queue_vectors: 0,
             other_vector: 0,
             frames_received: 0,
             frames_sent: 0,
-        }
+        })
     }
 
     /// Makes every register initial. The memory stays.

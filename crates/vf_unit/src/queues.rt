@@ -1,11 +1,12 @@
 //! A receive and a transmit queue, as their registers see them.
-ghost use Rattle.std.specs.Prelude.{◌≡◌, ℕ, ◌+◌, ◌^◌, if◌then◌else◌};
+ghost use Rattle.std.specs.Prelude.{◌≡◌, ℕ, ◌+◌, ◌^◌, IfOk, if◌then◌else◌};
 ghost use Rattle.rings.specs.Ring.{LiesInside, ring_written};
 ghost use Rattle.vf_unit.specs.Function.{initial_receive, initial_transmit, IsReceiving};
 ghost use Rattle.vf_unit.specs.Access.{enable_word, buffers_written, receive_switched, transmit_switched};
 
 use crate::offsets::{ENABLE, SRRCTL_KEPT, VME};
 use rings::{Ring, RingRegister};
+use std::alloc::{AllocError, Global};
 use tx_desc::Pending;
 use wire_frame::has_bit;
 
@@ -100,14 +101,15 @@ impl ReceiveQueue {
 }
 
 impl TransmitQueue {
-    /// A queue that is off, with nothing set.
-    pub fn new() -> TransmitQueue
-        ensures { result ≡ initial_transmit }
+    /// A queue that is off, with nothing set, and room for the frame that is being sent.
+    pub fn new(alloc: Global) -> Result<TransmitQueue, AllocError>
+        ensures { IfOk result (λ q. q ≡ initial_transmit) }
     {
-        TransmitQueue {
+        let pending = Pending::new(alloc)?;
+        Ok(TransmitQueue {
             ring: Ring::new(),
-            pending: Pending::new(),
-        }
+            pending,
+        })
     }
 
     /// Turns the queue off and forgets what is set and gathered.

@@ -87,15 +87,14 @@ fn do_step<M: GuestMem>(
     Ok(())
 }
 
-// Opens a function over the memory and does the steps.
+// Opens the function and does the steps.
 fn do_steps<M: GuestMem>(
     rt: &impl Abort,
-    memory: M,
+    mut unit: VfUnit<M>,
     rule: PortVlan,
     limit: FrameLimit,
     steps: [&[Step]; 2],
 ) -> Result<(), Fail> {
-    let mut unit = VfUnit::new(memory);
     let mut frame = FrameBuf::blank();
     unit.open();
     for part in steps {
@@ -106,16 +105,27 @@ fn do_steps<M: GuestMem>(
     Ok(())
 }
 
-// The same over a flat memory of 64 KiB, with no port VLAN and frames of up to 1518 bytes.
-fn plainly(rt: &impl Abort, alloc: Global, first: &[Step], then: &[Step]) -> Result<(), Fail> {
-    let memory = FlatMem::new(alloc, 65_536)?;
+// The same of a function that is made over the memory, with no port VLAN and frames of up to 1518 bytes.
+fn do_steps_over<M: GuestMem>(
+    rt: &impl Abort,
+    alloc: Global,
+    memory: M,
+    steps: [&[Step]; 2],
+) -> Result<(), Fail> {
+    let unit = VfUnit::new(alloc, memory)?;
     do_steps(
         rt,
-        memory,
+        unit,
         PortVlan::Descriptor,
         FrameLimit::standard(),
-        [first, then],
+        steps,
     )
+}
+
+// The same over a flat memory of 64 KiB.
+fn plainly(rt: &impl Abort, alloc: Global, first: &[Step], then: &[Step]) -> Result<(), Fail> {
+    let memory = FlatMem::new(alloc, 65_536)?;
+    do_steps_over(rt, alloc, memory, [first, then])
 }
 
 // A receive queue with one buffer of 2 KiB at 0x4000; receive raises vector 0, transmit vector 1.
@@ -440,7 +450,8 @@ fn frames_are_within_the_limit(rt: HostRuntime) -> Result<(), Fail> {
         ),
     ] {
         let memory = FlatMem::new(rt.alloc(), 65_536)?;
-        do_steps(&rt, memory, PortVlan::Descriptor, limit, [SENDING, steps])?;
+        let unit = VfUnit::new(rt.alloc(), memory)?;
+        do_steps(&rt, unit, PortVlan::Descriptor, limit, [SENDING, steps])?;
     }
     Ok(())
 }
@@ -489,7 +500,8 @@ fn ports_insert_tags(rt: HostRuntime) -> Result<(), Fail> {
         ),
     ] {
         let memory = FlatMem::new(rt.alloc(), 65_536)?;
-        do_steps(&rt, memory, rule, FrameLimit::standard(), [SENDING, steps])?;
+        let unit = VfUnit::new(rt.alloc(), memory)?;
+        do_steps(&rt, unit, rule, FrameLimit::standard(), [SENDING, steps])?;
     }
     Ok(())
 }
@@ -572,14 +584,15 @@ fn registers_answer_as_mapped(rt: HostRuntime) -> Result<(), Fail> {
         ];
         let memory = FlatMem::new(rt.alloc(), 131_072)?;
         let limit = FrameLimit::standard();
-        do_steps(&rt, memory, PortVlan::Descriptor, limit, [&steps, &[]])?;
+        let unit = VfUnit::new(rt.alloc(), memory)?;
+        do_steps(&rt, unit, PortVlan::Descriptor, limit, [&steps, &[]])?;
     }
     Ok(())
 }
 
 #[test]
 fn nothing_of_an_earlier_tenant_is_left(rt: HostRuntime) -> Result<(), Fail> {
-    let mut unit = VfUnit::new(FlatMem::new(rt.alloc(), 4096)?);
+    let mut unit = VfUnit::new(rt.alloc(), FlatMem::new(rt.alloc(), 4096)?)?;
     let mut frame = FrameBuf::blank();
     let limit = FrameLimit::standard();
     let mut byte = [1u8];
@@ -652,15 +665,13 @@ fn boxes_of_any_kind_serve(rt: HostRuntime) -> Result<(), Fail> {
             Get(0x4000, &[2, 0, 0, 0, 0, 3, 2, 0, 0, 0, 0, 0x99, 8, 0, 7, 7]),
         ],
     ];
-    let limit = FrameLimit::standard();
     let flat = FlatMem::new(rt.alloc(), 65_536)?;
     let flat: Box<dyn GuestMem + Send> = Box::new(rt.alloc(), flat)?;
-    do_steps(&rt, flat, PortVlan::Descriptor, limit, steps)?;
+    do_steps_over(&rt, rt.alloc(), flat, steps)?;
     let counting = CountingMem {
         memory: FlatMem::new(rt.alloc(), 65_536)?,
         writes: 0,
     };
     let counting: Box<dyn GuestMem + Send> = Box::new(rt.alloc(), counting)?;
-    do_steps(&rt, counting, PortVlan::Descriptor, limit, steps)?;
-    Ok(())
+    do_steps_over(&rt, rt.alloc(), counting, steps)
 }

@@ -1,5 +1,5 @@
 //! A virtual function, closed or open.
-ghost use Rattle.std.specs.Prelude.{◌≡◌, ℕ, ◌<◌, length, Some, None, IfSome, if◌then◌else◌};
+ghost use Rattle.std.specs.Prelude.{◌≡◌, ℕ, ◌<◌, length, Some, None, IfOk, IfSome, if◌then◌else◌};
 ghost use Rattle.std.specs.Option.{option_map};
 ghost use Rattle.tx_desc.specs.Lent.{told};
 ghost use Rattle.vf_unit.specs.Unit.{Function, Closed, Open, size_of, is_open, opened, ended, reset, read_of, after_read_of, written, given, serviced, service_outcome, lent_to, one_more_sent, has_range, bytes_at, memory_written};
@@ -7,6 +7,7 @@ ghost use Rattle.vf_unit.specs.Unit.{Function, Closed, Open, size_of, is_open, o
 use crate::open::{OpenVf, Service};
 use crate::registers::Queue;
 use guest_memory::GuestMem;
+use std::alloc::{AllocError, Global};
 use std::marker::Model;
 use wire_frame::{FrameBuf, FrameLimit, PortVlan};
 
@@ -27,14 +28,15 @@ impl<M: GuestMem> Model for VfUnit<M> {
 }
 
 impl<M: GuestMem> VfUnit<M> {
-    /// A closed function over this memory.
-    pub fn new(memory: M) -> VfUnit<M>
-        ensures { result ≡ Closed (length (M.bytes memory)) }
+    /// A closed function over this memory, with the room that its frames are gathered in.
+    pub fn new(alloc: Global, memory: M) -> Result<VfUnit<M>, AllocError>
+        ensures { IfOk result (λ u. u ≡ Closed (length (M.bytes memory))) }
     {
-        VfUnit {
-            inner: OpenVf::new(memory),
+        let inner = OpenVf::new(alloc, memory)?;
+        Ok(VfUnit {
             is_open: false,
-        }
+            inner,
+        })
     }
 
     /// Whether it is open.

@@ -1,3 +1,4 @@
 mod HandleLemmas
+mod RecordedLemmas
 mod Silence
 pub mod Values

@@ -12,14 +12,16 @@ use Rattle.device.specs.declared.event.Event.{Event}
 use Rattle.device.specs.declared.event.Event.TheVariants.{VfWrite, MemWrite, Serve, Wire}
 use Rattle.device.specs.declared.event.Reply.{Reply}
 use Rattle.device.specs.declared.event.Reply.TheVariants.{Done, Value, Bytes, Idle, More, Sent, Dropped, Faulted, Refused}
-use Rattle.device.specs.World.{World, step, is_frame_limit}
+use Rattle.device.specs.World.{World, step, answers, world_after, is_frame_limit}
 use Rattle.device.specs.Outcome.{left_by}
 use Rattle.device.specs.Lone.{keep, lone_of, lone_seen, lone_after, seen_by}
+use Rattle.history.specs.Entries.{Entry, is_cap}
 use Rattle.vfdev_c.specs.declared.reply.VfdevReply.{VfdevReply}
 use Rattle.vfdev_c.specs.declared.stage.Stage.{Stage}
-use Rattle.vfdev_c.specs.declared.stage.Stage.TheVariants.{Lending, Made}
+use Rattle.vfdev_c.specs.declared.stage.Stage.TheVariants.{Lending, Made, Kept}
+use Rattle.vfdev_c.specs.Recorded.{is_full, taking, events, given, made_like}
 
--- what a handle leads to: nothing, memories that were lent for a device, or a device
+-- what a handle leads to: nothing, memories that were lent for a device, a device, or a device whose calls are kept
 abbrev pub Held : Type 0
 Held = Option Stage
 
@@ -49,6 +51,10 @@ no_room = numbered 10 0
 
 abbrev pub no_queue : VfdevReply
 no_queue = numbered 11 0
+
+-- no more calls can be kept
+abbrev pub history_full : VfdevReply
+history_full = numbered 12 0
 
 abbrev pub refused_as : Fault → VfdevReply
 refused_as fault = numbered 8 (number_of fault)
@@ -85,19 +91,23 @@ serve_asked function queue out = serve_at function (queue_of queue) out
 
 -- ---- what a call does, by what it asks
 
--- what the handle leads to after it: an event is given to the device, where there is one
+-- what the handle leads to after it: an event is given to the device, where there is one, and the call is kept
+-- where calls are
 abbrev pub after : Held → Asked → Held
 after (Some (Made w)) (Ok e) = Some (Made (step w e).world)
+after (Some (Kept r)) (Ok e) = Some (Kept (taking r e))
 after held asked = held
 
 abbrev pub reply_to : Held → Asked → VfdevReply
 reply_to held (Err reply) = reply
 reply_to (Some (Made w)) (Ok e) = shown (step w e).answer.reply
+reply_to (Some (Kept r)) (Ok e) = if is_full r then history_full else shown (step r.live e).answer.reply
 reply_to held (Ok e) = no_device
 
 -- the messages that it issued, for each pool
 abbrev pub raised_by : Held → Asked → List ℕ
 raised_by (Some (Made w)) (Ok e) = (step w e).answer.raised
+raised_by (Some (Kept r)) (Ok e) = if is_full r then no_messages else (step r.live e).answer.raised
 raised_by held asked = no_messages
 
 -- the messages stand in the first 64 bytes, where there is room; no other byte changes
@@ -107,6 +117,7 @@ messages_in raised old = if has_room old then raised ++ drop 64 old else old
 -- the frame that left for the wire
 abbrev pub left_of : Held → Asked → Option (List ℕ)
 left_of (Some (Made w)) (Ok e) = left_by w e
+left_of (Some (Kept r)) (Ok e) = if is_full r then None else left_by r.live e
 left_of held asked = None
 
 -- it stands in the first bytes, and no other byte changes
@@ -125,6 +136,7 @@ bytes_shown reply out = out
 
 abbrev pub bytes_in : Held → Event → List ℕ → List ℕ
 bytes_in (Some (Made w)) e out = bytes_shown (step w e).answer.reply out
+bytes_in (Some (Kept r)) e out = if is_full r then out else bytes_shown (step r.live e).answer.reply out
 bytes_in held e out = out
 
 -- it issues no messages, whatever the device is
@@ -144,6 +156,7 @@ IsolatedStep w e new = (p : ℕ) → p < length w.functions →
 
 abbrev pub Isolated : Held → Asked → Held → Type 0
 Isolated (Some (Made w)) (Ok e) (Some (Made new)) = IsolatedStep w e new
+Isolated (Some (Kept r)) (Ok e) (Some (Kept new)) = is_full r ≡ false → IsolatedStep r.live e new.live
 Isolated held asked new = Unit
 
 -- ---- makers
@@ -151,6 +164,10 @@ Isolated held asked new = Unit
 -- a device of so many functions over memories of one size can be made
 abbrev pub can_make : ℕ → ℕ → ℕ → Bool
 can_make functions size limit = nat_le 1 functions && (nat_le functions 64 && (is_memory_size size && is_frame_limit limit))
+
+-- and its calls can be kept, so many at most
+abbrev pub can_record : ℕ → ℕ → ℕ → ℕ → Bool
+can_record functions size limit calls = can_make functions size limit && is_cap calls
 
 abbrev pub is_lending : Held → Bool
 is_lending (Some (Lending blocks)) = true
@@ -168,4 +185,41 @@ can_lend held bytes = is_memory_size (length bytes) && nat_lt (length (lent_in h
 -- a device is there
 abbrev pub is_made : Held → Bool
 is_made (Some (Made w)) = true
+is_made (Some (Kept r)) = true
 is_made held = false
+
+-- ---- kept calls
+
+-- a device is there whose calls are kept, or one whose calls are not
+abbrev pub is_recorded : Held → Bool
+is_recorded (Some (Kept r)) = true
+is_recorded held = false
+
+abbrev pub is_unrecorded : Held → Bool
+is_unrecorded (Some (Made w)) = true
+is_unrecorded held = false
+
+-- the calls that are kept
+abbrev pub calls_in : Held → List Entry
+calls_in (Some (Kept r)) = r.calls
+calls_in held = []
+
+-- what a replay leaves of another device: it takes the events of the kept calls
+abbrev pub replayed : Held → Held → Held
+replayed (Some (Kept r)) (Some (Made w)) = Some (Made (world_after w (events r.calls)))
+replayed held other = other
+
+-- the same device without its calls
+abbrev pub live_in : Held → Held
+live_in (Some (Kept r)) = Some (Made r.live)
+live_in held = held
+
+-- the other device answers each kept call as it was kept
+abbrev pub IsSame : Held → Held → Type 0
+IsSame (Some (Kept r)) (Some (Made w)) = answers w (events r.calls) ≡ given r.calls
+IsSame held other = ⊥
+
+-- the other device is one as it is made, of the recorded one's frame limit and sizes of memories
+abbrev pub IsMadeLike : Held → Held → Type 0
+IsMadeLike (Some (Kept r)) (Some (Made w)) = w ≡ made_like r.live
+IsMadeLike held other = ⊥

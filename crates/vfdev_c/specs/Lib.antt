@@ -1,3 +1,4 @@
 pub mod Handle
 pub mod Memory
 pub mod Ownership
+pub mod Recorded

@@ -4,6 +4,7 @@ ghost use Rattle.wire_frame.specs.Frame.{is_frame};
 ghost use Rattle.device.specs.declared.event.Event.{Event};
 ghost use Rattle.device.specs.Request.{event_of};
 ghost use Rattle.vfdev_c.specs.Handle.{after, reply_to, raised_by, left_of, frame_in, length_in, bytes_in, Isolated};
+ghost use Rattle.vfdev_c.specs.Recorded.{kept_as};
 
 use crate::loose::Loose;
 use crate::owner::Owner;
@@ -14,7 +15,8 @@ use irq_causes::Messages;
 use std::alloc::Global;
 use std::mem::replace;
 
-/// What C holds of a device: it leads to nothing, to memories that were lent for a device, or to a device.
+/// What C holds of a device: it leads to nothing, to memories that were lent for a device, to a device, or to a device whose
+/// calls are kept.
 #[repr(C)]
 #[derive(Drop)]
 pub struct Vfdev {
@@ -65,6 +67,7 @@ impl Vfdev {
     // Gives the device the event that a request stands for. It is inlined, so that each call has its own event's path alone.
     #[inline(always)]
     pub(crate) fn give(&mut self, alloc: Global, request: Request<'_>) -> (VfdevReply, Messages)
+        requires { kept_as (event_of request) ≡ event_of request }
         ensures held { self.new.owner.held ≡ after self.old.owner.held (Ok (event_of request.entry)) }
         ensures reply { result.0 ≡ reply_to self.old.owner.held (Ok (event_of request.entry)) }
         ensures messages { result.1 ≡ raised_by self.old.owner.held (Ok (event_of request.entry)) }
@@ -75,6 +78,11 @@ impl Vfdev {
         };
         let given = match &mut *stage {
             Stage::Made(running) => running.take(request),
+            Stage::Kept(recorder) => {
+                // apart from the other arms, whose answers so stay in registers
+                let (reply, raised) = recorder.take(request);
+                (reply, raised)
+            }
             Stage::Lending(_) => (VfdevReply::no_device(), Messages::none()),
         };
         self.put(stage);
@@ -95,6 +103,10 @@ impl Vfdev {
         };
         let given = match &mut *stage {
             Stage::Made(running) => running.wire(bytes),
+            Stage::Kept(recorder) => {
+                let (reply, raised) = recorder.wire(bytes);
+                (reply, raised)
+            }
             Stage::Lending(_) => (VfdevReply::no_device(), Messages::none()),
         };
         self.put(stage);
@@ -115,11 +127,12 @@ impl Vfdev {
         ensures bytes { out.new ≡ bytes_in self.old.owner.held (Event.MemRead function at (length out.old)) out.old }
         ensures isolated { Isolated self.old.owner.held (Ok (Event.MemRead function at (length out.old))) self.new.owner.held }
     {
-        let Some(stage) = self.take(alloc) else {
+        let Some(mut stage) = self.take(alloc) else {
             return VfdevReply::no_device();
         };
-        let reply = match &*stage {
+        let reply = match &mut *stage {
             Stage::Made(running) => running.mem_read(function, at, out),
+            Stage::Kept(recorder) => recorder.mem_read(function, at, out),
             Stage::Lending(_) => VfdevReply::no_device(),
         };
         self.put(stage);
@@ -150,6 +163,10 @@ impl Vfdev {
         };
         let given = match &mut *stage {
             Stage::Made(running) => running.serve(function, queue, out, left),
+            Stage::Kept(recorder) => {
+                let (reply, raised) = recorder.serve(function, queue, out, left);
+                (reply, raised)
+            }
             Stage::Lending(_) => (VfdevReply::no_device(), Messages::none()),
         };
         self.put(stage);

@@ -30,7 +30,7 @@ pub extern "C" fn vfdev_lend(alloc: Global, handle: &mut Vfdev, block: Block) ->
     };
     let answer = match &mut *stage {
         Stage::Lending(blocks) => lend_next(blocks, cells),
-        Stage::Made(_) => HELD,
+        Stage::Made(_) | Stage::Kept(_) => HELD,
     };
     handle.put(stage);
     answer
@@ -87,7 +87,7 @@ pub extern "C" fn vfdev_make_lent(alloc: Global, handle: &mut Vfdev, limit: u16)
     let Some(stage) = handle.take(alloc) else {
         return u32::from(Fault::BadMake.number());
     };
-    if let Stage::Made(_) = &*stage {
+    if matches!(&*stage, Stage::Made(_) | Stage::Kept(_)) {
         handle.put(stage);
         return HELD;
     }
@@ -97,7 +97,7 @@ pub extern "C" fn vfdev_make_lent(alloc: Global, handle: &mut Vfdev, limit: u16)
     }
     let blocks = match Box::into_inner(stage) {
         Stage::Lending(blocks) => blocks,
-        Stage::Made(_) => unreachable!(),
+        Stage::Made(_) | Stage::Kept(_) => unreachable!(),
     };
     match boxed_over(alloc, blocks.into_memories(), limit) {
         Ok(stage) => {

@@ -72,14 +72,18 @@ fn boxed(alloc: Global, functions: u32, size: u64, limit: u16) -> Result<Box<Sta
 }
 
 // Whether a device can be made of so many memories of the size.
-fn can_make(functions: u32, size: u64, limit: u16) -> bool
+pub(crate) fn can_make(functions: u32, size: u64, limit: u16) -> bool
     ensures { result ≡ can_make functions size limit }
 {
     functions >= 1 && functions <= 64 && is_memory_size(size) && FrameLimit::new(limit).is_some()
 }
 
 // As many memories of the size, which is one of a memory.
-fn memories(alloc: Global, functions: u32, size: u64) -> Result<Vec<HostMem<'static>>, Fault>
+pub(crate) fn memories(
+    alloc: Global,
+    functions: u32,
+    size: u64,
+) -> Result<Vec<HostMem<'static>>, Fault>
     requires { is_memory_size size ≡ true }
     ensures sizes { IfOk result (λ all. map (λ m. length (bytes_of m)) all.items ≡ replicate functions size) }
     ensures no_memory { IfErr result (λ e. e ≡ Fault.NoMemory) }

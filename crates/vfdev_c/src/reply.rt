@@ -2,7 +2,7 @@
 ghost use Rattle.std.specs.Prelude.{◌≡◌, ℕ, List};
 ghost use Rattle.device.specs.declared.span.Span.{Span};
 ghost use Rattle.device.specs.Outcome.{reply_by};
-ghost use Rattle.vfdev_c.specs.Handle.{shown, numbered, no_device, no_room, no_queue, refused_as};
+ghost use Rattle.vfdev_c.specs.Handle.{shown, numbered, no_device, no_room, no_queue, history_full, refused_as};
 
 use device::Outcome;
 use wire_frame::Fault;
@@ -12,7 +12,7 @@ use wire_frame::Fault;
 #[derive(Clone, Copy, Debug, PartialEq, Eq)]
 pub struct VfdevReply {
     /// 0 done, 1 a register's value, 2 bytes, 3 idle, 4 more, 5 sent, 6 dropped, 7 faulted, 8 refused; 9 no device, 10 no
-    /// room, 11 no such queue.
+    /// room, 11 no such queue, 12 no more calls can be kept.
     pub kind: u32,
     /// The value of the register, or the number of the fault, and else 0.
     pub value: u32,
@@ -65,6 +65,14 @@ impl VfdevReply {
         ensures { result ≡ no_queue }
     {
         VfdevReply { kind: 11, value: 0 }
+    }
+
+    /// No more calls can be kept.
+    #[inline]
+    pub fn history_full() -> VfdevReply
+        ensures { result ≡ history_full }
+    {
+        VfdevReply { kind: 12, value: 0 }
     }
 
     /// A refusal.

@@ -1,18 +1,22 @@
 //! What a handle leads to.
-ghost use Rattle.std.specs.Prelude.{◌≡◌, ◌≤◌, true, length, option_copied};
+ghost use Rattle.std.specs.Prelude.{◌≡◌, ◌≤◌, ◌↔◌, IsTrue, true, length, option_copied};
 ghost use Rattle.irq_causes.specs.Messages.{no_messages};
 ghost use Rattle.wire_frame.specs.Frame.{is_frame};
 ghost use Rattle.device.specs.declared.event.Event.{Event};
-ghost use Rattle.device.specs.World.{step};
+ghost use Rattle.device.specs.World.{step, answers, world_after};
 ghost use Rattle.device.specs.Request.{event_of};
 ghost use Rattle.device.specs.Outcome.{left_by, done_or_refused, value_or_refused, messages_or_refused};
 ghost use Rattle.vfdev_c.specs.Handle.{shown, bytes_shown, frame_in, length_in, IsolatedStep};
+ghost use Rattle.vfdev_c.specs.Recorded.{events, given};
 
 use crate::lending::LentBlocks;
 use crate::memory::HostMem;
+use crate::recorder::Recorder;
+use crate::replay::gives_all;
 use crate::reply::VfdevReply;
 use device::laws::isolation;
 use device::{Device, Queue, Request};
+use history::History;
 use irq_causes::Messages;
 use std::marker::Model;
 use wire_frame::{Fault, FrameBuf, FrameLimit};
@@ -27,6 +31,8 @@ pub enum Stage {
     Lending(LentBlocks),
     /// A device.
     Made(Running),
+    /// A device whose calls are kept.
+    Kept(Recorder),
 }
 
 /// A device, with room for a frame that comes or goes.
@@ -55,15 +61,12 @@ impl Running {
         }
     }
 
-    // To each function an event is as if it were alone.
-    #[inline]
-    #[tactic(auto, unfolding(crate::specs::Handle::IsolatedStep))]
-    fn isolates(&self)
-        ensures { (e : Event) → IsolatedStep self.now e (step self.now e).world }
+    /// Takes it through the calls of a history, and tells whether it gave their answers.
+    pub fn replays(&mut self, history: &History) -> bool
+        ensures world { self.new ≡ world_after self.old (events history.now.entries) }
+        ensures same { IsTrue result ↔ (answers self.old (events history.now.entries) ≡ given history.now.entries) }
     {
-        let count = self.device.functions();
-        prove!(count <= 64);
-        isolation();
+        gives_all(&mut self.device, history)
     }
 
     /// Gives it the event that a request stands for.
@@ -75,7 +78,7 @@ impl Running {
         ensures messages { result.1 ≡ (step self.old (event_of request.entry)).answer.raised }
         ensures isolated { IsolatedStep self.old (event_of request.entry) self.new }
     {
-        self.isolates();
+        isolates(&self.device);
         // By name: what a request is, is known where this is inlined, and a register is read with no more than the read.
         match request {
             Request::VfRead(function, offset) => valued(self.device.vf_read(function, offset)),
@@ -114,7 +117,7 @@ impl Running {
         ensures messages { result.1 ≡ (step self.old (Event.Wire bytes.now)).answer.raised }
         ensures isolated { IsolatedStep self.old (Event.Wire bytes.now) self.new }
     {
-        self.isolates();
+        isolates(&self.device);
         lay(&mut self.frame, bytes);
         issued(self.device.wire(&self.frame))
     }
@@ -128,7 +131,7 @@ impl Running {
         ensures bytes { out.new ≡ bytes_shown (step self.now (Event.MemRead function at (length out.old))).answer.reply out.old }
         ensures isolated { IsolatedStep self.now (Event.MemRead function at (length out.old)) self.now }
     {
-        self.isolates();
+        isolates(&self.device);
         match self.device.mem_read(function, at, out) {
             Ok(()) => VfdevReply::bytes(),
             Err(fault) => VfdevReply::refused(fault),
@@ -154,11 +157,22 @@ impl Running {
         ensures left { left.new ≡ length_in (left_by self.old (Event.Serve function queue)) }
         ensures isolated { IsolatedStep self.old (Event.Serve function queue) self.new }
     {
-        self.isolates();
+        isolates(&self.device);
         let taken = self.device.serve(function, queue, &mut self.frame);
         *left = put_frame(taken.left, out);
         (VfdevReply::of(taken.outcome), taken.messages)
     }
+}
+
+// To each function an event is as if it were alone.
+#[inline]
+#[tactic(auto, unfolding(crate::specs::Handle::IsolatedStep))]
+pub(crate) fn isolates(device: &Device<HostMem<'static>>)
+    ensures { (e : Event) → IsolatedStep device.now e (step device.now e).world }
+{
+    let count = device.functions();
+    prove!(count <= 64);
+    isolation();
 }
 
 // What was done, or refused.
@@ -187,7 +201,7 @@ fn valued(value: Result<u32, Fault>) -> (VfdevReply, Messages)
 
 // What was done with these messages, or refused.
 #[inline]
-fn issued(messages: Result<Messages, Fault>) -> (VfdevReply, Messages)
+pub(crate) fn issued(messages: Result<Messages, Fault>) -> (VfdevReply, Messages)
     ensures reply { result.0 ≡ shown (messages_or_refused messages).reply }
     ensures messages { result.1 ≡ (messages_or_refused messages).raised }
 {
@@ -199,7 +213,7 @@ fn issued(messages: Result<Messages, Fault>) -> (VfdevReply, Messages)
 
 // Makes a frame these bytes, which are one.
 #[inline]
-fn lay(frame: &mut FrameBuf, bytes: &[u8])
+pub(crate) fn lay(frame: &mut FrameBuf, bytes: &[u8])
     requires { is_frame 9018 bytes.now ≡ true }
     ensures { frame.new ≡ bytes.now }
 {
@@ -210,7 +224,7 @@ fn lay(frame: &mut FrameBuf, bytes: &[u8])
 
 // Lays a frame that left into the first bytes of `out`, and tells its length.
 #[inline]
-fn put_frame(frame: Option<&FrameBuf>, out: &mut [u8]) -> usize
+pub(crate) fn put_frame(frame: Option<&FrameBuf>, out: &mut [u8]) -> usize
     requires { 9018 ≤ length out.old }
     ensures bytes { out.new ≡ frame_in (option_copied frame.entry) out.old }
     ensures len { result ≡ length_in (option_copied frame.entry) }

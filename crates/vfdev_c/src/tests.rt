@@ -11,6 +11,8 @@ use crate::service::vfdev_serve;
 use crate::version::vfdev_version;
 use std::alloc::Global;
 
+mod recorded;
+
 // A reply of a kind, without a value.
 fn plain(kind: u32) -> VfdevReply {
     VfdevReply { kind, value: 0 }

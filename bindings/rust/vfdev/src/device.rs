@@ -1,11 +1,12 @@
 //! A device over the archive.
 
-use crate::kinds::{Fault, Messages, Queue, Served, MOST_FRAME};
+use crate::kinds::{Fault, Messages, Queue, Replayed, Served, MOST_FRAME};
 use crate::raw;
 
 /// A device. Calls take `&mut self`, so that one is made at a time; [`SharedDevice`](crate::SharedDevice) has a lock.
 ///
-/// Functions are numbers from 0 to 255, of which those that the device does not have are refused.
+/// Functions are numbers from 0 to 255, of which those that the device does not have are refused. A device of
+/// [`Device::recorded`] keeps its calls, and refuses each event as [`Fault::HistoryFull`] once no more can be kept.
 ///
 /// ```
 /// use vfdev::{Device, Fault};
@@ -48,6 +49,35 @@ impl Device<'static> {
         let mut device = Device::empty()?;
         // SAFETY: the handle is empty, and the reference leads to one live value.
         let answer = unsafe { raw::vfdev_make(&mut device.handle, functions, memory, limit) };
+        made(answer).map(|()| device)
+    }
+
+    /// The same, of which each event that it is asked is kept with its answer, from the first on, `calls` at most.
+    ///
+    /// # Errors
+    /// As [`Device::new`]; [`Fault::BadMake`] also where `calls` is not 1 to 65536.
+    ///
+    /// ```
+    /// use vfdev::{Device, Fault, Replayed};
+    /// let mut device = Device::recorded(1, 4096, 1518, 3)?;
+    /// device.open(0)?;
+    /// device.mem_write(0, 8, &[1, 2])?;
+    /// device.mem_read(0, 8, &mut [0; 2])?;
+    /// assert_eq!(device.kept(), 3);
+    /// assert_eq!(device.end(0), Err(Fault::HistoryFull));
+    /// assert_eq!(device.replay(&mut Device::new(1, 4096, 1518)?), Replayed::Same);
+    /// # Ok::<(), Fault>(())
+    /// ```
+    pub fn recorded(
+        functions: u32,
+        memory: u64,
+        limit: u16,
+        calls: u32,
+    ) -> Result<Device<'static>, Fault> {
+        let mut device = Device::empty()?;
+        let handle = &mut device.handle;
+        // SAFETY: the handle is empty, and the reference leads to one live value.
+        let answer = unsafe { raw::vfdev_make_recorded(handle, functions, memory, limit, calls) };
         made(answer).map(|()| device)
     }
 }
@@ -196,7 +226,7 @@ impl<'m> Device<'m> {
             5 => Served::Sent((left > 0).then_some(left)),
             6 => Served::Dropped,
             7 => Served::Faulted,
-            _ => return Err(Fault::of(reply.value)),
+            _ => return Err(refused(reply)),
         };
         Ok((served, messages))
     }
@@ -220,9 +250,12 @@ impl<'m> Device<'m> {
     }
 
     /// Resets the device: every function is closed and every setting initial.
-    pub fn pf_reset(&mut self) {
+    ///
+    /// # Errors
+    /// [`Fault::HistoryFull`] alone.
+    pub fn pf_reset(&mut self) -> Result<(), Fault> {
         // SAFETY: the reference leads to one live value, which only this device holds.
-        let _done = unsafe { raw::vfdev_pf_reset(&mut self.handle) };
+        done(unsafe { raw::vfdev_pf_reset(&mut self.handle) })
     }
 
     /// A frame comes from the wire; the messages that this issues.
@@ -238,6 +271,45 @@ impl<'m> Device<'m> {
         done(unsafe { raw::vfdev_wire(&mut self.handle, start, count, at, len) })?;
         Ok(messages)
     }
+
+    /// How many calls are kept; 0 of a device that keeps none.
+    pub fn kept(&mut self) -> usize {
+        // SAFETY: the reference leads to one live value, which only this device holds.
+        unsafe { raw::vfdev_kept(&mut self.handle) }
+    }
+
+    /// Gives another device the events of the kept calls in their order, and tells whether it answers each as was kept: the
+    /// reply with its bytes, and all messages. A device that was just made, with as many functions, memories of the same
+    /// sizes and the same limit, does, and is then as this one is.
+    ///
+    /// ```
+    /// use vfdev::{Device, Fault, Replayed};
+    /// let mut device = Device::recorded(1, 4096, 1518, 8)?;
+    /// device.open(0)?;
+    /// let mut other = Device::new(1, 4096, 1518)?;
+    /// other.open(0)?;
+    /// assert_eq!(device.replay(&mut other), Replayed::Different);
+    /// assert_eq!(other.replay(&mut device), Replayed::NotRecorded);
+    /// # Ok::<(), Fault>(())
+    /// ```
+    pub fn replay(&mut self, other: &mut Device<'_>) -> Replayed {
+        // SAFETY: the references lead to two live values, which only the two devices hold.
+        match unsafe { raw::vfdev_replay(&mut self.handle, &mut other.handle) } {
+            0 => Replayed::Same,
+            1 => Replayed::Different,
+            2 => Replayed::NotRecorded,
+            _ => Replayed::NoOther,
+        }
+    }
+}
+
+// Why a call was refused.
+#[cold]
+fn refused(reply: raw::Reply) -> Fault {
+    match reply.kind {
+        12 => Fault::HistoryFull,
+        _ => Fault::of(reply.value),
+    }
 }
 
 fn made(answer: u32) -> Result<(), Fault> {
@@ -251,7 +323,7 @@ fn made(answer: u32) -> Result<(), Fault> {
 fn done(reply: raw::Reply) -> Result<(), Fault> {
     match reply.kind {
         0 => Ok(()),
-        _ => Err(Fault::of(reply.value)),
+        _ => Err(refused(reply)),
     }
 }
 
@@ -259,7 +331,7 @@ fn done(reply: raw::Reply) -> Result<(), Fault> {
 fn value(reply: raw::Reply) -> Result<u32, Fault> {
     match reply.kind {
         1 => Ok(reply.value),
-        _ => Err(Fault::of(reply.value)),
+        _ => Err(refused(reply)),
     }
 }
 
@@ -267,6 +339,6 @@ fn value(reply: raw::Reply) -> Result<u32, Fault> {
 fn bytes(reply: raw::Reply) -> Result<(), Fault> {
     match reply.kind {
         2 => Ok(()),
-        _ => Err(Fault::of(reply.value)),
+        _ => Err(refused(reply)),
     }
 }

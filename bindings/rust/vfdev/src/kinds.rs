@@ -65,6 +65,8 @@ pub enum Fault {
     NoMemory,
     /// A size or a count is outside its limits.
     BadMake,
+    /// No more calls of this device can be kept.
+    HistoryFull,
     /// The archive has another version than this crate.
     Version,
     /// A number that this version does not know.
@@ -87,7 +89,8 @@ impl Fault {
         }
     }
 
-    /// The number that scripts and replies show; 0 for [`Fault::Version`].
+    /// The number that scripts and replies show; 0 for [`Fault::Version`], and for [`Fault::HistoryFull`] that of its kind of
+    /// reply.
     #[must_use]
     pub fn number(self) -> u32 {
         match self {
@@ -100,6 +103,7 @@ impl Fault {
             Fault::AlreadyOpen => 7,
             Fault::NoMemory => 9,
             Fault::BadMake => 10,
+            Fault::HistoryFull => 12,
             Fault::Version => 0,
             Fault::Other(number) => number,
         }
@@ -118,6 +122,7 @@ impl fmt::Display for Fault {
             Fault::AlreadyOpen => "the virtual function is open already",
             Fault::NoMemory => "no memory",
             Fault::BadMake => "a size or a count is outside its limits",
+            Fault::HistoryFull => "no more calls can be kept",
             Fault::Version => "the archive has another version than this crate",
             Fault::Other(number) => return write!(f, "fault {number}"),
         })
@@ -181,4 +186,17 @@ pub enum Served {
     Dropped,
     /// The descriptor cannot be used, and the queue is off now.
     Faulted,
+}
+
+/// What a replay tells of another device.
+#[derive(Clone, Copy, Debug, PartialEq, Eq)]
+pub enum Replayed {
+    /// It answered each kept call as it was kept.
+    Same,
+    /// It answered one otherwise.
+    Different,
+    /// No calls are kept of the first device; the other was not asked.
+    NotRecorded,
+    /// The other device's own calls are kept; it was not asked.
+    NoOther,
 }

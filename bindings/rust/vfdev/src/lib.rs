@@ -35,5 +35,5 @@ mod raw;
 mod shared;
 
 pub use device::Device;
-pub use kinds::{Fault, Messages, Pool, Queue, Served, MOST_BYTES, MOST_FRAME, POOLS};
+pub use kinds::{Fault, Messages, Pool, Queue, Replayed, Served, MOST_BYTES, MOST_FRAME, POOLS};
 pub use shared::{Frames, Interrupt, MmioBar, SharedDevice};

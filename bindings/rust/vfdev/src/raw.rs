@@ -34,6 +34,13 @@ pub struct Reply {
 extern "C" {
     pub fn vfdev_version() -> u32;
     pub fn vfdev_make(d: &mut Vfdev, functions: u32, memory: u64, limit: u16) -> u32;
+    pub fn vfdev_make_recorded(
+        d: &mut Vfdev,
+        functions: u32,
+        memory: u64,
+        limit: u16,
+        calls: u32,
+    ) -> u32;
     pub fn vfdev_lend(d: &mut Vfdev, block: Block) -> u32;
     pub fn vfdev_make_lent(d: &mut Vfdev, limit: u16) -> u32;
     pub fn vfdev_free(d: &mut Vfdev);
@@ -77,4 +84,6 @@ extern "C" {
         messages: *mut u8,
         messages_len: usize,
     ) -> Reply;
+    pub fn vfdev_kept(d: &mut Vfdev) -> usize;
+    pub fn vfdev_replay(d: &mut Vfdev, other: &mut Vfdev) -> u32;
 }

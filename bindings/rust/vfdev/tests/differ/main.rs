@@ -1,4 +1,5 @@
-//! 200 scripts by chance: what this crate answers, written as `vfdev run` writes it, is that program's output byte for byte.
+//! 200 scripts by chance: what this crate answers, written as `vfdev run` writes it, is that program's output byte for byte. A
+//! device whose calls are kept answers the same, and these calls replay.
 //!
 //! `VFDEV_PROGRAM` names the program. Where it is unset nothing is compared, and the test says so.
 
@@ -49,4 +50,13 @@ fn scripts_by_chance_answer_alike() {
     // the scripts reach what they are for
     assert!(left > 1000, "only {left} frames left");
     assert!(told > 1000, "only {told} events issued messages");
+}
+
+#[test]
+fn kept_scripts_answer_alike_and_replay() {
+    for seed in 0..200 {
+        let text = generate::script(seed);
+        let kept = script::run_recorded(&text);
+        assert!(kept == script::run(&text), "seed {seed} differs");
+    }
 }

@@ -2,7 +2,7 @@
 
 use std::collections::VecDeque;
 use std::fmt::Write;
-use vfdev::{Device, Fault, Messages, Queue, Served, MOST_FRAME};
+use vfdev::{Device, Fault, Messages, Queue, Replayed, Served, MOST_FRAME};
 
 /// How many frames that left are kept.
 const KEPT: usize = 1024;
@@ -15,8 +15,30 @@ struct Run {
 
 /// What is written of a script without bad lines.
 pub fn run(text: &str) -> String {
-    let mut lines = text.lines();
-    let first: Vec<u64> = lines
+    let (functions, memory, limit) = asked(text);
+    let device = Device::new(functions, memory, limit).expect("the device is made");
+    through(device, text).0
+}
+
+/// The same by a device whose calls are kept, which replay on one as it is made; once they are behind
+/// that one too, they replay no more.
+pub fn run_recorded(text: &str) -> String {
+    let (functions, memory, limit) = asked(text);
+    let calls = text.lines().count() as u32;
+    let device = Device::recorded(functions, memory, limit, calls).expect("the device is made");
+    let (written, mut device) = through(device, text);
+    let mut other = Device::new(functions, memory, limit).expect("the device is made");
+    assert_eq!(device.replay(&mut other), Replayed::Same);
+    // the other one counts frames now, and has functions that are open
+    assert_eq!(device.replay(&mut other), Replayed::Different);
+    assert!(device.kept() < calls as usize);
+    written
+}
+
+// The functions, the size of a memory and the limit of the first line.
+fn asked(text: &str) -> (u32, u64, u16) {
+    let first: Vec<u64> = text
+        .lines()
         .next()
         .expect("a first line")
         .split(' ')
@@ -24,13 +46,18 @@ pub fn run(text: &str) -> String {
         .map(number)
         .collect();
     let limit = first.get(2).map_or(1518, |limit| *limit as u16);
+    (first[0] as u32, first[1], limit)
+}
+
+// What is written of a script by a device, and the device.
+fn through(device: Device<'static>, text: &str) -> (String, Device<'static>) {
     let mut run = Run {
-        device: Device::new(first[0] as u32, first[1], limit).expect("the device is made"),
+        device,
         out: Box::new([0; MOST_FRAME]),
         left: VecDeque::new(),
     };
     let mut written = String::new();
-    for (index, line) in lines.enumerate() {
+    for (index, line) in text.lines().skip(1).enumerate() {
         let (reply, messages) = run
             .event(line)
             .unwrap_or_else(|fault| (format!("refused {}", fault.number()), Messages::NONE));
@@ -43,7 +70,7 @@ pub fn run(text: &str) -> String {
     for frame in &run.left {
         writeln!(written, "out {}", digits(frame)).expect("a string grows");
     }
-    written
+    (written, run.device)
 }
 
 type Told = Result<(String, Messages), Fault>;
@@ -73,10 +100,7 @@ impl Run {
             "pw" => d
                 .pf_write(at(1) as u32, at(2) as u32)
                 .map(|()| ok(Messages::NONE)),
-            "preset" => {
-                d.pf_reset();
-                Ok(ok(Messages::NONE))
-            }
+            "preset" => d.pf_reset().map(|()| ok(Messages::NONE)),
             "wire" => d.wire(&bytes(words[1])).map(ok),
             other => panic!("no event {other}"),
         }

@@ -13,8 +13,8 @@ returns-in-Keep-clause-ok g c = rw c.in-Keep.is c.keep.ensures.ok
 pub returns-in-Keep-clause-err : goal.returns-in-Keep-clause-err
 returns-in-Keep-clause-err g c = rw c.in-Keep.is c.keep.ensures.err
 
-pub returns-in_ok-new-in-Lone-2-clause-ok : goal.returns-in_ok-new-in-Lone-2-clause-ok
-returns-in_ok-new-in-Lone-2-clause-ok g c = rw c.in-Lone.is c.lone_function.ensures.ok
+pub returns-in_ok-memory-in-Lone-clause-ok : goal.returns-in_ok-memory-in-Lone-clause-ok
+returns-in_ok-memory-in-Lone-clause-ok g c = rw c.in-Lone.is c.lone_function.ensures.ok
 
-pub returns-in_ok-new-in-Lone-2-clause-err : goal.returns-in_ok-new-in-Lone-2-clause-err
-returns-in_ok-new-in-Lone-2-clause-err g c = rw c.in-Lone.is c.lone_function.ensures.err
+pub returns-in_ok-memory-in-Lone-clause-err : goal.returns-in_ok-memory-in-Lone-clause-err
+returns-in_ok-memory-in-Lone-clause-err g c = rw c.in-Lone.is c.lone_function.ensures.err

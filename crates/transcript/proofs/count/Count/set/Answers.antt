@@ -1,8 +1,8 @@
--- The digits that are written end the room.
-use Rattle.std.proofs.Common.{rules, ◌≡◌, ℕ, ◌<◌, List, [], ◌++◌, append-nil, drop, length, ap, ◌∙◌, arith}
+-- The digits that are written end before index 20.
+use Rattle.std.proofs.Common.{rules, ◌<◌, length, arith}
 use Rattle.std.specs.Prelude.{decimal}
 use Rattle.std.proofs.lemmas.Fmt.{decimal_nonempty, length-decimal-le}
-use Rattle.std.proofs.lemmas.List.{drop_all}
+use Rattle.transcript.proofs.Room.{digits_end}
 use Rattle.transcript.proofs.count.Count.set.Goals as goal
 
 pub write_digits-self-inside-requires : goal.write_digits-self-inside-requires
@@ -12,7 +12,4 @@ pub invariant_of-self : goal.invariant_of-self
 invariant_of-self c =
     let written = c.write_digits-self-inside.ensures in
     let some : 0 < length (decimal c.args.number) = decimal_nonempty c.args.number (search rules) in
-    let none : drop 20 c.self.inside.digits ≡ [] = drop_all 20 c.self.inside.digits (search rules) in (
-      omega (arith, written.start, some),
-      written.written ∙ ap (λ (rest : List ℕ). decimal c.args.number ++ rest) none ∙ append-nil (decimal c.args.number),
-    )
+    (omega (arith, written.start, some), digits_end _ _ _ _ written.start written.written)

@@ -3,7 +3,7 @@ use Rattle.std.proofs.Common.{◌≡◌, ℕ, ◌+◌, ◌≤◌, ◌++◌, List
 use Rattle.std.proofs.lemmas.List.{take_at, length-take-le, drop-drop}
 use Rattle.std.proofs.Math.Seq.{drop-append-add}
 use Rattle.guest_memory.specs.Memory.{overwrite}
-use Rattle.rx_desc.proofs.parts.write_parts.Goals as goal
+use Rattle.rx_desc.proofs.parts.write_both.Goals as goal
 
 two_writes : (a : ℕ) (f b m : List ℕ) → a + length f ≤ length m → overwrite (a + length f) b (overwrite a f m) ≡ overwrite a (f ++ b) m
 two_writes a f b m fits =
@@ -22,9 +22,9 @@ two_writes a f b m fits =
     ∙ append_assoc (take a m) f (b ++ drop (a + length (f ++ b)) m)
     ∙ ap (λ (l : List ℕ). take a m ++ l) (sym (append_assoc f b (drop (a + length (f ++ b)) m)))
 
-pub returns-else-is_empty-clause-written : goal.returns-else-is_empty-clause-written
-returns-else-is_empty-clause-written g c =
-    let parts = length-append c.args.source.now.front.now c.args.source.now.back.now in
-    c.write_bytes-else-is_empty-2.ensures.written
-    ∙ ap (overwrite (c.args.at + length c.args.source.now.front.now) c.args.source.now.back.now) c.write_bytes-else-is_empty.ensures.written
-    ∙ two_writes c.args.at c.args.source.now.front.now c.args.source.now.back.now _ (omega (arith, parts, c.requires.inside))
+pub returns-clause-written : goal.returns-clause-written
+returns-clause-written g c =
+    let parts = length-append c.args.source.front.now c.args.source.back.now in
+    c.write_bytes-2.ensures.written
+    ∙ ap (overwrite (c.args.at + length c.args.source.front.now) c.args.source.back.now) c.write_bytes.ensures.written
+    ∙ two_writes c.args.at c.args.source.front.now c.args.source.back.now _ (omega (arith, parts, c.requires.inside))

@@ -1,0 +1,11 @@
+use Rattle.std.proofs.Common.{[], ◌∷◌}
+use Rattle.vfdev_c.specs.Handle.{IsolatedStep}
+use Rattle.vfdev_c.proofs.stage.isolates.Goals as goal
+
+-- the law, at the list of the one event
+pub returns : goal.returns
+unfolding IsolatedStep
+returns c = λ e p within. (
+  c.isolation.ensures.seen p c.args.device.now (e ∷ []) within c.functions-count.ensures.few,
+  c.isolation.ensures.state p c.args.device.now (e ∷ []) within c.functions-count.ensures.few,
+)

@@ -1,0 +1,229 @@
+//! A device whose calls are kept.
+ghost use Rattle.std.specs.Prelude.{◌≡◌, ◌<◌, ◌≤◌, ◌↔◌, ◌++◌, ◌∷◌, IsTrue, true, false, nat_le, [], length, option_copied, IfOk, IfErr, None, if◌then◌else◌};
+ghost use Rattle.irq_causes.specs.Messages.{no_messages};
+ghost use Rattle.wire_frame.specs.Frame.{is_frame};
+ghost use Rattle.device.specs.declared.event.Event.{Event};
+ghost use Rattle.device.specs.World.{step, answers, world_after, sizes_of};
+ghost use Rattle.device.specs.Request.{event_of};
+ghost use Rattle.device.specs.Outcome.{left_by};
+ghost use Rattle.history.specs.Entries.{entry, is_cap};
+ghost use Rattle.vfdev_c.specs.Handle.{shown, history_full, bytes_shown, frame_in, length_in, IsolatedStep};
+ghost use Rattle.vfdev_c.specs.Recorded.{recorded, is_full, taking, kept_as, made_like, events, given};
+
+use crate::memory::HostMem;
+use crate::reply::VfdevReply;
+use crate::stage::{Running, isolates, lay, put_frame};
+use device::{Device, Outcome, Queue, Request, Taken};
+use history::History;
+use irq_causes::Messages;
+use std::alloc::Global;
+use std::marker::Model;
+use wire_frame::{Fault, FrameBuf};
+
+// Who makes the calls: all are the same caller's.
+const CALLER: u8 = 0;
+// How many bytes an entry names at most.
+const MOST_NAMED: usize = 65_535;
+
+/// A device with the calls that were made on it since it was made, and room for a frame that comes or goes.
+#[derive(Drop)]
+pub struct Recorder {
+    live: Device<HostMem<'static>>,
+    history: History,
+    frame: FrameBuf,
+}
+
+impl Model for Recorder {
+    ghost use Rattle.vfdev_c.specs.Recorded.{Recorded, recorded, made_like, Leads};
+
+    ghost Value = { Recorded };
+
+    ghost view = { λ r. recorded r.live r.history.entries r.history.cap };
+
+    ghost invariant = { λ r. Leads (made_like r.live) r.history.entries r.live };
+}
+
+impl Recorder {
+    /// A device as it is made, whose calls will be kept, `cap` at most.
+    ///
+    /// [`Fault::BadMake`] comes exactly where `cap` is not 1 to 65,536; [`Fault::NoMemory`] only where the host refused the
+    /// room.
+    pub fn new(alloc: Global, live: Device<HostMem<'static>>, cap: usize) -> Result<Recorder, Fault>
+        requires { live ≡ made_like live }
+        ensures begun { IfOk result (λ r. r ≡ recorded live.entry [] cap) }
+        ensures bad_make { is_cap cap ≡ false → result ≡ Err Fault.BadMake }
+        ensures no_memory { IfErr result (λ e. is_cap cap ≡ true → e ≡ Fault.NoMemory) }
+    {
+        let history = match History::new(alloc, cap) {
+            Ok(history) => history,
+            Err(fault) => return Err(fault),
+        };
+        Ok(Recorder {
+            live,
+            history,
+            frame: FrameBuf::blank(),
+        })
+    }
+
+    /// How many calls are kept.
+    pub fn kept(&self) -> usize
+        ensures { result ≡ length self.now.calls }
+    {
+        self.history.len()
+    }
+
+    /// Takes another device through the kept calls, and tells whether it answered as was kept.
+    pub fn replays(&self, other: &mut Running) -> bool
+        ensures world { other.new ≡ world_after other.old (events self.now.calls) }
+        ensures same { IsTrue result
+            ↔ (answers other.old (events self.now.calls) ≡ given self.now.calls) }
+        ensures made_like { other.old ≡ made_like self.now.live → result ≡ true }
+        ensures twin { other.old ≡ made_like self.now.live → other.new ≡ self.now.live }
+    {
+        other.replays(&self.history)
+    }
+
+    /// Gives the device the event that a request stands for, and keeps the call; or no more calls can be kept, and nothing
+    /// changes.
+    pub fn take(&mut self, request: Request<'_>) -> (VfdevReply, Messages)
+        requires { kept_as (event_of request) ≡ event_of request }
+        ensures kept { self.new ≡ taking self.old (event_of request.entry) }
+        ensures reply { result.0 ≡ (if is_full self.old then history_full
+            else shown (step self.old.live (event_of request.entry)).answer.reply) }
+        ensures messages { result.1 ≡ (if is_full self.old then no_messages
+            else (step self.old.live (event_of request.entry)).answer.raised) }
+        ensures isolated { is_full self.old ≡ false →
+            IsolatedStep self.old.live (event_of request.entry) self.new.live }
+    {
+        if self.history.is_full() {
+            return (VfdevReply::history_full(), Messages::none());
+        }
+        isolates(&self.live);
+        let taken = self
+            .history
+            .record(CALLER, request, &mut self.live, &mut self.frame);
+        (VfdevReply::of(taken.outcome), taken.messages)
+    }
+
+    /// The same, of a frame from the wire.
+    pub fn wire(&mut self, bytes: &[u8]) -> (VfdevReply, Messages)
+        requires { is_frame 9018 bytes.now ≡ true }
+        ensures kept { self.new ≡ taking self.old (Event.Wire bytes.now) }
+        ensures reply { result.0 ≡ (if is_full self.old then history_full
+            else shown (step self.old.live (Event.Wire bytes.now)).answer.reply) }
+        ensures messages { result.1 ≡ (if is_full self.old then no_messages
+            else (step self.old.live (Event.Wire bytes.now)).answer.raised) }
+        ensures isolated { is_full self.old ≡ false →
+            IsolatedStep self.old.live (Event.Wire bytes.now) self.new.live }
+    {
+        if self.history.is_full() {
+            return (VfdevReply::history_full(), Messages::none());
+        }
+        isolates(&self.live);
+        lay(&mut self.frame, bytes);
+        came(&mut self.history, &mut self.live, &self.frame)
+    }
+
+    /// The same, of a read of a guest's memory, whose bytes fill `out`; where it is refused, `out` stays.
+    pub fn mem_read(&mut self, function: u8, at: u64, out: &mut [u8]) -> VfdevReply
+        ensures kept { self.new ≡ taking self.old (Event.MemRead function at (length out.old)) }
+        ensures reply { result ≡ (if is_full self.old then history_full
+            else shown
+            (step self.old.live (Event.MemRead function at (length out.old))).answer.reply) }
+        ensures bytes { out.new ≡ (if is_full self.old then out.old
+            else bytes_shown
+            (step self.old.live (Event.MemRead function at (length out.old))).answer.reply out.old) }
+        ensures isolated { is_full self.old ≡ false →
+            IsolatedStep self.old.live (Event.MemRead function at (length out.old)) self.new.live }
+    {
+        if self.history.is_full() {
+            return VfdevReply::history_full();
+        }
+        isolates(&self.live);
+        let request = Request::MemRead(function, at, named(out.len()));
+        let reply = match self.live.mem_read(function, at, out) {
+            Ok(()) => VfdevReply::bytes(),
+            Err(fault) => VfdevReply::refused(fault),
+        };
+        self.history
+            .record(CALLER, request, &mut self.live, &mut self.frame);
+        reply
+    }
+
+    /// The same, of a service of a transmit queue. A frame that leaves for the wire is laid into the first bytes of `out`, and
+    /// `left` is its length, and else 0.
+    pub fn serve(
+        &mut self,
+        function: u8,
+        queue: Queue,
+        out: &mut [u8],
+        left: &mut usize,
+    ) -> (VfdevReply, Messages)
+        requires { 9018 ≤ length out.old }
+        ensures kept { self.new ≡ taking self.old (Event.Serve function queue) }
+        ensures reply { result.0 ≡ (if is_full self.old then history_full
+            else shown (step self.old.live (Event.Serve function queue)).answer.reply) }
+        ensures messages { result.1 ≡ (if is_full self.old then no_messages
+            else (step self.old.live (Event.Serve function queue)).answer.raised) }
+        ensures frame { out.new ≡ frame_in (if is_full self.old then None
+            else left_by self.old.live (Event.Serve function queue)) out.old }
+        ensures left { left.new ≡ length_in (if is_full self.old then None
+            else left_by self.old.live (Event.Serve function queue)) }
+        ensures isolated { is_full self.old ≡ false →
+            IsolatedStep self.old.live (Event.Serve function queue) self.new.live }
+    {
+        if self.history.is_full() {
+            *left = 0;
+            return (VfdevReply::history_full(), Messages::none());
+        }
+        isolates(&self.live);
+        let request = Request::Serve(function, queue);
+        let taken = self
+            .history
+            .record(CALLER, request, &mut self.live, &mut self.frame);
+        *left = put_frame(taken.left, out);
+        (VfdevReply::of(taken.outcome), taken.messages)
+    }
+}
+
+// How many of so many bytes an entry names.
+#[inline]
+fn named(count: usize) -> u16
+    ensures { result ≡ (if nat_le count 65535 then count else 65535) }
+{
+    if count <= MOST_NAMED {
+        count as u16
+    } else {
+        MOST_NAMED as u16
+    }
+}
+
+// Gives a device a frame from the wire, and keeps the call, for which there is room.
+#[inline]
+fn came(
+    history: &mut History,
+    live: &mut Device<HostMem<'static>>,
+    frame: &FrameBuf,
+) -> (VfdevReply, Messages)
+    requires { length history.old.entries < history.old.cap }
+    ensures world { live.new ≡ (step live.old (Event.Wire frame.now)).world }
+    ensures reply { result.0 ≡ shown (step live.old (Event.Wire frame.now)).answer.reply }
+    ensures messages { result.1 ≡ (step live.old (Event.Wire frame.now)).answer.raised }
+    ensures sizes { sizes_of live.new ≡ sizes_of live.old }
+    ensures entries { history.new.entries ≡ history.old.entries
+        ++ entry 0 (Event.Wire frame.now) (step live.old (Event.Wire frame.now)).answer ∷ [] }
+    ensures cap { history.new.cap ≡ history.old.cap }
+{
+    let (outcome, messages) = match live.wire(frame) {
+        Ok(messages) => (Outcome::Done, messages),
+        Err(fault) => (Outcome::Refused(fault), Messages::none()),
+    };
+    let taken = Taken {
+        outcome,
+        messages,
+        sent: None,
+        left: None,
+    };
+    history.push(CALLER, Request::Wire(frame), live, &taken);
+    (VfdevReply::of(outcome), messages)
+}

@@ -23,7 +23,8 @@ function line(x1, y1, x2, y2, stroke) {
 }'
 
 # The crates in rows: each stands right below the lowest of those that stand on it. A line goes to what a crate stands on
-# directly, where no other of these stands on it in turn. The benchmarks, behind the second comment of crates.txt, are left out.
+# directly, where no other of these stands on it in turn. The tests and the benchmarks, behind the second comment of crates.txt, are
+# left out.
 crates() {
     awk "$common"'
 /^#/ { comments++; next }

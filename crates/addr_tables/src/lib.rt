@@ -10,8 +10,6 @@
 
 pub mod addresses;
 pub mod registers;
-#[cfg(test)]
-mod tests;
 mod words;
 
 pub use addresses::AddrTables;

@@ -6,7 +6,5 @@
 #![tactic(auto)]
 
 pub mod sender;
-#[cfg(test)]
-mod tests;
 
 pub use sender::{honest, permits};

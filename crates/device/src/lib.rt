@@ -24,7 +24,7 @@ mod span;
 mod switching;
 mod take;
 mod taken;
-mod wire_out;
+pub mod wire_out;
 
 pub use bytes::{MemBytes, MemSlice};
 pub use device::Device;
@@ -36,6 +36,3 @@ pub use service::{SenderRules, serve_queue};
 pub use span::Span;
 pub use taken::Taken;
 pub use vf_unit::Queue;
-
-#[cfg(test)]
-mod tests;

@@ -22,8 +22,6 @@ mod makes;
 mod recorded;
 mod share;
 mod shares;
-#[cfg(test)]
-mod tests;
 
 pub use locked::LockedDevice;
 pub use recorded::{Full, Recorded, Tally};

@@ -21,6 +21,3 @@ pub use irq_port::{IrqPort, Refused};
 pub use locked_port::LockedPort;
 pub use note::EndNote;
 pub use port::{GuestPort, Tokens};
-
-#[cfg(test)]
-mod tests;

@@ -9,33 +9,52 @@ use irq_causes::Vectors;
 /// What was asked, but for bytes.
 #[derive(Clone, Copy)]
 pub enum Asked {
+    /// The open of a pool's function.
     Open(u8),
+    /// The end of a pool's function.
     End(u8),
+    /// A read of a pool's register, at an offset.
     VfRead(u8, u32),
+    /// A write of a pool's register: its offset, and the value.
     VfWrite(u8, u32, u32),
-    // the count stands before the address, which keeps the head small
+    /// A read of a pool's memory: how many bytes, and from where. The count stands first, which keeps the head small.
     MemRead(u8, u16, u64),
+    /// A write of a pool's memory, and where.
     MemWrite(u8, u64),
+    /// A service of a pool's transmit queue.
     Serve(u8, Queue),
+    /// A function-level reset of a pool's function.
     Flr(u8),
+    /// A read of a register of the physical function, at an offset.
     PfRead(u32),
+    /// A write of a register of the physical function: its offset, and the value.
     PfWrite(u32, u32),
+    /// A reset of the physical function.
     PfReset,
+    /// A frame from the wire.
     Wire,
 }
 
 /// What was replied, but for bytes.
 #[derive(Clone, Copy)]
 pub enum Told {
+    /// The call was done, and has no value.
     Done,
+    /// A register's value.
     Value(u32),
+    /// Bytes of a guest's memory.
     Bytes,
+    /// The queue owned no descriptor.
     Idle,
+    /// A descriptor was taken, and more of the frame is to come.
     More,
+    /// A frame went out.
     Sent,
+    /// A frame was dropped.
     Dropped,
+    /// The queue faulted.
     Faulted,
-    // the number of the fault
+    /// The call was refused, by the fault of this number.
     Refused(u8),
 }
 

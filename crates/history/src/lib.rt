@@ -12,7 +12,7 @@
 #![tactic(auto)]
 
 mod bytes;
-mod head;
+pub mod head;
 mod history;
 mod replay;
 mod reply;
@@ -20,6 +20,3 @@ mod words;
 
 pub use history::{History, MOST_CALLS};
 pub use replay::Room;
-
-#[cfg(test)]
-mod tests;

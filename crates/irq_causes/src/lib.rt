@@ -9,8 +9,6 @@
 
 pub mod messages;
 pub mod sets;
-#[cfg(test)]
-mod tests;
 
 pub use messages::{Messages, Vectors};
 pub use sets::Causes;

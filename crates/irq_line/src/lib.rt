@@ -12,8 +12,6 @@ pub mod laws;
 mod line;
 mod making;
 pub mod seats;
-#[cfg(test)]
-mod tests;
 mod views;
 
 pub use making::make;

@@ -48,6 +48,3 @@ impl<'a> GuestMem for LentMem<'a> {
         self.cells.fill(0);
     }
 }
-
-#[cfg(test)]
-mod tests;

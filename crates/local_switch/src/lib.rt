@@ -11,6 +11,3 @@ pub mod ways;
 
 pub use routing::{is_for_pool, route};
 pub use ways::{Route, Source};
-
-#[cfg(test)]
-mod tests;

@@ -17,6 +17,3 @@ pub use function::Lone;
 pub use item::{Given, Room, Seen};
 pub use together::follow;
 pub use watch::Watch;
-
-#[cfg(test)]
-mod tests;

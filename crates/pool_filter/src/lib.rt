@@ -15,8 +15,6 @@ mod masks;
 pub mod own;
 pub mod registers;
 pub mod tables;
-#[cfg(test)]
-mod tests;
 
 pub use filter::accept_mask;
 pub use flags::PoolFlags;

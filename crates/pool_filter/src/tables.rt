@@ -189,33 +189,33 @@ impl Tables {
         self.vlans.pools_of(id)
     }
 
-    // The pools that take untagged frames where VLANs are filtered.
+    /// The pools that take untagged frames where VLANs are filtered.
     #[inline]
-    pub(crate) fn untagged_pools(&self) -> u64
+    pub fn untagged_pools(&self) -> u64
         ensures { (p : ℕ) → p < 64 → has_bit result p ≡ takes_untagged self.now p }
     {
         self.pool_flags.untagged()
     }
 
-    // The pools that take the multicast frames whose destination the multicast table has.
+    /// The pools that take the multicast frames whose destination the multicast table has.
     #[inline]
-    pub(crate) fn hashed_pools(&self) -> u64
+    pub fn hashed_pools(&self) -> u64
         ensures { (p : ℕ) → p < 64 → has_bit result p ≡ takes_hashed self.now p }
     {
         self.pool_flags.hashed()
     }
 
-    // The pools that take broadcast frames.
+    /// The pools that take broadcast frames.
     #[inline]
-    pub(crate) fn broadcast_pools(&self) -> u64
+    pub fn broadcast_pools(&self) -> u64
         ensures { (p : ℕ) → p < 64 → has_bit result p ≡ takes_broadcast self.now p }
     {
         self.pool_flags.broadcast()
     }
 
-    // The pools that take all multicast frames.
+    /// The pools that take all multicast frames.
     #[inline]
-    pub(crate) fn multicast_pools(&self) -> u64
+    pub fn multicast_pools(&self) -> u64
         ensures { (p : ℕ) → p < 64 → has_bit result p ≡ takes_multicast self.now p }
     {
         self.pool_flags.multicast()

@@ -9,7 +9,5 @@
 #![tactic(auto)]
 
 pub mod index;
-#[cfg(test)]
-mod tests;
 
 pub use index::{Known, PoolIndex};

@@ -11,6 +11,3 @@ pub mod laws;
 pub mod ring;
 
 pub use ring::{Ring, RingRegister};
-
-#[cfg(test)]
-mod tests;

@@ -11,6 +11,3 @@ mod parts;
 pub mod placing;
 
 pub use placing::{Placed, RxConfig, place, place_within};
-
-#[cfg(test)]
-mod tests;

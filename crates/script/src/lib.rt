@@ -17,8 +17,6 @@ pub mod room;
 pub mod script;
 pub mod shape;
 mod store;
-#[cfg(test)]
-mod tests;
 mod text;
 mod words;
 

@@ -14,8 +14,6 @@ pub mod laws;
 mod lines;
 mod output;
 mod send;
-#[cfg(test)]
-mod tests;
 mod text;
 
 pub use fault::Fault;

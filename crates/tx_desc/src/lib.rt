@@ -15,8 +15,6 @@ pub mod fetching;
 pub mod outcome;
 pub mod pending;
 mod stretch;
-#[cfg(test)]
-mod tests;
 
 pub use fetching::{fetch, fetch_into, fetch_within};
 pub use outcome::{Fetched, Progress, Served};

@@ -16,6 +16,3 @@ pub mod unit;
 pub use open::Service;
 pub use registers::{Queue, Register};
 pub use unit::VfUnit;
-
-#[cfg(test)]
-mod tests;

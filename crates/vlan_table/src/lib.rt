@@ -8,8 +8,6 @@
 #![tactic(auto)]
 
 pub mod registers;
-#[cfg(test)]
-mod tests;
 pub mod vlans;
 mod words;
 

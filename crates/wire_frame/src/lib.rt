@@ -21,6 +21,3 @@ pub use frame::{ByteSource, FrameBuf, FrameBytes, FrameLimit};
 pub use pool::PoolId;
 pub use row::{Row, read_one, read_word, write_one, write_word};
 pub use vlan::{PortVlan, Vid};
-
-#[cfg(test)]
-mod tests;

@@ -26,6 +26,3 @@ pub use locked::LockedDoor;
 pub use making::channel;
 pub use message::WireMsg;
 pub use pumping::{Door, PumpEnd, pump};
-
-#[cfg(test)]
-mod tests;

@@ -26,6 +26,3 @@ pub use gate::{Gate, OpenGate};
 pub use preparing::prepare;
 pub use running::run_workers;
 pub use sweeping::sweep;
-
-#[cfg(test)]
-mod tests;

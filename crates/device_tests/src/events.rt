@@ -1,0 +1,89 @@
+//! Values from outside: events as a host would hand them in, and what is answered.
+use device::{Answer, Device, Event, MemBytes, Queue, Reply};
+use guest_memory::{FlatMem, GuestMem};
+use std::alloc::{AllocError, Global};
+use std::process::Abort;
+use std::test::Fail;
+use wire_frame::{Fault, FrameBuf};
+
+mod calls;
+mod frames;
+mod making;
+mod registers;
+mod wire_out;
+
+// Registers of the physical function, and what they are written: function 3 has an address and may receive and send.
+pub const SETTINGS: [(u32, u32); 5] = [
+    (0x51E0, 0xFF),
+    (0x8110, 0xFF),
+    (0xA218, 0x2),
+    (0xA21C, 0x8000_0300),
+    (0xA618, 0x8),
+];
+// Registers of a function, and what they are written: one receive descriptor in a ring at 0x1000, and both causes of queue 0.
+pub const RECEIVE: [(u32, u32); 7] = [
+    (0x1000, 0x1000),
+    (0x1008, 128),
+    (0x1014, 0x0200_0002),
+    (0x1028, 0x0200_0000),
+    (0x1018, 1),
+    (0x120, 0x8180),
+    (0x108, 7),
+];
+// The same for a transmit ring of eight descriptors at 0x2000.
+pub const TRANSMIT: [(u32, u32); 3] = [(0x2000, 0x2000), (0x2008, 128), (0x2028, 0x0200_0000)];
+
+// A frame of 60 bytes to an address that ends with `to`, with a number in its last bytes.
+pub fn frame_to(to: u8, number: u16) -> Result<FrameBuf, Fault> {
+    let mut bytes = [0u8; 60];
+    bytes[0] = 2;
+    bytes[5] = to;
+    bytes[6] = 2;
+    bytes[11] = 0x99;
+    bytes[12] = 8;
+    bytes[58] = (number / 256) as u8;
+    bytes[59] = (number % 256) as u8;
+    FrameBuf::from_bytes(&bytes)
+}
+
+// Memories of 65,536 bytes.
+pub fn memories(alloc: Global, count: usize) -> Result<Vec<FlatMem>, Fault> {
+    let mut memories = Vec::new(alloc);
+    for _ in 0..count {
+        let memory = FlatMem::new(alloc, 65536)?;
+        if memories.push(memory).is_err() {
+            return Err(Fault::NoMemory);
+        }
+    }
+    Ok(memories)
+}
+
+// One event that is done, without messages.
+pub fn do_silently<R: Abort, M: GuestMem>(rt: &R, device: &mut Device<M>, event: &Event) {
+    let answer = device.step(event);
+    assert!(rt; answer.reply.is_done());
+    assert_eq!(rt; answer.raised.as_slice(), [0u8; 64].as_slice());
+}
+
+// The settings, and function 3 open with its receive ring.
+pub fn set_up<R: Abort, M: GuestMem>(rt: &R, device: &mut Device<M>) -> Result<(), Fail> {
+    for (offset, value) in SETTINGS {
+        do_silently(rt, device, &Event::PfWrite(offset, value));
+    }
+    do_silently(rt, device, &Event::Open(3));
+    let descriptor = MemBytes::from_bytes(&[0, 0x40])?;
+    do_silently(rt, device, &Event::MemWrite(3, 0x1000, descriptor));
+    for (offset, value) in RECEIVE {
+        do_silently(rt, device, &Event::VfWrite(3, offset, value));
+    }
+    Ok(())
+}
+
+// The bytes of a memory.
+pub fn assert_bytes<R: Abort, M: GuestMem>(rt: &R, device: &mut Device<M>, at: u64, want: &[u8]) {
+    let count = want.len().min(2048) as u16;
+    match &device.step(&Event::MemRead(3, at, count)).reply {
+        Reply::Bytes(bytes) => assert_eq!(rt; bytes.bytes(), want),
+        _ => assert!(rt; false),
+    }
+}

@@ -1,0 +1,71 @@
+//! Values from outside: calls as a host would make them, and what a second device answers.
+use device::{Device, Event, MemSlice, Queue, Request, Taken};
+use guest_memory::{FlatMem, GuestMem};
+use history::head::Head;
+use history::{History, Room};
+use irq_causes::{Messages, Vectors};
+use std::alloc::{AllocError, Global};
+use std::mem::size_of;
+use std::process::Abort;
+use std::test::Fail;
+use wire_frame::{Fault, FrameBuf, PoolId};
+
+mod answers;
+mod entries;
+mod making;
+
+// Registers of a function, and what they are written: one receive descriptor in a ring at 0, and all causes set and
+// acknowledged without a mask. The cause of receive queue 0 is that of vector 0.
+const RECEIVE: [(u32, u32); 7] = [
+    (0x1000, 0),
+    (0x1008, 128),
+    (0x1014, 0x0200_0002),
+    (0x1028, 0x0200_0000),
+    (0x1018, 1),
+    (0x120, 0x8180),
+    (0x108, 7),
+];
+
+// Memories of 4096 bytes.
+fn memories(alloc: Global, count: usize) -> Result<Vec<FlatMem>, Fault> {
+    let mut memories = Vec::new(alloc);
+    for _ in 0..count {
+        let memory = FlatMem::new(alloc, 4096)?;
+        if memories.push(memory).is_err() {
+            return Err(Fault::NoMemory);
+        }
+    }
+    Ok(memories)
+}
+
+// A device with 64 functions, all closed.
+fn device_of_64(alloc: Global) -> Result<Device<FlatMem>, Fault> {
+    Device::new(alloc, memories(alloc, 64)?)
+}
+
+// One more call, for which there is room.
+fn keep<'f, R: Abort, M: GuestMem>(
+    rt: &R,
+    history: &mut History,
+    device: &mut Device<M>,
+    caller: u8,
+    request: Request<'_>,
+    frame: &'f mut FrameBuf,
+) -> Taken<'f> {
+    assert!(rt; !history.is_full());
+    history.record(caller, request, device, frame)
+}
+
+// The first entry that the device does not give as it steps through them.
+fn first_other<M: GuestMem>(
+    history: &History,
+    device: &mut Device<M>,
+    room: &mut Room,
+) -> Option<usize> {
+    for index in 0..history.len() {
+        if !history.gives(index, device, room) {
+            return Some(index);
+        }
+    }
+    None
+}

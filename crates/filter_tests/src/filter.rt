@@ -1,0 +1,479 @@
+//! Words as a driver writes them, frames as they come from the wire, and which pools take them.
+use bitflags::Flags;
+use pool_filter::{Own, PoolFlags, Tables, accept_mask};
+use std::process::Abort;
+use std::test::Fail;
+use wire_frame::{FrameBuf, Mac, PoolId, PortVlan, Vid};
+
+// Settings as a device is made, with some words written.
+fn tables_with(words: &[(u32, u32)]) -> Tables {
+    let mut tables = Tables::new();
+    for &(offset, value) in words {
+        tables.write(offset, value);
+    }
+    tables
+}
+
+// A frame of 60 bytes from 02:00:00:00:00:99, with a VLAN tag or none.
+fn frame_to(destination: [u8; 6], tag: Option<u16>) -> Result<FrameBuf, Fail> {
+    let mut bytes = [0u8; 60];
+    bytes[..6].copy_from_slice(&destination);
+    bytes[6] = 2;
+    bytes[11] = 0x99;
+    bytes[12] = 8;
+    if let Some(tag) = tag {
+        bytes[12] = 0x81;
+        bytes[14] = (tag / 256) as u8;
+        bytes[15] = (tag % 256) as u8;
+        bytes[16] = 8;
+    }
+    Ok(FrameBuf::from_bytes(&bytes)?)
+}
+
+fn pool(number: u8) -> Result<PoolId, Fail> {
+    Ok(PoolId::new(number).ok_or("no such pool")?)
+}
+
+/// Two valid entries, the first and the last, hold one address for pools 1 and 34.
+#[test]
+fn entries_with_one_address_are_united(rt: HostRuntime) -> Result<(), Fail> {
+    let tables = tables_with(&[
+        (0xA200, 0x2),
+        (0xA204, 0x8000_7700),
+        (0xA600, 0x2),
+        (0xA5F8, 0x2),
+        (0xA5FC, 0x8000_7700),
+        (0xA9FC, 0x4),
+    ]);
+    let address = [2, 0, 0, 0, 0, 0x77];
+    assert_eq!(rt;
+        accept_mask(&tables, &frame_to(address, None)?),
+        0x4_0000_0002
+    );
+    assert_eq!(rt;
+        accept_mask(&tables, &frame_to([2, 0, 0, 0, 0, 0x78], None)?),
+        0
+    );
+    assert_eq!(rt; tables.pools_of(Mac(address)), 0x4_0000_0002);
+    assert!(rt; tables.is_held(Mac(address)));
+    assert!(rt; tables.has_address(pool(34)?, Mac(address)));
+    assert!(rt; !tables.has_address(pool(2)?, Mac(address)));
+    Ok(())
+}
+
+/// Broadcast is for the pools with BAM, here 3, and for no pool with all other flags, here 4.
+#[test]
+fn broadcast_by_its_flag(rt: HostRuntime) -> Result<(), Fail> {
+    let tables = tables_with(&[(0xF00C, 0x0800_0000), (0xF010, 0x1300_0000)]);
+    assert_eq!(rt; accept_mask(&tables, &frame_to([0xFF; 6], None)?), 0x8);
+    assert_eq!(rt;
+        accept_mask(&tables, &frame_to([1, 0, 0x5E, 0, 0, 1], None)?),
+        0x10
+    );
+    assert_eq!(rt;
+        accept_mask(&tables, &frame_to([2, 0, 0, 0, 0, 3], None)?),
+        0
+    );
+    assert!(rt; tables.flags(pool(3)?).contains(PoolFlags::BAM));
+    assert!(rt; !tables.flags(pool(4)?).contains(PoolFlags::BAM));
+    Ok(())
+}
+
+/// The words of VMOLR of pools 31, 32 and 33, of which some are written twice, and of pools 0 and 63: the pools with AUPE,
+/// ROMPE, BAM and MPE after each write. The flags are bits 24, 25, 27 and 28; no other bit of the word is one.
+#[test]
+fn flags_of_neighbours(rt: HostRuntime) {
+    let mut tables = Tables::new();
+    let steps = [
+        (0xF080, 0x0900_0000, [0x1_0000_0000, 0, 0x1_0000_0000, 0]),
+        (
+            0xF07C,
+            0x1200_0000,
+            [0x1_0000_0000, 0x8000_0000, 0x1_0000_0000, 0x8000_0000],
+        ),
+        (
+            0xF084,
+            0x1B00_0000,
+            [0x3_0000_0000, 0x2_8000_0000, 0x3_0000_0000, 0x2_8000_0000],
+        ),
+        (
+            0xF080,
+            0x1000_0000,
+            [0x2_0000_0000, 0x2_8000_0000, 0x2_0000_0000, 0x3_8000_0000],
+        ),
+        (
+            0xF07C,
+            0x0,
+            [0x2_0000_0000, 0x2_0000_0000, 0x2_0000_0000, 0x3_0000_0000],
+        ),
+        (0xF084, 0xE4FF_FFFF, [0, 0, 0, 0x1_0000_0000]),
+        (0xF000, 0x0800_0000, [0, 0, 0x1, 0x1_0000_0000]),
+        (
+            0xF0FC,
+            0x0800_0000,
+            [0, 0, 0x8000_0000_0000_0001, 0x1_0000_0000],
+        ),
+        (
+            0xF100,
+            0x1B00_0000,
+            [0, 0, 0x8000_0000_0000_0001, 0x1_0000_0000],
+        ),
+    ];
+    for (offset, value, want) in steps {
+        tables.write(offset, value);
+        let masks = [
+            tables.untagged_pools(),
+            tables.hashed_pools(),
+            tables.broadcast_pools(),
+            tables.multicast_pools(),
+        ];
+        assert_eq!(rt; masks, want, "after {offset} was {value}");
+    }
+}
+
+/// The bit of the multicast table for an address under each value of MO, worked out by hand from its last two bytes: 0x00
+/// and 0xFB, then 0x12 and 0x03. Pool 1 has ROMPE, and takes the frame where the table is on.
+#[test]
+fn multicast_by_its_hash(rt: HostRuntime) -> Result<(), Fail> {
+    let hashes = [
+        (0, [1, 0, 0x5E, 0, 0, 0xFB], 0x53F4, 0x0001_0000),
+        (0, [1, 0, 0x5E, 0, 0x12, 3], 0x5204, 0x0002_0000),
+        (1, [1, 0, 0x5E, 0, 0x12, 3], 0x520C, 0x0000_0004),
+        (2, [1, 0, 0x5E, 0, 0x12, 3], 0x5218, 0x0000_0010),
+        (3, [1, 0, 0x5E, 0, 0x12, 3], 0x5260, 0x0004_0000),
+    ];
+    for (offset_bits, address, word, bit) in hashes {
+        let mut tables = tables_with(&[(0xF004, 0x0200_0000), (0x5090, 4 + offset_bits)]);
+        let frame = frame_to(address, None)?;
+        assert_eq!(rt;
+            accept_mask(&tables, &frame),
+            0,
+            "MO {offset_bits}, no bit set"
+        );
+        tables.write(word, bit);
+        assert_eq!(rt; accept_mask(&tables, &frame), 0x2, "MO {offset_bits}");
+        assert!(rt; tables.multicast_hit(Mac(address)));
+        tables.write(0x5090, offset_bits);
+        assert_eq!(rt;
+            accept_mask(&tables, &frame),
+            0,
+            "MO {offset_bits}, the table off"
+        );
+    }
+    Ok(())
+}
+
+/// Pools 1 and 2 have an address and VLAN 100 each. Where VLANs are filtered, they take frames of that VLAN once it is in
+/// the VLAN table, and an untagged frame by AUPE alone; where VLANs are not filtered, they take all.
+#[test]
+fn vlans_filter(rt: HostRuntime) -> Result<(), Fail> {
+    let mut tables = tables_with(&[
+        (0xA208, 0x2),
+        (0xA20C, 0x8000_0100),
+        (0xA608, 0x2),
+        (0xA210, 0x2),
+        (0xA214, 0x8000_0200),
+        (0xA610, 0x4),
+        (0xF100, 0x8000_0064),
+        (0xF200, 0x2),
+        (0xF104, 0x8000_0064),
+        (0xF208, 0x4),
+        (0xF008, 0x0100_0000),
+    ]);
+    let first = [2, 0, 0, 0, 0, 1];
+    let second = [2, 0, 0, 0, 0, 2];
+    assert!(rt; !tables.filtering());
+    assert_eq!(rt; accept_mask(&tables, &frame_to(first, Some(101))?), 0x2);
+    tables.write(0x5088, 0x4000_0000);
+    assert!(rt; tables.filtering());
+    assert_eq!(rt; accept_mask(&tables, &frame_to(first, Some(100))?), 0);
+    tables.write(0xA00C, 0x10);
+    assert_eq!(rt; accept_mask(&tables, &frame_to(first, Some(0xE064))?), 0x2);
+    assert_eq!(rt; accept_mask(&tables, &frame_to(second, Some(100))?), 0x4);
+    assert_eq!(rt; accept_mask(&tables, &frame_to(first, Some(101))?), 0);
+    assert_eq!(rt; accept_mask(&tables, &frame_to(first, None)?), 0);
+    assert_eq!(rt; accept_mask(&tables, &frame_to(second, None)?), 0x4);
+    assert_eq!(rt; tables.pools_of_vlan(Vid::of_tag(100)), 0x6);
+    assert!(rt; tables.has_vlan(pool(1)?, Vid::of_tag(100)));
+    assert!(rt; !tables.takes_untagged(pool(1)?));
+    assert!(rt; tables.takes_untagged(pool(2)?));
+    Ok(())
+}
+
+/// The default pool is off at first; DEF_PL is bits 12:7, and bit 29 turns it off again.
+#[test]
+fn default_pool(rt: HostRuntime) -> Result<(), Fail> {
+    let mut tables = Tables::new();
+    assert_eq!(rt; tables.read(0x51B0), 0x6000_0001);
+    assert_eq!(rt; tables.default_pool(), None);
+    tables.write(0x51B0, 0x300);
+    assert_eq!(rt; tables.read(0x51B0), 0x4000_0301);
+    assert_eq!(rt; tables.default_pool(), Some(pool(6)?));
+    tables.write(0x51B0, 0xFFFF_FFFF);
+    assert_eq!(rt; tables.read(0x51B0), 0x6000_1F81);
+    assert_eq!(rt; tables.default_pool(), None);
+    tables.clear();
+    assert_eq!(rt; tables.read(0x51B0), 0x6000_0001);
+    Ok(())
+}
+
+/// The words of the switches: receive enable of pools 0 and 63, transmit enable of pool 33, the address check of pool 9 and
+/// the VLAN check of pool 10, and loopback.
+#[test]
+fn switches(rt: HostRuntime) -> Result<(), Fail> {
+    let tables = tables_with(&[
+        (0x51E0, 0x1),
+        (0x51E4, 0x8000_0000),
+        (0x8114, 0x2),
+        (0x8204, 0x0402),
+        (0x8220, 0xFFFF_FFFF),
+    ]);
+    assert_eq!(rt; tables.receiving_pools(), 0x8000_0000_0000_0001);
+    for (number, receives, transmits, address, vlan) in [
+        (0, true, false, false, false),
+        (9, false, false, true, false),
+        (10, false, false, false, true),
+        (33, false, true, false, false),
+        (63, true, false, false, false),
+    ] {
+        let pool = pool(number)?;
+        assert_eq!(rt; tables.may_receive(pool), receives, "pool {number}");
+        assert_eq!(rt; tables.may_transmit(pool), transmits, "pool {number}");
+        assert_eq!(rt; tables.checks_address(pool), address, "pool {number}");
+        assert_eq!(rt; tables.checks_vlan(pool), vlan, "pool {number}");
+    }
+    assert!(rt; tables.loops_back());
+    assert!(rt; !Tables::new().loops_back());
+    Ok(())
+}
+
+/// The port VLAN of pool 5 by the two highest bits of its word.
+#[test]
+fn port_vlans(rt: HostRuntime) -> Result<(), Fail> {
+    for (written, read, rule) in [
+        (0x0000_0064, 0x0000_0064, PortVlan::Descriptor),
+        (0x4000_0064, 0x4000_0064, PortVlan::Always(0x64)),
+        (0x7FFF_E064, 0x4000_E064, PortVlan::Always(0xE064)),
+        (0x8000_0000, 0x8000_0000, PortVlan::Never),
+        (0xFFFF_FFFF, 0xC000_FFFF, PortVlan::Descriptor),
+    ] {
+        let tables = tables_with(&[(0x8014, written)]);
+        assert_eq!(rt; tables.read(0x8014), read);
+        assert_eq!(rt; tables.port_vlan(pool(5)?), rule);
+        assert_eq!(rt; tables.port_vlan(pool(4)?), PortVlan::Descriptor);
+    }
+    Ok(())
+}
+
+// Words that give pools 1 and 2 something of their own. Entries 0 and 127 hold 02:00:00:00:00:77 for pool 1, entry 5
+// 02:00:00:00:00:03 for pools 1 and 2, entry 6 02:00:00:00:00:66 for pool 2, and entry 7, which is not valid,
+// 02:00:00:00:00:55 for pool 1. Of the VLAN entries, 0 and 63 hold id 100 for pool 1, 1 holds id 7 for pools 1 and 2, 2 holds
+// id 9 for pool 2, 3, which is not valid, id 11 for pool 1, and 4 id 200 for pool 1, which the VLAN table does not have.
+const OWN_WORDS: [(u32, u32); 34] = [
+    (0xA200, 0x2),
+    (0xA204, 0x8000_7700),
+    (0xA600, 0x2),
+    (0xA5F8, 0x2),
+    (0xA5FC, 0x8000_7700),
+    (0xA9F8, 0x2),
+    (0xA228, 0x2),
+    (0xA22C, 0x8000_0300),
+    (0xA628, 0x6),
+    (0xA230, 0x2),
+    (0xA234, 0x8000_6600),
+    (0xA630, 0x4),
+    (0xA238, 0x2),
+    (0xA23C, 0x5500),
+    (0xA638, 0x2),
+    (0xF100, 0x8000_0064),
+    (0xF200, 0x2),
+    (0xF1FC, 0x8000_0064),
+    (0xF3F8, 0x2),
+    (0xF104, 0x8000_0007),
+    (0xF208, 0x6),
+    (0xF108, 0x8000_0009),
+    (0xF210, 0x4),
+    (0xF10C, 0xB),
+    (0xF218, 0x2),
+    (0xF110, 0x8000_00C8),
+    (0xF220, 0x2),
+    (0xA000, 0xA80),
+    (0xA00C, 0x10),
+    (0xF004, 0x0900_0000),
+    (0x51E0, 0x2),
+    (0x8110, 0x4),
+    (0x8200, 0x0402),
+    (0x8004, 0x4000_E064),
+];
+
+/// Whether a pool's settings have just these of the addresses, by their last bytes, and just these of the ids.
+fn assert_sets<R: Abort>(rt: &R, own: &Own, addresses: [u8; 2], ids: [u16; 2]) {
+    for last in [0x03, 0x55, 0x66, 0x77] {
+        let has = own.has_address(Mac([2, 0, 0, 0, 0, last]));
+        assert_eq!(rt; has, addresses.contains(&last), "to {last}");
+    }
+    for id in [7, 9, 11, 100, 200] {
+        assert_eq!(rt; own.has_vlan(Vid::of_tag(id)), ids.contains(&id), "id {id}");
+    }
+}
+
+/// What two pools have of the words above, in one value that is used for both.
+#[test]
+fn own_settings_are_sets(rt: HostRuntime) -> Result<(), Fail> {
+    let tables = tables_with(&OWN_WORDS);
+    let mut own = Own::none();
+    tables.own(pool(1)?, &mut own);
+    assert_sets(&rt, &own, [0x03, 0x77], [7, 100]);
+    assert!(rt; own.takes_untagged());
+    assert!(rt; own.may_receive());
+    assert!(rt; !own.may_transmit());
+    assert!(rt; own.checks_address());
+    assert!(rt; !own.checks_vlan());
+    assert_eq!(rt; own.port_vlan(), PortVlan::Always(0xE064));
+    tables.own(pool(2)?, &mut own);
+    assert_sets(&rt, &own, [0x03, 0x66], [7, 9]);
+    assert!(rt; !own.takes_untagged());
+    assert!(rt; !own.may_receive());
+    assert!(rt; own.may_transmit());
+    assert!(rt; !own.checks_address());
+    assert!(rt; own.checks_vlan());
+    assert_eq!(rt; own.port_vlan(), PortVlan::Descriptor);
+    Ok(())
+}
+
+/// Each of the eight parts makes a difference. What does not: another pool's words, a flag that is not own, an entry that is
+/// not valid, and one more entry with an address that the pool has.
+#[test]
+fn own_settings_are_compared(rt: HostRuntime) -> Result<(), Fail> {
+    let mut before = Own::none();
+    tables_with(&OWN_WORDS).own(pool(1)?, &mut before);
+    for (offset, value, same) in [
+        (0xA200, 0x3, false),
+        (0xF104, 0x8000_0009, false),
+        (0xF004, 0x0800_0000, false),
+        (0x51E0, 0x0, false),
+        (0x8110, 0x6, false),
+        (0x8200, 0x0400, false),
+        (0x8200, 0x0602, false),
+        (0x8004, 0x0, false),
+        (0x51E0, 0xFFFF_FFFF, true),
+        (0xF004, 0x0100_0000, true),
+        (0xA238, 0x3, true),
+        (0xA204, 0x8000_0300, true),
+    ] {
+        let mut tables = tables_with(&OWN_WORDS);
+        tables.write(offset, value);
+        let mut after = Own::none();
+        tables.own(pool(1)?, &mut after);
+        assert_eq!(rt; before.is_same(&after), same, "{value} at {offset}");
+        assert_eq!(rt; after.is_same(&before), same, "{value} at {offset}");
+        assert_eq!(rt; before == after, same, "{value} at {offset}");
+    }
+    Ok(())
+}
+
+/// A pool that has nothing, a copy of another's, and what is left of that when it is cleared.
+#[test]
+fn own_settings_as_a_whole(rt: HostRuntime) -> Result<(), Fail> {
+    let mut first = Own::none();
+    tables_with(&OWN_WORDS).own(pool(1)?, &mut first);
+    let mut second = Own::none();
+    tables_with(&OWN_WORDS).own(pool(2)?, &mut second);
+    let mut own = Own::none();
+    assert!(rt; !own.is_same(&first));
+    own.refill(&first);
+    assert_eq!(rt; own, first);
+    own.refill(&second);
+    assert_eq!(rt; own, second);
+    own.clear();
+    assert_eq!(rt; own, Own::default());
+    Tables::default().own(pool(1)?, &mut first);
+    assert_eq!(rt; own, first);
+    assert!(rt; !own.has_address(Mac([2, 0, 0, 0, 0, 0x77])));
+    assert!(rt; !own.has_vlan(Vid::of_tag(0)));
+    assert_eq!(rt; own.port_vlan(), PortVlan::Descriptor);
+    Ok(())
+}
+
+// The registers of the datasheet that are modelled: first offset, number of words, stride, the bits that a write keeps, and
+// the bits that are always 1.
+const REGISTERS: [(u32, u32, u32, u32, u32); 16] = [
+    (0x5088, 1, 4, 0x4000_0000, 0),
+    (0x5090, 1, 4, 0x7, 0),
+    (0x51B0, 1, 4, 0x2000_1F80, 0x4000_0001),
+    (0x51E0, 2, 4, 0xFFFF_FFFF, 0),
+    (0x5200, 128, 4, 0xFFFF_FFFF, 0),
+    (0x8000, 64, 4, 0xC000_FFFF, 0),
+    (0x8110, 2, 4, 0xFFFF_FFFF, 0),
+    (0x8200, 8, 4, 0xFFFF, 0),
+    (0x8220, 1, 4, 0x1, 0),
+    (0xA000, 128, 4, 0xFFFF_FFFF, 0),
+    (0xA200, 128, 8, 0xFFFF_FFFF, 0),
+    (0xA204, 128, 8, 0x8000_FFFF, 0),
+    (0xA600, 256, 4, 0xFFFF_FFFF, 0),
+    (0xF000, 64, 4, 0x1B00_0000, 0),
+    (0xF100, 64, 4, 0x8000_0FFF, 0),
+    (0xF200, 128, 4, 0xFFFF_FFFF, 0),
+];
+
+// What an offset reads after a write.
+fn expected(offset: u32, written: u32) -> u32 {
+    for (first, count, stride, kept, ones) in REGISTERS {
+        if offset >= first
+            && (offset - first).is_multiple_of(stride)
+            && (offset - first) / stride < count
+        {
+            return written & kept | ones;
+        }
+    }
+    0
+}
+
+/// Every aligned offset of the register space, with four patterns.
+#[test]
+fn every_word_reads_back(rt: HostRuntime) {
+    let mut tables = Tables::new();
+    for pattern in [0, 0xFFFF_FFFF, 0x5A5A_5A5A, 0xA5A5_A5A5] {
+        for word in 0..0x8000u32 {
+            let offset = 4 * word;
+            tables.write(offset, pattern);
+            assert_eq!(rt;
+                tables.read(offset),
+                expected(offset, pattern),
+                "at {offset}"
+            );
+        }
+    }
+}
+
+// Whether all sampled offsets but one read what was written to them.
+fn others_hold(rt: &impl Abort, tables: &Tables, sample: &[u32], changed: u32, pattern: u32) {
+    for &offset in sample {
+        if offset != changed {
+            assert_eq!(rt;
+                tables.read(offset),
+                expected(offset, pattern),
+                "{offset} after {changed}"
+            );
+        }
+    }
+}
+
+/// A write to the first or the last word of a register, or beside one, changes no other of these words.
+#[test]
+fn a_write_changes_one_word(rt: HostRuntime) {
+    let sample = [
+        0x1C0, 0x600, 0x700, 0x704, 0x5088, 0x508C, 0x5090, 0x51B0, 0x51E0, 0x51E4, 0x5200, 0x53FC,
+        0x5400, 0x8000, 0x80FC, 0x8110, 0x8114, 0x8200, 0x821C, 0x8220, 0xA000, 0xA1FC, 0xA200,
+        0xA204, 0xA208, 0xA5F8, 0xA5FC, 0xA600, 0xA9FC, 0xF000, 0xF0FC, 0xF100, 0xF1FC, 0xF200,
+        0xF3FC, 0x1FFFC,
+    ];
+    for changed in sample {
+        let mut tables = Tables::new();
+        for offset in sample {
+            tables.write(offset, 0x5A5A_5A5A);
+        }
+        tables.write(changed, 0xA5A5_A5A5);
+        others_hold(&rt, &tables, &sample, changed, 0x5A5A_5A5A);
+    }
+}

@@ -1,0 +1,211 @@
+//! Words as a driver writes them, and what the tables then say.
+use vlan_table::VlanTable;
+use wire_frame::{PoolId, Vid};
+
+/// Id 100 stands in the first and the last entry, for pools 1 and 34, and in one that is not valid, for pool 5. Its bit in
+/// the VLAN table is bit 4 of word 3; until that is set, no pool has it. Id 0 is as any id.
+#[test]
+fn entries_with_one_id_are_united(rt: HostRuntime) {
+    let mut table = VlanTable::default();
+    let words = [
+        (0xF100, 0x8000_0064),
+        (0xF200, 0x2),
+        (0xF1FC, 0x8000_0064),
+        (0xF3FC, 0x4),
+        (0xF104, 0x64),
+        (0xF208, 0x20),
+        (0xF108, 0x8000_0000),
+        (0xF210, 0x8),
+        (0xA000, 0x1),
+        (0xA00C, 0x20),
+    ];
+    for (offset, value) in words {
+        table.write(offset, value);
+    }
+    assert_eq!(rt; Vid::new(100).map(|id| table.pools_of(id)), Some(0));
+    assert_eq!(rt; Vid::new(0).map(|id| table.pools_of(id)), Some(0x8));
+    table.write(0xA00C, 0x10);
+    assert_eq!(rt;
+        Vid::new(100).map(|id| table.pools_of(id)),
+        Some(0x4_0000_0002)
+    );
+    assert_eq!(rt; Vid::new(101).map(|id| table.pools_of(id)), Some(0));
+    for (number, has) in [(0, false), (1, true), (5, false), (34, true)] {
+        let found = PoolId::new(number).and_then(|pool| Vid::new(100).map(|id| table.member(
+            id, pool,
+        )));
+        assert_eq!(rt; found, Some(has), "pool {number}");
+    }
+}
+
+// The pools of an id, and how many ids were compared with it.
+fn found(table: &VlanTable, id: u16) -> (u64, u8) {
+    table.probe(Vid::of_tag(id))
+}
+
+/// One entry, as its words change one after another: the pools of ids 100 and 200, both in the VLAN table, after each write.
+/// It becomes valid, gets another id and other pools, is not valid for a while, and is then without pools.
+#[test]
+fn a_valid_entry_follows_its_words(rt: HostRuntime) {
+    let mut table = VlanTable::new();
+    table.write(0xA00C, 0x10);
+    table.write(0xA018, 0x100);
+    let steps = [
+        (0xF200, 0x8, [0, 0]),
+        (0xF100, 0x8000_0064, [0x8, 0]),
+        (0xF100, 0x8000_00C8, [0, 0x8]),
+        (0xF204, 0x8000_0000, [0, 0x8000_0000_0000_0008]),
+        (0xF200, 0x10, [0, 0x8000_0000_0000_0010]),
+        (0xF100, 0xC8, [0, 0]),
+        (0xF204, 0x0, [0, 0]),
+        (0xF100, 0x8000_00C8, [0, 0x10]),
+        (0xF200, 0x0, [0, 0]),
+    ];
+    for (offset, value, want) in steps {
+        table.write(offset, value);
+        let pools = [found(&table, 100).0, found(&table, 200).0];
+        assert_eq!(rt; pools, want, "after {offset} was {value}");
+    }
+}
+
+/// Three entries for one id, each with another pool, between entries for two others. As one after another ceases to be
+/// valid, the id keeps the pools of the rest.
+#[test]
+fn repeated_ids_lose_one_entry(rt: HostRuntime) {
+    let mut table = VlanTable::new();
+    table.write(0xA008, 0x700);
+    for (e, id, pools) in [(0, 73, 1), (1, 74, 2), (2, 73, 4), (3, 72, 8), (4, 73, 16)] {
+        table.write(0xF200 + 8 * e, pools);
+        table.write(0xF100 + 4 * e, 0x8000_0000 + id);
+    }
+    for (offset, want) in [(0xF1FC, 21), (0xF100, 20), (0xF110, 4), (0xF108, 0)] {
+        table.write(offset, 73);
+        assert_eq!(rt; found(&table, 73).0, want, "after {offset}");
+        assert_eq!(rt; found(&table, 72).0, 8);
+        assert_eq!(rt; found(&table, 74).0, 2);
+    }
+}
+
+/// The first and the last id, in the first and the last entry. The VLAN table counts as it is when an id is looked for,
+/// whether its words were written before the entries' or after.
+#[test]
+fn the_table_counts_at_each_lookup(rt: HostRuntime) {
+    let mut table = VlanTable::new();
+    table.write(0xF100, 0x8000_0000);
+    table.write(0xF200, 0x2);
+    table.write(0xF1FC, 0x8000_0FFF);
+    table.write(0xF3FC, 0x4);
+    let steps = [
+        (0xA000, 0xFFFF_FFFE, [0, 0]),
+        (0xA1FC, 0x8000_0000, [0, 0x4_0000_0000]),
+        (0xA000, 0x1, [0x2, 0x4_0000_0000]),
+        (0xA1FC, 0x7FFF_FFFF, [0x2, 0]),
+        (0xA000, 0x0, [0, 0]),
+    ];
+    for (offset, value, want) in steps {
+        table.write(offset, value);
+        let pools = [found(&table, 0).0, found(&table, 4095).0];
+        assert_eq!(rt; pools, want, "after {offset} was {value}");
+    }
+}
+
+/// 64 ids, written from the highest, 4095, to the lowest, 0, each 65 below the one before. Each is found with the pool of
+/// its entry, and its neighbour is not, all with at most 7 comparisons.
+#[test]
+fn many_ids_take_few_comparisons(rt: HostRuntime) {
+    let mut table = VlanTable::new();
+    for word in 0..128 {
+        table.write(0xA000 + 4 * word, 0xFFFF_FFFF);
+    }
+    assert_eq!(rt; found(&table, 0), (0, 0));
+    for e in 0..64 {
+        table.write(0xF100 + 4 * e, 0x8000_0FFF - 65 * e);
+        table.write(0xF200 + 8 * e + 4 * (e / 32), 1 << (e % 32));
+    }
+    for e in 0..64u16 {
+        let id = 4095 - 65 * e;
+        let (pools, compared) = found(&table, id);
+        assert_eq!(rt; pools, 1 << e, "id {id}");
+        assert!(rt; 1 <= compared && compared <= 7, "id {id}: {compared}");
+        let (pools, compared) = found(&table, id ^ 1);
+        assert_eq!(rt; pools, 0, "beside id {id}");
+        assert!(rt;
+            6 <= compared && compared <= 7,
+            "beside id {id}: {compared}"
+        );
+    }
+}
+
+/// What an entry gives a pool. The first entry is for pool 1, the last for pool 34, the second is not valid, and the id of
+/// the third, 101, is not in the VLAN table.
+#[test]
+fn entries_give_ids(rt: HostRuntime) {
+    let mut table = VlanTable::new();
+    let words = [
+        (0xF100, 0x8000_0064),
+        (0xF200, 0x2),
+        (0xF1FC, 0x8000_0FFF),
+        (0xF3FC, 0x4),
+        (0xF104, 0x64),
+        (0xF208, 0x2),
+        (0xF108, 0x8000_0065),
+        (0xF210, 0x2),
+        (0xA00C, 0x10),
+        (0xA1FC, 0x8000_0000),
+    ];
+    for (offset, value) in words {
+        table.write(offset, value);
+    }
+    let given = [
+        (1, 0, Some(100)),
+        (34, 0, None),
+        (1, 1, None),
+        (1, 2, None),
+        (1, 63, None),
+        (34, 63, Some(4095)),
+    ];
+    for (number, entry, want) in given {
+        let found = PoolId::new(number).and_then(|pool| table.id_for(pool, entry));
+        assert_eq!(rt;
+            found.map(|id| id.get()),
+            want,
+            "pool {number}, entry {entry}"
+        );
+    }
+}
+
+/// VLANs are filtered exactly where bit 30 of VLNCTRL is set.
+#[test]
+fn filtering_is_one_bit(rt: HostRuntime) {
+    let mut table = VlanTable::new();
+    assert!(rt; !table.filtering());
+    table.write(0x5088, 0xBFFF_FFFF);
+    assert!(rt; !table.filtering());
+    table.write(0x5088, 0x4000_8100);
+    assert!(rt; table.filtering());
+}
+
+/// What a write of ones keeps, at the first and the last word of each register, and offsets beside them.
+#[test]
+fn words_read_back(rt: HostRuntime) {
+    let kept = [
+        (0x5088, Some(0x4000_0000)),
+        (0xA000, Some(0xFFFF_FFFF)),
+        (0xA1FC, Some(0xFFFF_FFFF)),
+        (0xF100, Some(0x8000_0FFF)),
+        (0xF1FC, Some(0x8000_0FFF)),
+        (0xF200, Some(0xFFFF_FFFF)),
+        (0xF3FC, Some(0xFFFF_FFFF)),
+        (0x508C, None),
+        (0x9FFC, None),
+        (0xA200, None),
+        (0xF0FC, None),
+        (0xF102, None),
+        (0xF400, None),
+    ];
+    for (offset, want) in kept {
+        let mut table = VlanTable::new();
+        table.write(offset, 0xFFFF_FFFF);
+        assert_eq!(rt; table.read(offset), want, "at {offset}");
+    }
+}

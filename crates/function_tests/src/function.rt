@@ -1,0 +1,677 @@
+//! Worked examples from outside, as a driver and the wire would do them: each is a list of steps with what they answer.
+use guest_memory::{FlatMem, GuestMem};
+use std::alloc::Global;
+use std::process::Abort;
+use std::test::Fail;
+use tx_desc::Progress;
+use vf_unit::*;
+use wire_frame::{FrameBuf, FrameLimit, PortVlan};
+
+// One step, on queue 0 where it is on a queue. Bytes are a beginning, what fills the rest, and how many there are.
+#[derive(Clone, Copy)]
+enum Step {
+    // A register is written, and issues no message.
+    W(u32, u32),
+    // A register is written, and issues these messages.
+    Issues(u32, u32, u8),
+    // A register reads this.
+    R(u32, u32),
+    // Bytes are written to memory.
+    Put(u64, &'static [u8], u8, usize),
+    // Memory holds these bytes.
+    Get(u64, &'static [u8]),
+    // A frame comes from the wire, and issues these messages.
+    Wire(&'static [u8], u8, usize, u8),
+    // A service gives this, and issues these messages.
+    Serve(Progress, u8),
+    // The frame that has ended.
+    Ended(&'static [u8], u8, usize),
+    // A function-level reset.
+    Reset,
+}
+
+use Step::*;
+
+// That many bytes and more, of which the first are these.
+fn filled(head: &[u8], fill: u8) -> [u8; 9018] {
+    let mut bytes = [fill; 9018];
+    let len = head.len().min(9018);
+    bytes[..len].copy_from_slice(&head[..len]);
+    bytes
+}
+
+fn do_step<M: GuestMem>(
+    rt: &impl Abort,
+    unit: &mut VfUnit<M>,
+    frame: &mut FrameBuf,
+    rule: PortVlan,
+    limit: FrameLimit,
+    step: Step,
+) -> Result<(), Fail> {
+    match step {
+        W(offset, x) => assert_eq!(rt; unit.reg_write(offset, x), Some(0), "write at {offset}"),
+        Issues(offset, x, messages) => {
+            assert_eq!(rt;
+                unit.reg_write(offset, x),
+                Some(messages),
+                "write at {offset}"
+            );
+        }
+        R(offset, x) => assert_eq!(rt; unit.reg_read(offset), Some(x), "read at {offset}"),
+        Put(at, head, fill, len) => {
+            let bytes = filled(head, fill);
+            assert!(rt; unit.mem_write(at, &bytes[..len.min(9018)]));
+        }
+        Get(at, want) => {
+            let mut bytes = [0u8; 64];
+            let len = want.len().min(64);
+            assert!(rt; unit.mem_read(at, &mut bytes[..len]));
+            assert_eq!(rt; &bytes[..len], want, "memory at {at}");
+        }
+        Wire(head, fill, len, messages) => {
+            let bytes = filled(head, fill);
+            let received = FrameBuf::from_bytes(&bytes[..len.min(9018)])?;
+            assert_eq!(rt; unit.deliver(&received, false), messages, "{len} bytes");
+        }
+        Serve(outcome, messages) => {
+            let service = unit.serve(Queue::Q0, frame, rule, limit).ok_or("open")?;
+            assert_eq!(rt; service.outcome, outcome);
+            assert_eq!(rt; service.messages, messages);
+        }
+        Ended(head, fill, len) => {
+            let bytes = filled(head, fill);
+            assert_eq!(rt; frame.bytes(), &bytes[..len.min(9018)]);
+        }
+        Reset => unit.reset(),
+    }
+    Ok(())
+}
+
+// Opens the function and does the steps.
+fn do_steps<M: GuestMem>(
+    rt: &impl Abort,
+    mut unit: VfUnit<M>,
+    rule: PortVlan,
+    limit: FrameLimit,
+    steps: [&[Step]; 2],
+) -> Result<(), Fail> {
+    let mut frame = FrameBuf::blank();
+    unit.open();
+    for part in steps {
+        for step in part {
+            do_step(rt, &mut unit, &mut frame, rule, limit, *step)?;
+        }
+    }
+    Ok(())
+}
+
+// The same of a function that is made over the memory, with no port VLAN and frames of up to 1518 bytes.
+fn do_steps_over<M: GuestMem>(
+    rt: &impl Abort,
+    alloc: Global,
+    memory: M,
+    steps: [&[Step]; 2],
+) -> Result<(), Fail> {
+    let unit = VfUnit::new(alloc, memory)?;
+    do_steps(
+        rt,
+        unit,
+        PortVlan::Descriptor,
+        FrameLimit::standard(),
+        steps,
+    )
+}
+
+// The same over a flat memory of 64 KiB.
+fn plainly(rt: &impl Abort, alloc: Global, first: &[Step], then: &[Step]) -> Result<(), Fail> {
+    let memory = FlatMem::new(alloc, 65_536)?;
+    do_steps_over(rt, alloc, memory, [first, then])
+}
+
+// A receive queue with one buffer of 2 KiB at 0x4000; receive raises vector 0, transmit vector 1.
+const RECEIVING: &[Step] = &[
+    Put(0x1000, &[0, 0x40], 0, 8),
+    W(0x1000, 0x1000),
+    W(0x1008, 128),
+    W(0x1014, 0x0200_0002),
+    W(0x1028, 0x0200_0000),
+    W(0x1018, 1),
+    W(0x120, 0x8180),
+    W(0x108, 7),
+];
+
+// A frame to 02:00:00:00:00:03, of type IPv4.
+const FRAME: &[u8] = &[2, 0, 0, 0, 0, 3, 2, 0, 0, 0, 0, 0x99, 8, 0];
+// The same with VLAN id 100.
+const TAGGED: &[u8] = &[
+    2, 0, 0, 0, 0, 3, 2, 0, 0, 0, 0, 0x99, 0x81, 0, 0, 0x64, 8, 0,
+];
+
+#[test]
+fn places_frames(rt: HostRuntime) -> Result<(), Fail> {
+    for steps in [
+        // One descriptor: done, end of packet, 60 bytes.
+        &[
+            Wire(FRAME, 0, 60, 1),
+            Get(0x1000, &[0, 0, 0, 0, 0, 0, 0, 0, 3, 0, 0, 0, 0x3C, 0, 0, 0]),
+            R(0x101C, 1),
+            R(0x1010, 1),
+            Wire(FRAME, 0, 60, 0),
+            R(0x101C, 1),
+        ] as &[Step],
+        // The tag is stripped: the status has VP, 56 bytes and the tag control.
+        &[
+            W(0x1028, 0x4200_0000),
+            Wire(TAGGED, 0, 60, 1),
+            Get(0x1008, &[0x0B, 0, 0, 0, 0x38, 0, 0x64, 0]),
+            Get(0x400A, &[0, 0x99, 8, 0, 0]),
+        ],
+        // The buffer is the ring: the write-back covers the data.
+        &[
+            Put(0x1000, &[0, 0x10], 0, 8),
+            Wire(FRAME, 0xAA, 60, 1),
+            Get(
+                0x1000,
+                &[
+                    0, 0, 0, 0, 0, 0, 0, 0, 3, 0, 0, 0, 0x3C, 0, 0, 0, 0xAA, 0xAA, 0xAA, 0xAA,
+                ],
+            ),
+        ],
+        // The buffer lies outside the memory: the queue goes off.
+        &[
+            Put(0x1000, &[], 0xFF, 8),
+            Wire(FRAME, 0, 60, 0),
+            R(0x1028, 0),
+            R(0x101C, 0),
+            R(0x1010, 0),
+        ],
+    ] {
+        plainly(&rt, rt.alloc(), RECEIVING, steps)?;
+    }
+    Ok(())
+}
+
+// Buffers of 1 KiB, head 7 of 8; the descriptor at 7 has its buffer at 0x4000.
+const AT_THE_END: &[Step] = &[
+    W(0x120, 0x8180),
+    W(0x108, 7),
+    W(0x1000, 0x1000),
+    W(0x1008, 128),
+    W(0x1010, 7),
+    W(0x1014, 0x0200_0001),
+    Put(0x1070, &[0, 0x40], 0, 8),
+];
+
+#[test]
+fn places_frames_in_pieces(rt: HostRuntime) -> Result<(), Fail> {
+    for steps in [
+        // Two pieces, of 1024 and 494 bytes; the second descriptor is the first of the ring.
+        &[
+            W(0x1018, 1),
+            Put(0x1000, &[0, 0x50], 0, 8),
+            W(0x1028, 0x0200_0000),
+            Wire(FRAME, 0, 1518, 1),
+            Get(0x1078, &[1, 0, 0, 0, 0, 4, 0, 0]),
+            Get(0x1008, &[3, 0, 0, 0, 0xEE, 1, 0, 0]),
+            R(0x1010, 1),
+        ] as &[Step],
+        // One descriptor alone: nothing changes.
+        &[
+            W(0x1018, 0),
+            Put(0x1000, &[0, 0x50], 0, 8),
+            W(0x1028, 0x0200_0000),
+            Wire(FRAME, 0, 1518, 0),
+            Get(0x1078, &[0; 8]),
+            Get(0x1008, &[0; 8]),
+            R(0x1010, 7),
+            R(0x101C, 0),
+        ],
+        // The second buffer passes the end of the memory by one byte, and then ends with it.
+        &[
+            W(0x1018, 1),
+            Put(0x1000, &[0x13, 0xFE], 0, 8),
+            W(0x1028, 0x0200_0000),
+            Wire(FRAME, 0, 1518, 0),
+            R(0x1028, 0),
+            R(0x1010, 7),
+            Get(0x1070, &[0, 0x40, 0, 0, 0, 0, 0, 0]),
+            Put(0x1000, &[0x12, 0xFE], 0, 8),
+            W(0x1028, 0x0200_0000),
+            Wire(FRAME, 0, 1518, 1),
+            Get(0x1070, &[0; 8]),
+        ],
+        // The first piece covers the second descriptor, which was read before.
+        &[
+            W(0x1010, 0),
+            W(0x1018, 2),
+            Put(
+                0x1000,
+                &[
+                    0x10, 0x10, 0, 0, 0, 0, 0, 0, 0, 0, 0, 0, 0, 0, 0, 0, 0, 0x50,
+                ],
+                0,
+                24,
+            ),
+            W(0x1028, 0x0200_0000),
+            Wire(FRAME, 0xAA, 1518, 1),
+            Get(
+                0x1000,
+                &[
+                    0, 0, 0, 0, 0, 0, 0, 0, 1, 0, 0, 0, 0, 4, 0, 0, 0, 0, 0, 0, 0, 0, 0, 0, 3, 0,
+                    0, 0, 0xEE, 1, 0, 0, 0xAA, 0xAA, 0xAA, 0xAA,
+                ],
+            ),
+            Get(0x5000, &[0xAA, 0xAA]),
+        ],
+    ] {
+        plainly(&rt, rt.alloc(), AT_THE_END, steps)?;
+    }
+    Ok(())
+}
+
+#[test]
+fn places_jumbo_frames(rt: HostRuntime) -> Result<(), Fail> {
+    // Nine buffers of 1 KiB from 0x4000 on, in a ring of sixteen.
+    const NINE: &[Step] = &[
+        W(0x120, 0x8180),
+        W(0x108, 7),
+        W(0x1000, 0x1000),
+        W(0x1008, 256),
+        W(0x1014, 0x0200_0001),
+        Put(0x1000, &[0, 0x40], 0, 16),
+        Put(0x1010, &[0, 0x44], 0, 16),
+        Put(0x1020, &[0, 0x48], 0, 16),
+        Put(0x1030, &[0, 0x4C], 0, 16),
+        Put(0x1040, &[0, 0x50], 0, 16),
+        Put(0x1050, &[0, 0x54], 0, 16),
+        Put(0x1060, &[0, 0x58], 0, 16),
+        Put(0x1070, &[0, 0x5C], 0, 16),
+        Put(0x1080, &[0, 0x60], 0, 16),
+    ];
+    for steps in [
+        &[
+            W(0x1018, 9),
+            W(0x1028, 0x0200_0000),
+            Wire(FRAME, 0, 9018, 1),
+            Get(0x1078, &[1, 0, 0, 0, 0, 4, 0, 0]),
+            Get(0x1088, &[3, 0, 0, 0, 0x3A, 3, 0, 0]),
+            R(0x1010, 9),
+        ] as &[Step],
+        &[
+            W(0x1018, 8),
+            W(0x1028, 0x0200_0000),
+            Wire(FRAME, 0, 9018, 0),
+            Get(0x1078, &[0; 8]),
+            Get(0x1088, &[0; 8]),
+            R(0x1010, 0),
+        ],
+    ] {
+        plainly(&rt, rt.alloc(), NINE, steps)?;
+    }
+    Ok(())
+}
+
+// A transmit queue with two descriptors, whose buffers are at 0x6000 and 0x7000 and hold a frame to 02:00:00:00:00:04.
+const SENDING: &[Step] = &[
+    W(0x120, 0x8180),
+    W(0x108, 7),
+    Put(0x6000, SENT, 0, 1600),
+    Put(0x2000, &[0, 0x60], 0, 16),
+    Put(0x2010, &[0, 0x70], 0, 16),
+    W(0x2000, 0x2000),
+    W(0x2008, 128),
+    W(0x2028, 0x0200_0000),
+];
+
+const SENT: &[u8] = &[2, 0, 0, 0, 0, 4, 2, 0, 0, 0, 0, 0x99, 8, 0];
+// The same with VLAN ids 5 and 100.
+const SENT_WITH_5: &[u8] = &[2, 0, 0, 0, 0, 4, 2, 0, 0, 0, 0, 0x99, 0x81, 0, 0, 5, 8, 0];
+
+const SENT_WITH_100: &[u8] = &[
+    2, 0, 0, 0, 0, 4, 2, 0, 0, 0, 0, 0x99, 0x81, 0, 0, 0x64, 8, 0,
+];
+
+#[test]
+fn takes_descriptors(rt: HostRuntime) -> Result<(), Fail> {
+    for steps in [
+        // Advanced, end of packet, report status.
+        &[
+            Put(0x2008, &[0x3C, 0, 0x30, 0x29, 0, 0, 0, 0], 0, 8),
+            W(0x2018, 1),
+            Serve(Progress::Ended, 2),
+            Ended(SENT, 0, 60),
+            Get(0x2008, &[0x3C, 0, 0x30, 0x29, 1, 0, 0, 0]),
+            R(0x2010, 1),
+            Serve(Progress::Idle, 0),
+        ] as &[Step],
+        // Legacy with a tag.
+        &[
+            Put(0x2008, &[0x3C, 0, 0, 0x49, 0, 0, 5, 0], 0, 8),
+            W(0x2018, 1),
+            Serve(Progress::Ended, 2),
+            Ended(SENT_WITH_5, 0, 64),
+            Get(0x2008, &[0x3C, 0, 0, 0x49, 1, 0, 5, 0]),
+        ],
+        // A buffer outside the memory.
+        &[
+            Put(0x2000, &[], 0xFF, 8),
+            Put(0x2008, &[0x3C, 0, 0x30, 0x29, 0, 0, 0, 0], 0, 8),
+            W(0x2018, 1),
+            Serve(Progress::Faulted, 0),
+            R(0x2028, 0),
+            R(0x2010, 0),
+        ],
+        // No bytes at the end of the memory, and one byte there.
+        &[
+            Put(0x2000, &[0, 0, 1], 0, 8),
+            Put(0x2008, &[0, 0, 0x30, 0x29, 0, 0, 0, 0], 0, 8),
+            W(0x2018, 1),
+            Serve(Progress::Dropped, 2),
+        ],
+        &[
+            Put(0x2000, &[0, 0, 1], 0, 8),
+            Put(0x2008, &[1, 0, 0x30, 0x29, 0, 0, 0, 0], 0, 8),
+            W(0x2018, 1),
+            Serve(Progress::Faulted, 0),
+        ],
+        // Type 1, segmentation and insertion are not offered; a context is passed over.
+        &[
+            Put(0x2008, &[0x3C, 0, 0x10, 0x29, 0, 0, 0, 0], 0, 8),
+            W(0x2018, 1),
+            Serve(Progress::Faulted, 0),
+        ],
+        &[
+            Put(0x2008, &[0x3C, 0, 0x30, 0xA9, 0, 0, 0, 0], 0, 8),
+            W(0x2018, 1),
+            Serve(Progress::Faulted, 0),
+        ],
+        &[
+            Put(0x2008, &[0x3C, 0, 0x30, 0x69, 0, 0, 0, 0], 0, 8),
+            W(0x2018, 1),
+            Serve(Progress::Faulted, 0),
+        ],
+        &[
+            Put(0x2008, &[0x3C, 0, 0x20, 0x29, 0, 0, 0, 0], 0, 8),
+            W(0x2018, 1),
+            Serve(Progress::More, 0),
+            Get(0x2008, &[0x3C, 0, 0x20, 0x29, 0, 0, 0, 0]),
+            R(0x2010, 1),
+        ],
+        // The descriptors are the frame.
+        &[
+            Put(0x2000, &[0, 0x20], 0, 8),
+            Put(0x2008, &[0x10, 0, 0x30, 0x29, 0, 0, 0, 0], 0, 8),
+            W(0x2018, 1),
+            Serve(Progress::Ended, 2),
+            Get(0x2008, &[0x10, 0, 0x30, 0x29, 1, 0, 0, 0]),
+            Ended(&[0, 0x20, 0, 0, 0, 0, 0, 0, 0x10, 0, 0x30, 0x29], 0, 16),
+        ],
+        // Going off loses the pending frame: the second descriptor alone is no frame.
+        &[
+            Put(0x2008, &[0x3C, 0, 0x30, 0x28, 0, 0, 0, 0], 0, 8),
+            Put(0x2018, &[1, 0, 0x30, 0x29, 0, 0, 0, 0], 0, 8),
+            W(0x2018, 2),
+            Serve(Progress::More, 2),
+            W(0x2028, 0),
+            W(0x2028, 0x0200_0000),
+            Serve(Progress::Dropped, 0),
+        ],
+    ] {
+        plainly(&rt, rt.alloc(), SENDING, steps)?;
+    }
+    Ok(())
+}
+
+#[test]
+fn frames_are_within_the_limit(rt: HostRuntime) -> Result<(), Fail> {
+    let jumbo = FrameLimit::new(9018).ok_or("a limit")?;
+    // 1000 bytes and then 600.
+    for (limit, steps) in [
+        (
+            FrameLimit::standard(),
+            &[
+                Put(0x2008, &[0xE8, 3, 0x30, 0x28, 0, 0, 0, 0], 0, 8),
+                Put(0x2018, &[0x58, 2, 0x30, 0x29, 0, 0, 0, 0], 0, 8),
+                W(0x2018, 2),
+                Serve(Progress::More, 2),
+                Serve(Progress::Dropped, 0),
+            ] as &[Step],
+        ),
+        (
+            jumbo,
+            &[
+                Put(0x2008, &[0xE8, 3, 0x30, 0x28, 0, 0, 0, 0], 0, 8),
+                Put(0x2018, &[0x58, 2, 0x30, 0x29, 0, 0, 0, 0], 0, 8),
+                W(0x2018, 2),
+                Serve(Progress::More, 2),
+                Serve(Progress::Ended, 0),
+                Ended(SENT, 0, 1600),
+            ],
+        ),
+    ] {
+        let memory = FlatMem::new(rt.alloc(), 65_536)?;
+        let unit = VfUnit::new(rt.alloc(), memory)?;
+        do_steps(&rt, unit, PortVlan::Descriptor, limit, [SENDING, steps])?;
+    }
+    Ok(())
+}
+
+#[test]
+fn ports_insert_tags(rt: HostRuntime) -> Result<(), Fail> {
+    for (rule, steps) in [
+        (
+            PortVlan::Always(100),
+            &[
+                Put(0x2008, &[0x3C, 0, 0x30, 0x29, 0, 0, 0, 0], 0, 8),
+                W(0x2018, 1),
+                Serve(Progress::Ended, 2),
+                Ended(SENT_WITH_100, 0, 64),
+            ] as &[Step],
+        ),
+        (
+            PortVlan::Never,
+            &[
+                Put(0x2008, &[0x3C, 0, 0, 0x49, 0, 0, 5, 0], 0, 8),
+                W(0x2018, 1),
+                Serve(Progress::Ended, 2),
+                Ended(SENT, 0, 60),
+            ],
+        ),
+        (
+            PortVlan::Always(100),
+            &[
+                Put(0x6000, SENT_WITH_5, 0, 64),
+                Put(0x2008, &[0x40, 0, 0x30, 0x29, 0, 0, 0, 0], 0, 8),
+                W(0x2018, 1),
+                Serve(Progress::Dropped, 2),
+            ],
+        ),
+        (
+            PortVlan::Always(100),
+            &[
+                Put(0x2008, &[0xEB, 5, 0x30, 0x29, 0, 0, 0, 0], 0, 8),
+                Put(0x2018, &[0xEA, 5, 0x30, 0x29, 0, 0, 0, 0], 0, 8),
+                Put(0x2010, &[0, 0x60], 0, 8),
+                W(0x2018, 2),
+                Serve(Progress::Dropped, 2),
+                Serve(Progress::Ended, 0),
+                Ended(SENT_WITH_100, 0, 1518),
+            ],
+        ),
+    ] {
+        let memory = FlatMem::new(rt.alloc(), 65_536)?;
+        let unit = VfUnit::new(rt.alloc(), memory)?;
+        do_steps(&rt, unit, rule, FrameLimit::standard(), [SENDING, steps])?;
+    }
+    Ok(())
+}
+
+#[test]
+fn registers_answer_as_mapped(rt: HostRuntime) -> Result<(), Fail> {
+    for steps in [
+        // Causes: masked, unmasked, cleared by a read, cleared automatically.
+        &[
+            W(0x108, 2),
+            Issues(0x104, 3, 2),
+            R(0x100, 3),
+            W(0x104, 1),
+            W(0x110, 1),
+            Issues(0x108, 1, 1),
+            R(0x100, 0),
+            W(0x108, 1),
+            W(0x10C, 2),
+            R(0x108, 1),
+            Issues(0x104, 7, 1),
+            R(0x100, 6),
+            R(0x100, 0),
+        ] as &[Step],
+        // A base past the end of all addresses.
+        &[
+            W(0x1004, 0xFFFF_FFFF),
+            W(0x1000, 0xFFFF_FFFF),
+            R(0x1000, 0xFFFF_FF80),
+            W(0x1008, 128),
+            W(0x1014, 0x0200_0002),
+            W(0x1028, 0x0200_0000),
+            R(0x1028, 0),
+        ],
+        // Fixed words, offsets outside the map, and words of queue 1 and what they keep.
+        &[
+            R(0x10, 0x7000_0000),
+            R(0x1014, 0x1000_0000),
+            W(0x14, 0xFFFF_FFFF),
+            R(0x14, 0),
+            W(0x1054, 0xFFFF_FFFF),
+            R(0x1054, 0x1E00_001F),
+            W(0x120, 0xFFFF_FFFF),
+            R(0x120, 0x8383_8383),
+            W(0x140, 0xFFFF_FFFF),
+            R(0x140, 0x83),
+            W(0x2048, 0xFFFF_FFFF),
+            R(0x2048, 0x000F_FF80),
+            W(0x1068, 0x4000_0000),
+            R(0x1068, 0x4000_0000),
+            // The descriptor type is not the advanced one.
+            W(0x1054, 2),
+            W(0x1048, 128),
+            W(0x1068, 0x0200_0000),
+            R(0x1068, 0),
+            W(0x0, 0x0400_0000),
+            R(0x2048, 0),
+            R(0x120, 0),
+        ],
+        // A function-level reset keeps the memory.
+        &[
+            Put(0, &[0xAA], 0, 1),
+            W(0x108, 7),
+            Reset,
+            R(0x108, 0),
+            Get(0, &[0xAA]),
+        ],
+    ] {
+        plainly(&rt, rt.alloc(), &[], steps)?;
+    }
+    // The longest ring, and one longer.
+    for (length, on) in [(65_536, 0x0200_0000), (65_664, 0)] {
+        let steps = [
+            W(0x1000, 0),
+            W(0x1008, length),
+            W(0x1014, 0x0200_0002),
+            W(0x1018, 4095),
+            W(0x1028, 0x0200_0000),
+            R(0x1018, 4095),
+            R(0x1028, on),
+        ];
+        let memory = FlatMem::new(rt.alloc(), 131_072)?;
+        let limit = FrameLimit::standard();
+        let unit = VfUnit::new(rt.alloc(), memory)?;
+        do_steps(&rt, unit, PortVlan::Descriptor, limit, [&steps, &[]])?;
+    }
+    Ok(())
+}
+
+#[test]
+fn nothing_of_an_earlier_tenant_is_left(rt: HostRuntime) -> Result<(), Fail> {
+    let mut unit = VfUnit::new(rt.alloc(), FlatMem::new(rt.alloc(), 4096)?)?;
+    let mut frame = FrameBuf::blank();
+    let limit = FrameLimit::standard();
+    let mut byte = [1u8];
+    assert_eq!(rt; unit.reg_read(0x10), None);
+    assert_eq!(rt; unit.reg_write(0x108, 7), None);
+    assert!(rt;
+        unit.serve(Queue::Q1, &mut frame, PortVlan::Never, limit)
+            .is_none()
+    );
+    assert_eq!(rt; unit.deliver(&frame, true), 0);
+    assert!(rt; !unit.mem_write(0, &[0xAA]));
+    assert!(rt; !unit.mem_read(0, &mut byte));
+    assert_eq!(rt; byte, [1]);
+    unit.open();
+    assert!(rt; unit.is_open());
+    assert_eq!(rt; unit.memory_size(), 4096);
+    assert!(rt; unit.mem_write(4095, &[0xAA]));
+    assert!(rt; !unit.mem_write(4095, &[0xAA, 0xBB]));
+    assert!(rt; !unit.mem_read(4096, &mut byte));
+    unit.sent();
+    assert_eq!(rt; unit.reg_read(0x201C), Some(1));
+    unit.end();
+    assert!(rt; !unit.is_open());
+    unit.open();
+    assert!(rt; unit.mem_read(4095, &mut byte));
+    assert_eq!(rt; byte, [0]);
+    assert_eq!(rt; unit.reg_read(0x201C), Some(0));
+    Ok(())
+}
+
+// A memory of another kind: it counts its writes.
+#[derive(Drop)]
+struct CountingMem {
+    memory: FlatMem,
+    writes: u64,
+}
+
+impl GuestMem for CountingMem {
+    ghost bytes = { λ m. m.memory };
+
+    fn size(&self) -> u64 {
+        self.memory.size()
+    }
+
+    fn read_at(&self, addr: u64, out: &mut [u8]) {
+        self.memory.read_at(addr, out);
+    }
+
+    fn write_at(&mut self, addr: u64, source: &[u8]) {
+        self.writes = self.writes.wrapping_add(1);
+        self.memory.write_at(addr, source);
+    }
+
+    fn clear(&mut self) {
+        self.memory.clear();
+    }
+}
+
+#[test]
+fn boxes_of_any_kind_serve(rt: HostRuntime) -> Result<(), Fail> {
+    let steps: [&[Step]; 2] = [
+        RECEIVING,
+        &[
+            W(0x1028, 0x4200_0000),
+            Wire(TAGGED, 7, 60, 1),
+            Get(
+                0x1000,
+                &[0, 0, 0, 0, 0, 0, 0, 0, 0x0B, 0, 0, 0, 0x38, 0, 0x64, 0],
+            ),
+            Get(0x4000, &[2, 0, 0, 0, 0, 3, 2, 0, 0, 0, 0, 0x99, 8, 0, 7, 7]),
+        ],
+    ];
+    let flat = FlatMem::new(rt.alloc(), 65_536)?;
+    let flat: Box<dyn GuestMem + Send> = Box::new(rt.alloc(), flat)?;
+    do_steps_over(&rt, rt.alloc(), flat, steps)?;
+    let counting = CountingMem {
+        memory: FlatMem::new(rt.alloc(), 65_536)?,
+        writes: 0,
+    };
+    let counting: Box<dyn GuestMem + Send> = Box::new(rt.alloc(), counting)?;
+    do_steps_over(&rt, rt.alloc(), counting, steps)
+}

@@ -1,0 +1,139 @@
+//! Values from outside: the limits of a memory's size, and the bytes of words.
+use guest_memory::*;
+use std::alloc::Global;
+use std::test::Fail;
+use test_support::all_room;
+use wire_frame::Fault;
+
+mod pages;
+
+#[test]
+fn makes_memories_within_limits(rt: HostRuntime) {
+    for (size, fault) in [
+        (0, Some(Fault::BadMake)),
+        (3968, Some(Fault::BadMake)),
+        (4096, None),
+        (4097, Some(Fault::BadMake)),
+        (4160, Some(Fault::BadMake)),
+        (65_536, None),
+        (16_777_216, None),
+        (16_777_344, Some(Fault::BadMake)),
+        (u64::MAX, Some(Fault::BadMake)),
+    ] {
+        assert_eq!(rt; FlatMem::new(rt.alloc(), size).err(), fault, "{size} bytes");
+    }
+}
+
+#[test]
+fn reads_what_was_written(rt: HostRuntime) -> Result<(), Fail> {
+    let mut memory = FlatMem::new(rt.alloc(), 4096)?;
+    assert_eq!(rt; memory.size(), 4096);
+    write_words(&mut memory, 4080, 0x1000, 0x3C_0000_0003);
+    let mut last = [0u8; 16];
+    read_bytes(&memory, 4080, &mut last);
+    let bytes = [0, 0x10, 0, 0, 0, 0, 0, 0, 3, 0, 0, 0, 0x3C, 0, 0, 0];
+    assert_eq!(rt; last, bytes);
+    assert_eq!(rt; read_word(&memory, 4088), 0x3C_0000_0003);
+    assert_eq!(rt; read_words(&memory, 4080), (0x1000, 0x3C_0000_0003));
+    write_word(&mut memory, 4080, 0x0102_0304_0506_0708);
+    write_bytes(&mut memory, 4081, &[0xAA, 0xBB]);
+    assert_eq!(rt; read_word(&memory, 4080), 0x0102_0304_05BB_AA08);
+    memory.clear();
+    assert_eq!(rt; read_words(&memory, 4080), (0, 0));
+    Ok(())
+}
+
+// Eight bytes of a memory of 64 KiB, read over bytes that are not zero.
+pub fn eight<M: GuestMem>(memory: &M, addr: u64) -> [u8; 8] {
+    let mut bytes = [0xFFu8; 8];
+    if memory.size() == 65_536 && addr <= 65_528 {
+        read_bytes(memory, addr, &mut bytes);
+    }
+    bytes
+}
+
+#[test]
+fn has_zeros_where_nothing_was_written(rt: HostRuntime) -> Result<(), Fail> {
+    let mut memory = FlatMem::new(rt.alloc(), 65_536)?;
+    assert_eq!(rt; memory.size(), 65_536);
+    assert_eq!(rt; eight(&memory, 0), [0; 8]);
+    // A write high up: before its bytes, over both of its ends, past them, and at the end of the memory.
+    write_bytes(&mut memory, 0x8004, &[1, 2, 3, 4]);
+    assert_eq!(rt; eight(&memory, 0x7FFC), [0; 8]);
+    assert_eq!(rt; eight(&memory, 0x8000), [0, 0, 0, 0, 1, 2, 3, 4]);
+    assert_eq!(rt; eight(&memory, 0x8006), [3, 4, 0, 0, 0, 0, 0, 0]);
+    assert_eq!(rt; eight(&memory, 0x8008), [0; 8]);
+    assert_eq!(rt; eight(&memory, 65_528), [0; 8]);
+    // A write that begins among its bytes and goes on past them, and one that lies within.
+    write_bytes(&mut memory, 0x8006, &[5, 6, 7]);
+    write_bytes(&mut memory, 0x8005, &[9]);
+    assert_eq!(rt; eight(&memory, 0x8002), [0, 0, 1, 9, 5, 6, 7, 0]);
+    memory.clear();
+    assert_eq!(rt; memory.size(), 65_536);
+    assert_eq!(rt; eight(&memory, 0x8004), [0; 8]);
+    // What was there before does not come back in the gap below a later write.
+    write_bytes(&mut memory, 65_535, &[8]);
+    assert_eq!(rt; eight(&memory, 0x8004), [0; 8]);
+    assert_eq!(rt; eight(&memory, 65_528), [0, 0, 0, 0, 0, 0, 0, 8]);
+    Ok(())
+}
+
+#[test]
+fn has_zeros_below_the_first_write(rt: HostRuntime) -> Result<(), Fail> {
+    let mut memory = FlatMem::new(rt.alloc(), 65_536)?;
+    assert_eq!(rt; memory.size(), 65_536);
+    // A write of nothing leaves zeros, wherever it is.
+    write_bytes(&mut memory, 0xA004, &[]);
+    assert_eq!(rt; eight(&memory, 0xA000), [0; 8]);
+    // Two bytes high up: below them, over each of their ends, over both, and above them.
+    write_bytes(&mut memory, 0x9003, &[1, 2]);
+    assert_eq!(rt; eight(&memory, 0x8FFB), [0; 8]);
+    assert_eq!(rt; eight(&memory, 0x8FFC), [0, 0, 0, 0, 0, 0, 0, 1]);
+    assert_eq!(rt; eight(&memory, 0x9000), [0, 0, 0, 1, 2, 0, 0, 0]);
+    assert_eq!(rt; eight(&memory, 0x9004), [2, 0, 0, 0, 0, 0, 0, 0]);
+    assert_eq!(rt; eight(&memory, 0x9005), [0; 8]);
+    // Far below them, then also between the two.
+    write_bytes(&mut memory, 0x10, &[3]);
+    write_bytes(&mut memory, 0x8000, &[4]);
+    write_bytes(&mut memory, 0x7000, &[]);
+    assert_eq!(rt; eight(&memory, 0x0C), [0, 0, 0, 0, 3, 0, 0, 0]);
+    assert_eq!(rt; eight(&memory, 0x7FFC), [0, 0, 0, 0, 4, 0, 0, 0]);
+    assert_eq!(rt; eight(&memory, 0x9000), [0, 0, 0, 1, 2, 0, 0, 0]);
+    memory.clear();
+    assert_eq!(rt; memory.size(), 65_536);
+    assert_eq!(rt; eight(&memory, 0x0C), [0; 8]);
+    assert_eq!(rt; eight(&memory, 0x9000), [0; 8]);
+    // From just below them over the first of them.
+    write_bytes(&mut memory, 0x9003, &[1, 2]);
+    write_bytes(&mut memory, 0x9001, &[5, 6, 7]);
+    assert_eq!(rt; eight(&memory, 0x9000), [0, 5, 6, 7, 2, 0, 0, 0]);
+    assert_eq!(rt; eight(&memory, 0x0C), [0; 8]);
+    Ok(())
+}
+
+// Sets the first word, by whatever memory it is; what the memory then holds there.
+fn first_word<M: GuestMem>(mut memory: M) -> Option<u64> {
+    if memory.size() < 8 {
+        return None;
+    }
+    memory.clear();
+    write_word(&mut memory, 0, 7);
+    Some(read_word(&memory, 0))
+}
+
+#[test]
+fn boxes_are_memories(rt: HostRuntime) -> Result<(), Fail> {
+    let boxed: Box<dyn GuestMem + Send> = Box::new(rt.alloc(), FlatMem::new(rt.alloc(), 4096)?)?;
+    assert_eq!(rt; first_word(boxed), Some(7));
+    Ok(())
+}
+
+#[test]
+fn tells_of_refused_memory(rt: HostRuntime) -> Result<(), Fail> {
+    let taken = all_room(rt.alloc()).ok_or("the heap does not run out")?;
+    assert_eq!(rt; FlatMem::new(rt.alloc(), 4096).err(), Some(Fault::NoMemory));
+    assert_eq!(rt; FlatMem::new(rt.alloc(), 4097).err(), Some(Fault::BadMake));
+    drop(taken);
+    assert!(rt; FlatMem::new(rt.alloc(), 4096).is_ok());
+    Ok(())
+}

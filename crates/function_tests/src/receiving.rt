@@ -1,0 +1,399 @@
+//! Frames in rings as drivers lay them out. What the guest finds afterwards was worked out by hand from the datasheet's
+//! advanced receive descriptors. Their second word, written back, has done in bit 0, the end of the frame in bit 1, a
+//! stripped tag in bit 3, loopback in bit 18, the length from bit 32 on and the tag control from bit 48 on.
+ghost use Rattle.std.specs.Prelude.{◌≡◌, ◌+◌, ◌≤◌, length, IfOk};
+ghost use Rattle.rings.specs.Ring.{LiesInside};
+
+use guest_memory::{FlatMem, GuestMem, read_bytes, read_word, write_word};
+use rings::{Ring, RingRegister};
+use rx_desc::laws::pieces_are_the_only_cut;
+use rx_desc::{Placed, RxConfig, place};
+use std::alloc::Global;
+use std::process::Abort;
+use std::test::Fail;
+use wire_frame::{Fault, FrameBuf};
+
+/// The size of the memory.
+const SIZE: u64 = 0x1_0000;
+/// Where the ring stands.
+const RING: u64 = 0x1000;
+/// Where the first buffer stands.
+const FIRST: u64 = 0x4000;
+/// Where the second buffer stands.
+const SECOND: u64 = 0x5000;
+
+/// The addresses and the type of an untagged frame.
+const PLAIN: [u8; 18] = [
+    2, 0, 0, 0, 0, 3, 2, 0, 0, 0, 0, 0x99, 8, 0, 0xAA, 0xAA, 0xAA, 0xAA,
+];
+/// The same frame with tag control 100.
+const TAGGED: [u8; 18] = [2, 0, 0, 0, 0, 3, 2, 0, 0, 0, 0, 0x99, 0x81, 0, 0, 100, 8, 0];
+/// An untagged frame that begins with the bytes of an address, 0x6000, as a descriptor holds it.
+const MISLEADING: [u8; 18] = [
+    0, 0x60, 0, 0, 0, 0, 0, 0, 0, 0, 0, 0x99, 8, 0, 0xAA, 0xAA, 0xAA, 0xAA,
+];
+
+/// A queue where tags stay.
+const KEEP: bool = false;
+/// A queue where tags are stripped.
+const STRIP: bool = true;
+
+/// A queue of buffers of 1 KiB.
+fn queue(strip_tag: bool) -> RxConfig
+    ensures { result.buffer_size ≡ 1024 }
+{
+    RxConfig {
+        buffer_size: 1024,
+        strip_tag,
+    }
+}
+
+/// The frame of up to 9018 bytes that begins so, with bytes 0xAA after that.
+fn frame_of(start: [u8; 18], len: usize) -> Result<FrameBuf, Fault> {
+    let mut bytes = [0xAA; 9018];
+    bytes[..18].copy_from_slice(&start);
+    FrameBuf::from_bytes(&bytes[..len.min(9018)])
+}
+
+/// A ring of so many descriptors that is on, of which the device owns those from the head up to the tail.
+fn ring_of(count: u16, head: u32, tail: u32) -> Ring
+    ensures { LiesInside 65536 result }
+{
+    ring_at(RING as u32, count, head, tail)
+}
+
+/// The same, from another address on.
+fn ring_at(base: u32, count: u16, head: u32, tail: u32) -> Ring
+    ensures { LiesInside 65536 result }
+{
+    let mut ring = Ring::new();
+    ring.write(RingRegister::BaseLow, base);
+    ring.write(RingRegister::Length, 16 * u32::from(count));
+    ring.write(RingRegister::Head, head);
+    ring.write(RingRegister::Tail, tail);
+    ring.try_enable(SIZE);
+    ring
+}
+
+/// Where the descriptor of a ring of eight stands that comes so many after the first.
+fn descriptor(number: u32) -> u64
+    ensures { result + 16 ≤ 65536 }
+{
+    RING + 16 * u64::from(number % 8)
+}
+
+/// A memory with the two buffers' addresses in the descriptor of that number and in the one after it.
+fn memory_of(
+    rt: &impl Abort,
+    alloc: Global,
+    number: u32,
+    first: u64,
+    second: u64,
+) -> Result<FlatMem, Fault>
+    ensures { IfOk result (λ m. length m ≡ 65536) }
+{
+    let mut memory = FlatMem::new(alloc, SIZE)?;
+    assert_eq!(rt; memory.size(), 65536);
+    write_word(&mut memory, descriptor(number), first);
+    write_word(&mut memory, descriptor(number % 8 + 1), second);
+    Ok(memory)
+}
+
+/// All bytes of a memory.
+fn image(alloc: Global, memory: &FlatMem) -> Result<Vec<u8>, Fail>
+    requires { length memory.now ≡ 65536 }
+{
+    let mut bytes = vec![in alloc; 0; 65536]?;
+    read_bytes(memory, 0, bytes.as_mut_slice());
+    Ok(bytes)
+}
+
+/// A frame of 1518 bytes in two pieces, the first of them in the last descriptor of eight. The tail and where the second
+/// buffer stands; then the outcome, the second words of both descriptors, and the head.
+#[test]
+fn two_pieces(rt: HostRuntime) -> Result<(), Fail> {
+    use Placed::{Faulted, NoRoom, Put};
+    for (tail, second, placed, word, next_word, head) in [
+        (1, SECOND, Put, 0x0400_0000_0001, 0x01EE_0000_0003, 1),
+        // one descriptor too few
+        (0, SECOND, NoRoom, 0, 0, 7),
+        // the second piece ends with the memory, one byte past it, and past all addresses
+        (1, 0xFE12, Put, 0x0400_0000_0001, 0x01EE_0000_0003, 1),
+        (1, 0xFE13, Faulted, 0, 0, 7),
+        (1, u64::MAX, Faulted, 0, 0, 7),
+    ] {
+        let mut ring = ring_of(8, 7, tail);
+        let mut memory = memory_of(&rt, rt.alloc(), 7, FIRST, second)?;
+        let before = image(rt.alloc(), &memory)?;
+        let frame = frame_of(PLAIN, 1518)?;
+        let outcome = place(&mut memory, &mut ring, &queue(KEEP), &frame, false);
+        assert_eq!(rt; outcome, placed, "{tail}, {second:x}");
+        assert_eq!(rt; ring.is_enabled(), placed != Faulted, "{tail}, {second:x}");
+        assert_eq!(rt; ring.read(RingRegister::Head), head, "{tail}, {second:x}");
+        assert_eq!(rt; ring.read(RingRegister::Tail), tail, "{tail}, {second:x}");
+        assert_eq!(rt; memory.size(), 65536);
+        assert_eq!(rt; read_word(&memory, 0x1078), word, "{tail}, {second:x}");
+        assert_eq!(rt; read_word(&memory, 0x1008), next_word, "{tail}, {second:x}");
+        let same = image(rt.alloc(), &memory)?.as_slice() == before.as_slice();
+        assert_eq!(rt; same, placed != Put, "{tail}, {second:x}");
+    }
+    Ok(())
+}
+
+/// Whether tags are stripped, how the frame begins, its length and whether another pool sent it; then the second words of
+/// the first two descriptors, and the head.
+#[test]
+fn written_back(rt: HostRuntime) -> Result<(), Fail> {
+    for (strip, start, len, loopback, word, next_word, head) in [
+        // a buffer that is just filled, and one byte more
+        (KEEP, PLAIN, 1024, false, 0x0400_0000_0003, 0, 1),
+        (
+            KEEP,
+            PLAIN,
+            1025,
+            false,
+            0x0400_0000_0001,
+            0x0001_0000_0003,
+            2,
+        ),
+        // a tag that is stripped, one that stays, and none; on two pieces the last one tells of it
+        (STRIP, TAGGED, 60, false, 0x0064_0038_0000_000B, 0, 1),
+        (KEEP, TAGGED, 60, false, 0x003C_0000_0003, 0, 1),
+        (STRIP, PLAIN, 60, false, 0x003C_0000_0003, 0, 1),
+        (
+            STRIP,
+            TAGGED,
+            1518,
+            false,
+            0x0400_0000_0001,
+            0x0064_01EA_0000_000B,
+            2,
+        ),
+        // loopback, which every piece tells of
+        (KEEP, PLAIN, 60, true, 0x003C_0004_0003, 0, 1),
+        (
+            KEEP,
+            PLAIN,
+            1518,
+            true,
+            0x0400_0004_0001,
+            0x01EE_0004_0003,
+            2,
+        ),
+    ] {
+        let mut ring = ring_of(8, 0, 7);
+        let mut memory = memory_of(&rt, rt.alloc(), 0, FIRST, SECOND)?;
+        let frame = frame_of(start, len)?;
+        let outcome = place(&mut memory, &mut ring, &queue(strip), &frame, loopback);
+        assert_eq!(rt; outcome, Placed::Put, "{len} bytes");
+        assert_eq!(rt; ring.read(RingRegister::Head), head, "{len} bytes");
+        assert_eq!(rt; memory.size(), 65536);
+        assert_eq!(rt; read_word(&memory, 0x1008), word, "{len} bytes");
+        assert_eq!(rt; read_word(&memory, 0x1018), next_word, "{len} bytes");
+    }
+    Ok(())
+}
+
+/// Where the buffers of the first two descriptors stand, the queue, how the frame begins and its length; then words of
+/// the memory, by their addresses.
+#[test]
+fn bytes_in_memory(rt: HostRuntime) -> Result<(), Fail> {
+    let filled = 0xAAAA_AAAA_AAAA_AAAA;
+    let rows = [
+        // two pieces: nothing stands behind the second
+        (
+            (FIRST, SECOND, KEEP, PLAIN, 1518),
+            [
+                (0x4008, 0xAAAA_0008_9900_0000),
+                (0x43F8, filled),
+                (0x4400, 0),
+                (0x5000, filled),
+                (0x51E8, 0x0000_AAAA_AAAA_AAAA),
+                (0x51F0, 0),
+            ],
+        ),
+        // without its tag, and with it
+        (
+            (FIRST, SECOND, STRIP, TAGGED, 60),
+            [
+                (0x4000, 0x0002_0300_0000_0002),
+                (0x4008, 0xAAAA_0008_9900_0000),
+                (0x4010, filled),
+                (0x4030, filled),
+                (0x4038, 0),
+                (0x5000, 0),
+            ],
+        ),
+        (
+            (FIRST, SECOND, KEEP, TAGGED, 60),
+            [
+                (0x4000, 0x0002_0300_0000_0002),
+                (0x4008, 0x6400_0081_9900_0000),
+                (0x4010, 0xAAAA_AAAA_AAAA_0008),
+                (0x4030, filled),
+                (0x4038, 0xAAAA_AAAA),
+                (0x4040, 0),
+            ],
+        ),
+        // the ring is the buffer: it is written back over the frame
+        (
+            (RING, SECOND, KEEP, PLAIN, 60),
+            [
+                (0x1000, 0),
+                (0x1008, 0x003C_0000_0003),
+                (0x1010, filled),
+                (0x1030, filled),
+                (0x1038, 0xAAAA_AAAA),
+                (0x1040, 0),
+            ],
+        ),
+        // the first piece goes over the second descriptor, which was read before: it leads nothing to 0x6000
+        (
+            (0x1010, SECOND, KEEP, MISLEADING, 1518),
+            [
+                (0x1008, 0x0400_0000_0001),
+                (0x1010, 0),
+                (0x1018, 0x01EE_0000_0003),
+                (0x1020, filled),
+                (0x5000, filled),
+                (0x6000, 0),
+            ],
+        ),
+    ];
+    for ((first, second, strip, start, len), words) in rows {
+        let mut ring = ring_of(8, 0, 2);
+        let mut memory = memory_of(&rt, rt.alloc(), 0, first, second)?;
+        let frame = frame_of(start, len)?;
+        let outcome = place(&mut memory, &mut ring, &queue(strip), &frame, false);
+        assert_eq!(rt; outcome, Placed::Put, "{first:x}");
+        for (at, word) in words {
+            assert_eq!(rt; memory.size(), 65536);
+            assert!(rt; at <= SIZE - 8);
+            assert_eq!(rt; read_word(&memory, at), word, "{first:x}, {at:x}");
+        }
+    }
+    Ok(())
+}
+
+/// A frame of 9018 bytes is nine pieces: eight of 1024 bytes, and one of 826. With eight
+/// descriptors it is not begun.
+#[test]
+fn nine_pieces(rt: HostRuntime) -> Result<(), Fail> {
+    pieces_are_the_only_cut();
+    for (tail, placed, word, last_word, head) in [
+        (9, Placed::Put, 0x0400_0000_0001, 0x033A_0000_0003, 9),
+        (8, Placed::NoRoom, 0, 0, 0),
+    ] {
+        let mut ring = ring_of(16, 0, tail);
+        let mut memory = FlatMem::new(rt.alloc(), SIZE)?;
+        for i in 0..9 {
+            assert_eq!(rt; memory.size(), 65536);
+            write_word(&mut memory, RING + 16 * i, FIRST + 1024 * i);
+        }
+        assert_eq!(rt; memory.size(), 65536);
+        let frame = frame_of(PLAIN, 9018)?;
+        let outcome = place(&mut memory, &mut ring, &queue(KEEP), &frame, false);
+        assert_eq!(rt; outcome, placed);
+        assert_eq!(rt; memory.size(), 65536);
+        for i in 0..8 {
+            assert_eq!(rt; read_word(&memory, RING + 16 * i + 8), word, "piece {i}");
+        }
+        assert_eq!(rt; read_word(&memory, RING + 16 * 8 + 8), last_word);
+        assert_eq!(rt; ring.read(RingRegister::Head), head);
+    }
+    Ok(())
+}
+
+/// A queue that is off takes nothing, whatever the size of its buffers is set to.
+#[test]
+fn takes_nothing_while_off(rt: HostRuntime) -> Result<(), Fail> {
+    for buffer_size in [0, 1024] {
+        let mut ring = ring_of(8, 0, 7);
+        ring.disable();
+        let mut memory = memory_of(&rt, rt.alloc(), 0, FIRST, SECOND)?;
+        let config = RxConfig {
+            buffer_size,
+            strip_tag: false,
+        };
+        let frame = frame_of(PLAIN, 60)?;
+        let outcome = place(&mut memory, &mut ring, &config, &frame, false);
+        assert_eq!(rt; outcome, Placed::NoRoom, "{buffer_size}");
+        assert_eq!(rt; memory.size(), 65536);
+        assert_eq!(rt; read_word(&memory, RING + 8), 0, "{buffer_size}");
+        assert_eq!(rt; read_word(&memory, FIRST), 0, "{buffer_size}");
+        assert_eq!(rt; ring.read(RingRegister::Head), 0, "{buffer_size}");
+    }
+    Ok(())
+}
+
+/// Where the ring begins, how many descriptors it has and its head; where the descriptor at the head and its buffer stand, at
+/// the borders of pages of 4096 bytes and of the memory; and the next head. The frame has 60 bytes.
+#[test]
+fn page_borders(rt: HostRuntime) -> Result<(), Fail> {
+    for (base, count, head, at, buffer, next) in [
+        // the ring and the frame end with a page
+        (0x1F80, 8, 7, 0x1FF0, 0x4FC4, 0),
+        // both go over a border, the ring before this descriptor
+        (0x1F80, 16, 8, 0x2000, 0x4FE0, 9),
+        // both begin a page
+        (0x2000, 8, 0, 0x2000, 0x5000, 1),
+        // the ring ends with the memory; of the frame one byte stands on this side of a border, and one on that side
+        (0xFF80, 8, 7, 0xFFF0, 0x4FFF, 0),
+        (0xFF80, 8, 6, 0xFFE0, 0x4FC5, 7),
+    ] {
+        let mut memory = FlatMem::new(rt.alloc(), SIZE)?;
+        assert_eq!(rt; memory.size(), 65536);
+        assert!(rt; at <= SIZE - 16 && buffer >= 8 && buffer <= SIZE - 68);
+        write_word(&mut memory, at, buffer);
+        let frame = frame_of(PLAIN, 60)?;
+        assert_eq!(rt; memory.size(), 65536);
+        let mut ring = ring_at(base, count, head, next);
+        let outcome = place(&mut memory, &mut ring, &queue(KEEP), &frame, false);
+        assert_eq!(rt; outcome, Placed::Put, "{buffer:x}");
+        assert_eq!(rt; ring.read(RingRegister::Head), next, "{buffer:x}");
+        assert_eq!(rt; memory.size(), 65536);
+        for (place, word) in [
+            (at, 0),
+            (at + 8, 0x003C_0000_0003),
+            (buffer - 8, 0),
+            (buffer, 0x0002_0300_0000_0002),
+            (buffer + 52, 0xAAAA_AAAA_AAAA_AAAA),
+            (buffer + 60, 0),
+        ] {
+            assert!(rt; place <= SIZE - 8);
+            assert_eq!(rt; read_word(&memory, place), word, "{buffer:x}, {place:x}");
+        }
+    }
+    Ok(())
+}
+
+/// Two pieces, of which each goes over a border of pages, by descriptors on both sides of one.
+#[test]
+fn pieces_over_page_borders(rt: HostRuntime) -> Result<(), Fail> {
+    let mut ring = ring_at(0x1F80, 16, 7, 9);
+    let mut memory = FlatMem::new(rt.alloc(), SIZE)?;
+    assert_eq!(rt; memory.size(), 65536);
+    write_word(&mut memory, 0x1FF0, 0x4E00);
+    write_word(&mut memory, 0x2000, 0x5FFF);
+    let frame = frame_of(PLAIN, 1518)?;
+    let outcome = place(&mut memory, &mut ring, &queue(KEEP), &frame, false);
+    assert_eq!(rt; outcome, Placed::Put);
+    assert_eq!(rt; ring.read(RingRegister::Head), 9);
+    assert_eq!(rt; memory.size(), 65536);
+    for (place, word) in [
+        (0x1FF8, 0x0400_0000_0001),
+        (0x2008, 0x01EE_0000_0003),
+        (0x4E00, 0x0002_0300_0000_0002),
+        (0x4FFC, 0xAAAA_AAAA_AAAA_AAAA),
+        (0x51F8, 0xAAAA_AAAA_AAAA_AAAA),
+        (0x5200, 0),
+        (0x5FF7, 0),
+        (0x5FFF, 0xAAAA_AAAA_AAAA_AAAA),
+        (0x61E5, 0xAAAA_AAAA_AAAA_AAAA),
+        (0x61ED, 0),
+    ] {
+        assert!(rt; place <= SIZE - 8);
+        assert_eq!(rt; read_word(&memory, place), word, "{place:x}");
+    }
+    Ok(())
+}

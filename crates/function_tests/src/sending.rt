@@ -1,0 +1,349 @@
+//! Descriptors as a driver writes them, and what then comes of them: words, frames and outcomes are worked out by hand from
+//! the datasheet's descriptor formats and the rules of port VLANs.
+ghost use Rattle.std.specs.Prelude.{◌≡◌, length, IfOk};
+ghost use Rattle.rings.specs.Ring.{LiesInside};
+
+use guest_memory::{FlatMem, GuestMem, read_word, write_bytes, write_words};
+use rings::{Ring, RingRegister};
+use std::alloc::Global;
+use std::iter;
+use std::process::Abort;
+use std::test::Fail;
+use tx_desc::{Fetched, Pending, Progress, fetch, fetch_into};
+use wire_frame::{Fault, FrameBuf, FrameLimit, PortVlan};
+
+/// The size of the memory.
+const SIZE: u64 = 0x1_0000;
+/// Where the ring of eight descriptors stands.
+const RING: u64 = 0x1000;
+/// Where the bytes of a frame stand.
+const FIRST: u64 = 0x6000;
+/// Where those of a second descriptor do.
+const SECOND: u64 = 0x7000;
+
+/// The addresses and the type of an untagged frame; zeros follow, here and in memory.
+const PLAIN: [u8; 18] = [2, 0, 0, 0, 0, 4, 2, 0, 0, 0, 0, 0x99, 8, 0, 0, 0, 0, 0];
+/// The same frame with tag control 5.
+const TAGGED_5: [u8; 18] = [2, 0, 0, 0, 0, 4, 2, 0, 0, 0, 0, 0x99, 0x81, 0, 0, 5, 8, 0];
+/// The same frame with tag control 100.
+const TAGGED_100: [u8; 18] = [2, 0, 0, 0, 0, 4, 2, 0, 0, 0, 0, 0x99, 0x81, 0, 0, 100, 8, 0];
+/// Nothing but zeros.
+const ZEROS: [u8; 18] = [0; 18];
+
+/// Whether the frame has `len` bytes: those of `start`, and zeros after them.
+fn is_padded(frame: &FrameBuf, start: [u8; 18], len: usize) -> bool {
+    let bytes = frame.bytes();
+    let mut expected = start.iter().chain(iter::repeat(&0));
+    bytes.len() == len && bytes.iter().all(|byte| expected.next() == Some(byte))
+}
+
+/// A memory with the bytes at [`FIRST`], and a first descriptor of the two words.
+fn memory_of(
+    rt: &impl Abort,
+    alloc: Global,
+    bytes: [u8; 18],
+    buffer: u64,
+    word: u64,
+) -> Result<FlatMem, Fault>
+    ensures { IfOk result (λ m. length m ≡ 65536) }
+{
+    let mut memory = FlatMem::new(alloc, SIZE)?;
+    assert_eq!(rt; memory.size(), 65536);
+    write_bytes(&mut memory, FIRST, &bytes);
+    write_words(&mut memory, RING, buffer, word);
+    Ok(memory)
+}
+
+/// A ring of eight descriptors that is on, of which the device owns the first `tail`.
+fn ring_of(tail: u32) -> Ring
+    ensures { LiesInside 65536 result }
+{
+    ring_at(RING as u32, 0, tail)
+}
+
+/// The same, from another address on and from another head.
+fn ring_at(base: u32, head: u32, tail: u32) -> Ring
+    ensures { LiesInside 65536 result }
+{
+    let mut ring = Ring::new();
+    ring.write(RingRegister::BaseLow, base);
+    ring.write(RingRegister::Length, 128);
+    ring.write(RingRegister::Head, head);
+    ring.set_tail(tail);
+    ring.try_enable(SIZE);
+    ring
+}
+
+/// The address and the second word of a lone descriptor; then the outcome, the second word afterwards, and the head.
+#[test]
+fn kinds_of_descriptors(rt: HostRuntime) -> Result<(), Fail> {
+    use Progress::{Dropped, Ended, Faulted, More};
+    let rows = [
+        // advanced data; legacy, where bit 31 means nothing; without RS; without EOP
+        (FIRST, 0x2930_003C, Ended, 0x1_2930_003C, 1),
+        (FIRST, 0x8900_003C, Ended, 0x1_8900_003C, 1),
+        (FIRST, 0x0100_003C, Ended, 0x0100_003C, 1),
+        (FIRST, 0x2830_003C, More, 0x1_2830_003C, 1),
+        // bytes past the end of the memory; no bytes, at the end and past it
+        (u64::MAX, 0x2930_003C, Faulted, 0x2930_003C, 0),
+        (SIZE, 0x2930_0000, Dropped, 0x1_2930_0000, 1),
+        (SIZE + 1, 0x2930_0000, Faulted, 0x2930_0000, 0),
+        // an unknown type; TSE; VLE; a context, which no RS reports
+        (FIRST, 0x2910_003C, Faulted, 0x2910_003C, 0),
+        (FIRST, 0xA930_003C, Faulted, 0xA930_003C, 0),
+        (FIRST, 0x6930_003C, Faulted, 0x6930_003C, 0),
+        (FIRST, 0x2920_003C, More, 0x2920_003C, 1),
+    ];
+    for (buffer, word, outcome, word_after, head) in rows {
+        let mut memory = memory_of(&rt, rt.alloc(), PLAIN, buffer, word)?;
+        let mut ring = ring_of(1);
+        let mut pending = Pending::new(rt.alloc())?;
+        let mut frame = FrameBuf::blank();
+        let rule = PortVlan::Descriptor;
+        let limit = FrameLimit::standard();
+        let served = fetch_into(
+            &mut memory,
+            &mut ring,
+            &mut pending,
+            &mut frame,
+            rule,
+            limit,
+        );
+        assert_eq!(rt; served.outcome, outcome, "{buffer:x} {word:x}");
+        assert_eq!(rt; served.reported, word_after != word, "{buffer:x} {word:x}");
+        assert_eq!(rt; memory.size(), 65536);
+        assert_eq!(rt;
+            read_word(&memory, RING + 8),
+            word_after,
+            "{buffer:x} {word:x}"
+        );
+        assert_eq!(rt; ring.read(RingRegister::Head), head, "{buffer:x} {word:x}");
+        assert_eq!(rt;
+            ring.is_enabled(),
+            outcome != Faulted,
+            "{buffer:x} {word:x}"
+        );
+    }
+    Ok(())
+}
+
+/// The second word of a lone descriptor, its bytes and the port's rule; then how the frame that is sent begins, and its
+/// length, 0 where it is dropped.
+#[test]
+fn frames_under_port_rules(rt: HostRuntime) -> Result<(), Fail> {
+    use PortVlan::{Always, Descriptor, Never};
+    let rows = [
+        (0x2930_003C, PLAIN, Descriptor, PLAIN, 60),
+        (0x5_0000_4900_003C, PLAIN, Descriptor, TAGGED_5, 64),
+        (0x2930_003C, PLAIN, Always(100), TAGGED_100, 64),
+        (0x5_0000_4900_003C, PLAIN, Always(100), TAGGED_100, 64),
+        (0x5_0000_4900_003C, PLAIN, Never, PLAIN, 60),
+        (0x2930_0040, TAGGED_5, Always(100), ZEROS, 0),
+        // a tag makes 1514 bytes a longest frame, and 1515 none
+        (0x2930_05EA, PLAIN, Always(100), TAGGED_100, 1518),
+        (0x2930_05EB, PLAIN, Always(100), ZEROS, 0),
+    ];
+    for (word, bytes, rule, start, len) in rows {
+        let mut memory = memory_of(&rt, rt.alloc(), bytes, FIRST, word)?;
+        let mut ring = ring_of(1);
+        let mut pending = Pending::new(rt.alloc())?;
+        let limit = FrameLimit::standard();
+        match fetch(&mut memory, &mut ring, &mut pending, rule, limit) {
+            (Fetched::Frame(frame), true) => assert!(rt;
+                is_padded(&frame, start, len),
+                "{rule:?} {word:x}"
+            ),
+            (Fetched::Dropped, true) => assert_eq!(rt; len, 0, "{rule:?} {word:x}"),
+            _ => assert!(rt; false, "{rule:?} {word:x}"),
+        }
+    }
+    Ok(())
+}
+
+/// A descriptor may name its own 16 bytes: they are sent as the driver wrote them.
+#[test]
+fn a_descriptor_sends_itself(rt: HostRuntime) -> Result<(), Fail> {
+    let mut memory = memory_of(&rt, rt.alloc(), ZEROS, RING, 0x2930_0010)?;
+    let mut ring = ring_of(1);
+    let mut pending = Pending::new(rt.alloc())?;
+    let mut frame = FrameBuf::blank();
+    let rule = PortVlan::Descriptor;
+    let limit = FrameLimit::standard();
+    let served = fetch_into(
+        &mut memory,
+        &mut ring,
+        &mut pending,
+        &mut frame,
+        rule,
+        limit,
+    );
+    assert_eq!(rt; served.outcome, Progress::Ended);
+    let expected = [0, 0x10, 0, 0, 0, 0, 0, 0, 0x10, 0, 0x30, 0x29, 0, 0, 0, 0];
+    assert_eq!(rt; frame.bytes(), expected.as_slice());
+    assert_eq!(rt; memory.size(), 65536);
+    assert_eq!(rt; read_word(&memory, RING + 8), 0x1_2930_0010);
+    Ok(())
+}
+
+/// Two advanced descriptors of 1000 and 600 bytes are too many for a limit of 1518, and a frame under one of 9018. A third
+/// call finds no descriptor.
+#[test]
+fn two_descriptors(rt: HostRuntime) -> Result<(), Fail> {
+    for (most, len) in [(1518, None), (9018, Some(1600))] {
+        let limit = FrameLimit::new(most).ok_or("no limit")?;
+        let rule = PortVlan::Descriptor;
+        let mut memory = memory_of(&rt, rt.alloc(), PLAIN, FIRST, 0x2830_03E8)?;
+        write_words(&mut memory, RING + 16, SECOND, 0x2930_0258);
+        let mut ring = ring_of(2);
+        let mut pending = Pending::new(rt.alloc())?;
+        let (first, reported) = fetch(&mut memory, &mut ring, &mut pending, rule, limit);
+        assert_eq!(rt; (first, reported), (Fetched::More, true), "under {most}");
+        let (second, reported) = fetch(&mut memory, &mut ring, &mut pending, rule, limit);
+        assert!(rt; reported, "under {most}");
+        match (second, len) {
+            (Fetched::Frame(frame), Some(len)) => assert!(rt; is_padded(&frame, PLAIN, len)),
+            (Fetched::Dropped, None) => {}
+            _ => assert!(rt; false, "under {most}"),
+        }
+        let (third, reported) = fetch(&mut memory, &mut ring, &mut pending, rule, limit);
+        assert_eq!(rt; (third, reported), (Fetched::Idle, false), "under {most}");
+    }
+    Ok(())
+}
+
+/// A tag in a descriptor that is not the last one of its frame is not looked at; and a pending frame that is forgotten
+/// gives no bytes to the next one.
+#[test]
+fn pending_bytes(rt: HostRuntime) -> Result<(), Fail> {
+    for (is_forgotten, start, len) in [(false, PLAIN, 74), (true, ZEROS, 14)] {
+        let limit = FrameLimit::standard();
+        let mut memory = memory_of(&rt, rt.alloc(), PLAIN, FIRST, 0x5_0000_4800_003C)?;
+        write_words(&mut memory, RING + 16, SECOND, 0x0900_000E);
+        let mut ring = ring_of(2);
+        let mut pending = Pending::new(rt.alloc())?;
+        let mut frame = FrameBuf::blank();
+        let rule = PortVlan::Descriptor;
+        let first = fetch_into(
+            &mut memory,
+            &mut ring,
+            &mut pending,
+            &mut frame,
+            rule,
+            limit,
+        );
+        assert_eq!(rt; first.outcome, Progress::More);
+        if is_forgotten {
+            pending.clear();
+        }
+        let second = fetch_into(
+            &mut memory,
+            &mut ring,
+            &mut pending,
+            &mut frame,
+            rule,
+            limit,
+        );
+        assert_eq!(rt; second.outcome, Progress::Ended);
+        assert!(rt; is_padded(&frame, start, len), "of {len}");
+    }
+    Ok(())
+}
+
+/// Frames of two descriptors, one after another in one room: a longest one, a shorter one, a longer one again. Each has its own
+/// bytes, and none of those before it.
+#[test]
+fn frames_in_turn(rt: HostRuntime) -> Result<(), Fail> {
+    let limit = FrameLimit::new(9018).ok_or("no limit")?;
+    let rule = PortVlan::Descriptor;
+    let mut pending = Pending::new(rt.alloc())?;
+    for (first, second, byte) in [(9000u16, 18u16, 0xA5), (14, 46, 0x11), (8000, 1018, 0x22)] {
+        let mut memory = FlatMem::new(rt.alloc(), SIZE)?;
+        assert_eq!(rt; memory.size(), 65536);
+        write_bytes(&mut memory, SECOND, &[byte; 9018]);
+        write_words(&mut memory, RING, SECOND, 0x2830_0000 + u64::from(first));
+        write_words(
+            &mut memory,
+            RING + 16,
+            SECOND,
+            0x2930_0000 + u64::from(second),
+        );
+        let mut ring = ring_of(2);
+        let (more, _) = fetch(&mut memory, &mut ring, &mut pending, rule, limit);
+        assert_eq!(rt; more, Fetched::More, "of {first}");
+        let (ended, _) = fetch(&mut memory, &mut ring, &mut pending, rule, limit);
+        let Fetched::Frame(frame) = ended else {
+            return Err("no frame")?;
+        };
+        let len = usize::from(first) + usize::from(second);
+        assert_eq!(rt; frame.bytes().len(), len);
+        assert!(rt;
+            frame.bytes().iter().all(|found| *found == byte),
+            "of {first}"
+        );
+    }
+    Ok(())
+}
+
+/// Where the ring of eight begins and its head, and where the descriptor at the head and the 60 bytes of a frame stand: at the
+/// borders of pages of 4096 bytes, and of the memory. The lent frame is shorter, as long, and longer.
+#[test]
+fn page_borders(rt: HostRuntime) -> Result<(), Fail> {
+    for (base, head, at, buffer, lent) in [
+        // the ring and the bytes end with a page, or begin one
+        (0x1F80, 7, 0x1FF0, 0x5FC4, 59),
+        (0x2000, 0, 0x2000, 0x6000, 60),
+        // the ring ends with the memory, and the bytes go over a border
+        (0xFF80, 7, 0xFFF0, 0x5FE0, 61),
+        (0xFF80, 6, 0xFFE0, 0x5FFF, 64),
+        (0xFF80, 5, 0xFFD0, 0x5FC5, 64),
+    ] {
+        let mut memory = FlatMem::new(rt.alloc(), SIZE)?;
+        assert_eq!(rt; memory.size(), 65536);
+        assert!(rt; at <= SIZE - 16 && buffer <= SIZE - 18);
+        write_bytes(&mut memory, buffer, &PLAIN);
+        write_words(&mut memory, at, buffer, 0x2930_003C);
+        let mut ring = ring_at(base, head, (head + 1) % 8);
+        let mut pending = Pending::new(rt.alloc())?;
+        let other = [0xFF; 64];
+        let mut frame = FrameBuf::from_bytes(&other[..lent.min(64)])?;
+        let rule = PortVlan::Descriptor;
+        let limit = FrameLimit::standard();
+        let served = fetch_into(
+            &mut memory,
+            &mut ring,
+            &mut pending,
+            &mut frame,
+            rule,
+            limit,
+        );
+        assert_eq!(rt; served.outcome, Progress::Ended, "{buffer:x}");
+        assert!(rt; is_padded(&frame, PLAIN, 60), "{buffer:x}");
+        assert_eq!(rt; memory.size(), 65536);
+        assert_eq!(rt; read_word(&memory, at + 8), 0x1_2930_003C, "{buffer:x}");
+    }
+    Ok(())
+}
+
+/// Bytes that are no frame leave the lent one as it was: a tag with nothing behind it, and more than the limit.
+#[test]
+fn no_frame_leaves_the_lent_one(rt: HostRuntime) -> Result<(), Fail> {
+    for word in [0x2930_0011, 0x2930_05EF] {
+        let mut memory = memory_of(&rt, rt.alloc(), TAGGED_5, FIRST, word)?;
+        let mut ring = ring_of(1);
+        let mut pending = Pending::new(rt.alloc())?;
+        let mut frame = FrameBuf::from_bytes(&[0xFF; 1600])?;
+        let rule = PortVlan::Descriptor;
+        let limit = FrameLimit::standard();
+        let served = fetch_into(
+            &mut memory,
+            &mut ring,
+            &mut pending,
+            &mut frame,
+            rule,
+            limit,
+        );
+        assert_eq!(rt; served.outcome, Progress::Dropped, "{word:x}");
+        assert_eq!(rt; frame.bytes(), [0xFF; 1600].as_slice(), "{word:x}");
+    }
+    Ok(())
+}

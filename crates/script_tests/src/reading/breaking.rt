@@ -1,0 +1,132 @@
+// Readers that break at a call or do less than they are asked, and heaps that give out.
+use super::{plain, repeated};
+use script::{Fault, Script};
+use std::alloc::Global;
+use std::io;
+use std::io::{Error, ErrorKind, Read};
+use std::test::Fail;
+use test_support::all_room;
+
+// A reader of a text in parts. It fails at the call of that number, counted from 0.
+#[derive(Drop)]
+struct Parts<'a> {
+    rest: &'a [u8],
+    calls: usize,
+    fails_at: usize,
+    // The fault that comes before each part, as a signal that breaks a read off.
+    is_interrupted: bool,
+}
+
+// How many bytes a call gives.
+const PART: usize = 7;
+
+impl Read for Parts<'_> {
+    fn read(&mut self, buf: &mut [u8]) -> io::Result<usize> {
+        let call = self.calls;
+        self.calls = self.calls.saturating_add(1);
+        if call == self.fails_at {
+            return Err(Error::from(ErrorKind::ConnectionReset));
+        }
+        if self.is_interrupted && call % 2 == 0 {
+            return Err(Error::from(ErrorKind::Interrupted));
+        }
+        let count = PART.min(buf.len()).min(self.rest.len());
+        let (part, rest) = self.rest.split_at(count);
+        buf[..count].copy_from_slice(part);
+        self.rest = rest;
+        Ok(count)
+    }
+}
+
+const TEXT: &str =
+    "vfs 8 65536\nopen 3\nmw 3 0x1000 0040000000000000\nwire 0200000000030200000000990800.00*46\nend 3\n";
+
+const SAID: &str =
+    "vfs 8 65536 1518\nopen 3\nmw 3 4096 00*1.40*1.00*6.\nwire 02*1.00*4.03*1.02*1.00*4.99*1.08*1.00*47.\nend 3\n";
+
+#[test]
+fn a_failed_read_is_told(rt: HostRuntime) -> Result<(), Fail> {
+    let alloc = rt.alloc();
+    // one call for each part, and one that finds the end
+    let calls = TEXT.len().div_ceil(PART) + 1;
+    for fails_at in 0..calls + 2 {
+        let mut reader = Parts {
+            rest: TEXT.as_bytes(),
+            calls: 0,
+            fails_at,
+            is_interrupted: false,
+        };
+        match Script::read(alloc, &mut reader) {
+            Ok(script) => {
+                assert!(rt; fails_at >= calls, "read past call {fails_at}");
+                assert_eq!(rt; plain(alloc, &script)?.as_str(), SAID);
+            }
+            Err(fault) => {
+                assert!(rt; fails_at < calls, "no call {fails_at}");
+                assert_eq!(rt; fault, Fault::Io, "at call {fails_at}");
+            }
+        }
+    }
+    Ok(())
+}
+
+#[test]
+fn a_read_that_is_broken_off_is_done_again(rt: HostRuntime) -> Result<(), Fail> {
+    let alloc = rt.alloc();
+    let mut reader = Parts {
+        rest: TEXT.as_bytes(),
+        calls: 0,
+        fails_at: usize::MAX,
+        is_interrupted: true,
+    };
+    let script = Script::read(alloc, &mut reader)?;
+    assert_eq!(rt; plain(alloc, &script)?.as_str(), SAID);
+    Ok(())
+}
+
+// How many events a text has, or why it isn't read.
+fn outcome(alloc: Global, text: &[u8]) -> Result<usize, Fault> {
+    let mut reader = text;
+    let script = Script::read(alloc, &mut reader)?;
+    Ok(script.len())
+}
+
+#[test]
+fn refused_memory_is_told(rt: HostRuntime) -> Result<(), Fail> {
+    let alloc = rt.alloc();
+    // records, runs and bytes all grow many times
+    let text = repeated(
+        alloc,
+        "vfs 1 4096\n",
+        "mw 0 0 11223344.5a*9.66778899\n",
+        20_000,
+    )?;
+    let text = text.as_slice();
+    // room for one more growth each time that a part of it is given back, so that another growth is the first refused
+    let mut kept = Vec::with_capacity(alloc, 64)?;
+    let mut size = 2usize << 20;
+    for _ in 0..10 {
+        size /= 2;
+        for _ in 0..3 {
+            kept.push(Vec::<u8>::with_capacity(alloc, size)?)?;
+        }
+    }
+    let taken = all_room(alloc).ok_or("the heap does not run out")?;
+    assert_eq!(rt; outcome(alloc, text), Err(Fault::NoMemory));
+    let mut refused = 1u32;
+    for _ in 0..30 {
+        drop(kept.pop());
+        match outcome(alloc, text) {
+            Ok(events) => assert_eq!(rt; events, 20_000),
+            Err(fault) => {
+                assert_eq!(rt; fault, Fault::NoMemory);
+                refused = refused.saturating_add(1);
+            }
+        }
+    }
+    // some were refused where much had been read
+    assert!(rt; refused > 10, "{refused} refused");
+    drop(taken);
+    assert_eq!(rt; outcome(alloc, text), Ok(20_000));
+    Ok(())
+}

@@ -1,0 +1,75 @@
+// Each form of a reply, and marks.
+use super::{Step, device_of_8, run};
+use device::{Outcome, Taken};
+use irq_causes::Messages;
+use std::test::Fail;
+use transcript::{Fault, Output};
+
+// Reads and refusals, each as the device answers it.
+#[test]
+fn reads_and_refusals(rt: HostRuntime) -> Result<(), Fail> {
+    let alloc = rt.alloc();
+    let steps = [
+        Step::VfRead(8, 0),
+        Step::VfRead(0, 0x10),
+        Step::Open(0),
+        Step::Open(0),
+        Step::VfRead(0, 0x4000),
+        Step::VfRead(0, 0x101),
+        Step::MemRead(0, 65535, 2),
+        Step::MemRead(0, 0, 2049),
+        Step::PfRead(0x20000),
+        Step::PfRead(0x51B0),
+        Step::VfRead(0, 0x10),
+        Step::VfRead(0, 0x1014),
+        // no bytes at the end of the memory
+        Step::MemRead(0, 65536, 0),
+        Step::MemWrite(0, 0, &[0xAB, 0xCD, 0x0E]),
+        Step::MemRead(0, 0, 4),
+    ];
+    let wanted =
+        "1 refused 1\n2 refused 2\n3 ok\n4 refused 7\n5 refused 3\n6 refused 3\n7 refused 4\n8 refused 5\n\
+        9 refused 3\n10 = 0x60000001\n11 = 0x70000000\n12 = 0x10000000\n13 bytes -\n14 ok\n15 bytes abcd0e00\n";
+    assert_eq!(rt; run(alloc, &steps)?.as_str(), wanted);
+    Ok(())
+}
+
+// Outcomes of services with marks of one pool, of the first and the last, and of many vectors.
+#[test]
+fn services_and_marks(rt: HostRuntime) -> Result<(), Fail> {
+    let alloc = rt.alloc();
+    let device = device_of_8(alloc)?;
+    let mut output = Output::new(alloc)?;
+    let mut written = Vec::new(alloc);
+    for (number, outcome, words) in [
+        (1, Outcome::Done, [0, 0, 0]),
+        (2, Outcome::Idle, [0, 0, 0]),
+        (3, Outcome::More, [0, 1 << 5, 0]),
+        (4, Outcome::Dropped, [0, 1 << 2, 0]),
+        (5, Outcome::Faulted, [0, 0, 0]),
+        (6, Outcome::Sent, [1 | 1 << 63, 1 << 63, 1 << 9 | 1 << 63]),
+        (u64::MAX, Outcome::Value(0x0012_ABCD), [0, 0, 0]),
+    ] {
+        let taken = Taken {
+            outcome,
+            messages: Messages::from_words(words),
+            sent: None,
+            left: None,
+        };
+        output.answer(number, &device, &taken, &mut written)?;
+    }
+    output.frame(&[0; 14], &mut written)?;
+    output.finish(&mut written)?;
+    let wanted = "1 ok\n2 idle\n3 more !5:2\n4 dropped !2:2\n5 faulted\n6 sent !0:1 !9:4 !63:7\n\
+        18446744073709551615 = 0x0012abcd\nout 0000000000000000000000000000\n";
+    assert_eq!(rt; String::from_utf8(written)?.as_str(), wanted);
+    Ok(())
+}
+
+#[test]
+fn faults_are_told(rt: HostRuntime) -> Result<(), Fail> {
+    let alloc = rt.alloc();
+    let text = format!(in alloc; "{}, {}", Fault::Io, Fault::NoMemory)?;
+    assert_eq!(rt; text.as_str(), "writing failed, no memory");
+    Ok(())
+}

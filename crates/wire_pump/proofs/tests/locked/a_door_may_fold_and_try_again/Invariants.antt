@@ -1,4 +1,0 @@
-use Rattle.wire_pump.proofs.tests.locked.a_door_may_fold_and_try_again.Given as goal
-
-abbrev pub ghosts-pump_five : goal.ghosts-pump_five
-ghosts-pump_five g a = record { name = a.blank.name; parts = a.blank.parts }

@@ -1,4 +1,0 @@
-use Rattle.wire_pump.proofs.tests.received.the_device_receives_the_frame.Given as goal
-
-abbrev pub ghosts-takes_that_frame : goal.ghosts-takes_that_frame
-ghosts-takes_that_frame g a = record { name = a.blank.name; parts = a.blank.parts }

@@ -590,35 +590,51 @@ fn registers_answer_as_mapped(rt: HostRuntime) -> Result<(), Fail> {
     Ok(())
 }
 
+// A function with a memory of 4096 bytes, closed.
+fn closed(alloc: Global) -> Result<VfUnit<FlatMem>, Fail> {
+    Ok(VfUnit::new(alloc, FlatMem::new(alloc, 4096)?)?)
+}
+
 #[test]
-fn nothing_of_an_earlier_tenant_is_left(rt: HostRuntime) -> Result<(), Fail> {
-    let mut unit = VfUnit::new(rt.alloc(), FlatMem::new(rt.alloc(), 4096)?)?;
+fn a_closed_function_does_nothing(rt: HostRuntime) -> Result<(), Fail> {
+    let mut unit = closed(rt.alloc())?;
     let mut frame = FrameBuf::blank();
     let limit = FrameLimit::standard();
     let mut byte = [1u8];
     assert_eq!(rt; unit.reg_read(0x10), None);
     assert_eq!(rt; unit.reg_write(0x108, 7), None);
-    assert!(rt;
-        unit.serve(Queue::Q1, &mut frame, PortVlan::Never, limit)
-            .is_none()
-    );
+    let service = unit.serve(Queue::Q1, &mut frame, PortVlan::Never, limit);
+    assert!(rt; service.is_none());
     assert_eq!(rt; unit.deliver(&frame, true), 0);
-    assert!(rt; !unit.mem_write(0, &[0xAA]));
-    assert!(rt; !unit.mem_read(0, &mut byte));
-    assert_eq!(rt; byte, [1]);
+    let accessed = (unit.mem_write(0, &[0xAA]), unit.mem_read(0, &mut byte));
+    assert!(rt; accessed == (false, false) && byte == [1]);
+    Ok(())
+}
+
+#[test]
+fn an_open_function_has_its_memory(rt: HostRuntime) -> Result<(), Fail> {
+    let mut unit = closed(rt.alloc())?;
+    let mut byte = [1u8];
     unit.open();
-    assert!(rt; unit.is_open());
-    assert_eq!(rt; unit.memory_size(), 4096);
+    assert!(rt; unit.is_open() && unit.memory_size() == 4096);
     assert!(rt; unit.mem_write(4095, &[0xAA]));
     assert!(rt; !unit.mem_write(4095, &[0xAA, 0xBB]));
     assert!(rt; !unit.mem_read(4096, &mut byte));
+    Ok(())
+}
+
+#[test]
+fn nothing_of_an_earlier_tenant_is_left(rt: HostRuntime) -> Result<(), Fail> {
+    let mut unit = closed(rt.alloc())?;
+    let mut byte = [1u8];
+    unit.open();
+    assert!(rt; unit.mem_write(4095, &[0xAA]));
     unit.sent();
     assert_eq!(rt; unit.reg_read(0x201C), Some(1));
     unit.end();
     assert!(rt; !unit.is_open());
     unit.open();
-    assert!(rt; unit.mem_read(4095, &mut byte));
-    assert_eq!(rt; byte, [0]);
+    assert!(rt; unit.mem_read(4095, &mut byte) && byte == [0]);
     assert_eq!(rt; unit.reg_read(0x201C), Some(0));
     Ok(())
 }

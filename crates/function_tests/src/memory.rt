@@ -1,11 +1,14 @@
 //! Values from outside: the limits of a memory's size, and the bytes of words.
 use guest_memory::*;
 use std::alloc::Global;
+use std::process::Abort;
 use std::test::Fail;
 use test_support::all_room;
 use wire_frame::Fault;
 
 mod pages;
+
+use Step::*;
 
 #[test]
 fn makes_memories_within_limits(rt: HostRuntime) {
@@ -52,63 +55,93 @@ pub fn eight<M: GuestMem>(memory: &M, addr: u64) -> [u8; 8] {
     bytes
 }
 
-#[test]
-fn has_zeros_where_nothing_was_written(rt: HostRuntime) -> Result<(), Fail> {
+/// What is done to a memory of 64 KiB, or found in it.
+#[derive(Clone, Copy)]
+enum Step<'a> {
+    /// Bytes are written from an address on.
+    Put(u64, &'a [u8]),
+    /// Eight bytes are found from an address on.
+    Finds(u64, [u8; 8]),
+    /// All of it is cleared.
+    Clear,
+}
+
+/// Does the steps with a new memory.
+fn do_steps<R: Abort + AllocGlobal>(rt: &R, steps: &[Step<'_>]) -> Result<(), Fail> {
     let mut memory = FlatMem::new(rt.alloc(), 65_536)?;
-    assert_eq!(rt; memory.size(), 65_536);
-    assert_eq!(rt; eight(&memory, 0), [0; 8]);
-    // A write high up: before its bytes, over both of its ends, past them, and at the end of the memory.
-    write_bytes(&mut memory, 0x8004, &[1, 2, 3, 4]);
-    assert_eq!(rt; eight(&memory, 0x7FFC), [0; 8]);
-    assert_eq!(rt; eight(&memory, 0x8000), [0, 0, 0, 0, 1, 2, 3, 4]);
-    assert_eq!(rt; eight(&memory, 0x8006), [3, 4, 0, 0, 0, 0, 0, 0]);
-    assert_eq!(rt; eight(&memory, 0x8008), [0; 8]);
-    assert_eq!(rt; eight(&memory, 65_528), [0; 8]);
-    // A write that begins among its bytes and goes on past them, and one that lies within.
-    write_bytes(&mut memory, 0x8006, &[5, 6, 7]);
-    write_bytes(&mut memory, 0x8005, &[9]);
-    assert_eq!(rt; eight(&memory, 0x8002), [0, 0, 1, 9, 5, 6, 7, 0]);
-    memory.clear();
-    assert_eq!(rt; memory.size(), 65_536);
-    assert_eq!(rt; eight(&memory, 0x8004), [0; 8]);
-    // What was there before does not come back in the gap below a later write.
-    write_bytes(&mut memory, 65_535, &[8]);
-    assert_eq!(rt; eight(&memory, 0x8004), [0; 8]);
-    assert_eq!(rt; eight(&memory, 65_528), [0, 0, 0, 0, 0, 0, 0, 8]);
+    for step in steps {
+        match *step {
+            Put(addr, bytes) => {
+                assert!(rt; memory.size() == 65_536 && addr <= 65_536);
+                assert!(rt; bytes.len() as u64 <= 65_536 - addr);
+                write_bytes(&mut memory, addr, bytes);
+            }
+            Finds(addr, bytes) => assert_eq!(rt; eight(&memory, addr), bytes, "at {addr:x}"),
+            Clear => memory.clear(),
+        }
+    }
     Ok(())
 }
 
 #[test]
+fn has_zeros_where_nothing_was_written(rt: HostRuntime) -> Result<(), Fail> {
+    do_steps(
+        &rt,
+        &[
+            Finds(0, [0; 8]),
+            // A write high up: before its bytes, over both of its ends, past them, and at the end of the memory.
+            Put(0x8004, &[1, 2, 3, 4]),
+            Finds(0x7FFC, [0; 8]),
+            Finds(0x8000, [0, 0, 0, 0, 1, 2, 3, 4]),
+            Finds(0x8006, [3, 4, 0, 0, 0, 0, 0, 0]),
+            Finds(0x8008, [0; 8]),
+            Finds(65_528, [0; 8]),
+            // A write that begins among its bytes and goes on past them, and one that lies within.
+            Put(0x8006, &[5, 6, 7]),
+            Put(0x8005, &[9]),
+            Finds(0x8002, [0, 0, 1, 9, 5, 6, 7, 0]),
+            Clear,
+            Finds(0x8004, [0; 8]),
+            // What was there before does not come back in the gap below a later write.
+            Put(65_535, &[8]),
+            Finds(0x8004, [0; 8]),
+            Finds(65_528, [0, 0, 0, 0, 0, 0, 0, 8]),
+        ],
+    )
+}
+
+#[test]
 fn has_zeros_below_the_first_write(rt: HostRuntime) -> Result<(), Fail> {
-    let mut memory = FlatMem::new(rt.alloc(), 65_536)?;
-    assert_eq!(rt; memory.size(), 65_536);
-    // A write of nothing leaves zeros, wherever it is.
-    write_bytes(&mut memory, 0xA004, &[]);
-    assert_eq!(rt; eight(&memory, 0xA000), [0; 8]);
-    // Two bytes high up: below them, over each of their ends, over both, and above them.
-    write_bytes(&mut memory, 0x9003, &[1, 2]);
-    assert_eq!(rt; eight(&memory, 0x8FFB), [0; 8]);
-    assert_eq!(rt; eight(&memory, 0x8FFC), [0, 0, 0, 0, 0, 0, 0, 1]);
-    assert_eq!(rt; eight(&memory, 0x9000), [0, 0, 0, 1, 2, 0, 0, 0]);
-    assert_eq!(rt; eight(&memory, 0x9004), [2, 0, 0, 0, 0, 0, 0, 0]);
-    assert_eq!(rt; eight(&memory, 0x9005), [0; 8]);
-    // Far below them, then also between the two.
-    write_bytes(&mut memory, 0x10, &[3]);
-    write_bytes(&mut memory, 0x8000, &[4]);
-    write_bytes(&mut memory, 0x7000, &[]);
-    assert_eq!(rt; eight(&memory, 0x0C), [0, 0, 0, 0, 3, 0, 0, 0]);
-    assert_eq!(rt; eight(&memory, 0x7FFC), [0, 0, 0, 0, 4, 0, 0, 0]);
-    assert_eq!(rt; eight(&memory, 0x9000), [0, 0, 0, 1, 2, 0, 0, 0]);
-    memory.clear();
-    assert_eq!(rt; memory.size(), 65_536);
-    assert_eq!(rt; eight(&memory, 0x0C), [0; 8]);
-    assert_eq!(rt; eight(&memory, 0x9000), [0; 8]);
-    // From just below them over the first of them.
-    write_bytes(&mut memory, 0x9003, &[1, 2]);
-    write_bytes(&mut memory, 0x9001, &[5, 6, 7]);
-    assert_eq!(rt; eight(&memory, 0x9000), [0, 5, 6, 7, 2, 0, 0, 0]);
-    assert_eq!(rt; eight(&memory, 0x0C), [0; 8]);
-    Ok(())
+    do_steps(
+        &rt,
+        &[
+            // A write of nothing leaves zeros, wherever it is.
+            Put(0xA004, &[]),
+            Finds(0xA000, [0; 8]),
+            // Two bytes high up: below them, over each of their ends, over both, and above them.
+            Put(0x9003, &[1, 2]),
+            Finds(0x8FFB, [0; 8]),
+            Finds(0x8FFC, [0, 0, 0, 0, 0, 0, 0, 1]),
+            Finds(0x9000, [0, 0, 0, 1, 2, 0, 0, 0]),
+            Finds(0x9004, [2, 0, 0, 0, 0, 0, 0, 0]),
+            Finds(0x9005, [0; 8]),
+            // Far below them, then also between the two.
+            Put(0x10, &[3]),
+            Put(0x8000, &[4]),
+            Put(0x7000, &[]),
+            Finds(0x0C, [0, 0, 0, 0, 3, 0, 0, 0]),
+            Finds(0x7FFC, [0, 0, 0, 0, 4, 0, 0, 0]),
+            Finds(0x9000, [0, 0, 0, 1, 2, 0, 0, 0]),
+            Clear,
+            Finds(0x0C, [0; 8]),
+            Finds(0x9000, [0; 8]),
+            // From just below them over the first of them.
+            Put(0x9003, &[1, 2]),
+            Put(0x9001, &[5, 6, 7]),
+            Finds(0x9000, [0, 5, 6, 7, 2, 0, 0, 0]),
+            Finds(0x0C, [0; 8]),
+        ],
+    )
 }
 
 // Sets the first word, by whatever memory it is; what the memory then holds there.

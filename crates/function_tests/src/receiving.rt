@@ -127,13 +127,17 @@ fn two_pieces(rt: HostRuntime) -> Result<(), Fail> {
         let before = image(rt.alloc(), &memory)?;
         let frame = frame_of(PLAIN, 1518)?;
         let outcome = place(&mut memory, &mut ring, &queue(KEEP), &frame, false);
-        assert_eq!(rt; outcome, placed, "{tail}, {second:x}");
-        assert_eq!(rt; ring.is_enabled(), placed != Faulted, "{tail}, {second:x}");
-        assert_eq!(rt; ring.read(RingRegister::Head), head, "{tail}, {second:x}");
-        assert_eq!(rt; ring.read(RingRegister::Tail), tail, "{tail}, {second:x}");
         assert_eq!(rt; memory.size(), 65536);
-        assert_eq!(rt; read_word(&memory, 0x1078), word, "{tail}, {second:x}");
-        assert_eq!(rt; read_word(&memory, 0x1008), next_word, "{tail}, {second:x}");
+        let after = (
+            outcome,
+            ring.is_enabled(),
+            ring.read(RingRegister::Head),
+            ring.read(RingRegister::Tail),
+            read_word(&memory, 0x1078),
+            read_word(&memory, 0x1008),
+        );
+        let wanted = (placed, placed != Faulted, head, tail, word, next_word);
+        assert!(rt; after == wanted, "{tail}, {second:x}");
         let same = image(rt.alloc(), &memory)?.as_slice() == before.as_slice();
         assert_eq!(rt; same, placed != Put, "{tail}, {second:x}");
     }
@@ -185,11 +189,17 @@ fn written_back(rt: HostRuntime) -> Result<(), Fail> {
         let mut memory = memory_of(&rt, rt.alloc(), 0, FIRST, SECOND)?;
         let frame = frame_of(start, len)?;
         let outcome = place(&mut memory, &mut ring, &queue(strip), &frame, loopback);
-        assert_eq!(rt; outcome, Placed::Put, "{len} bytes");
-        assert_eq!(rt; ring.read(RingRegister::Head), head, "{len} bytes");
         assert_eq!(rt; memory.size(), 65536);
-        assert_eq!(rt; read_word(&memory, 0x1008), word, "{len} bytes");
-        assert_eq!(rt; read_word(&memory, 0x1018), next_word, "{len} bytes");
+        let after = (
+            outcome,
+            ring.read(RingRegister::Head),
+            read_word(&memory, 0x1008),
+            read_word(&memory, 0x1018),
+        );
+        assert!(rt;
+            after == (Placed::Put, head, word, next_word),
+            "{len} bytes"
+        );
     }
     Ok(())
 }

@@ -109,20 +109,22 @@ fn kinds_of_descriptors(rt: HostRuntime) -> Result<(), Fail> {
             rule,
             limit,
         );
-        assert_eq!(rt; served.outcome, outcome, "{buffer:x} {word:x}");
-        assert_eq!(rt; served.reported, word_after != word, "{buffer:x} {word:x}");
         assert_eq!(rt; memory.size(), 65536);
-        assert_eq!(rt;
+        let after = (
+            served.outcome,
+            served.reported,
             read_word(&memory, RING + 8),
-            word_after,
-            "{buffer:x} {word:x}"
-        );
-        assert_eq!(rt; ring.read(RingRegister::Head), head, "{buffer:x} {word:x}");
-        assert_eq!(rt;
+            ring.read(RingRegister::Head),
             ring.is_enabled(),
-            outcome != Faulted,
-            "{buffer:x} {word:x}"
         );
+        let wanted = (
+            outcome,
+            word_after != word,
+            word_after,
+            head,
+            outcome != Faulted,
+        );
+        assert!(rt; after == wanted, "{buffer:x} {word:x}");
     }
     Ok(())
 }

@@ -1,13 +1,13 @@
 -- One note more that a sweep looked at, and one that it took out.
-use Rattle.std.proofs.Common.{◌≡◌, ℕ, ◌+◌, ◌<◌, ◌==◌, List, [], ◌∷◌, ◌++◌, drop, get_or, if◌then◌else◌, length, map, set, sym, ap, ◌∙◌, take, append_assoc, arith}
+use Rattle.std.proofs.Common.{◌≡◌, ℕ, ◌+◌, ◌<◌, ◌==◌, List, [], ◌∷◌, ◌++◌, drop, get_or, if◌then◌else◌, length, map, set, sym, ap, ◌∙◌, take, append_assoc, subst, arith}
 use Rattle.std.specs.List.{sum_by}
-use Rattle.std.proofs.lemmas.List.{length-append, length-drop, length-set, length-take-le, map-append}
+use Rattle.std.proofs.lemmas.List.{length-append, length-drop, length-set, length-take-le, map-append, take-append-le, take-set, take_all}
 use Rattle.std.proofs.lemmas.List.Sums.{sum_by-append, sum_by-drop_more, sum_by-set, sum_by-take-drop}
 use Rattle.device.specs.declared.event.Event.{Event}
 use Rattle.device.specs.declared.event.Event.TheVariants.{End}
 use Rattle.device_lock.specs.Held.{Mine, having_asked, having_asked_all}
 use Rattle.guest_port.specs.Notes.{Known}
-use Rattle.workers.specs.Sweeps.{IsSwept, notes_of, times}
+use Rattle.workers.specs.Sweeps.{IsSwept, NoneEnded, notes_of, times}
 
 abbrev Note : Type 0
 Note = ℕ × Known
@@ -61,3 +61,16 @@ swept_more first notes after at p d old mid new less left is more before = recor
   many =
       let o = out_length at notes less in let l = length-append before.ended (p ∷ []) in let k = ap length left in let m = before.many in omega (arith, o, l, k, m);
 }
+
+-- those before a note that is taken out are the ones that were looked at
+pub looked_out : (notes after : List Note) (at : ℕ) (note : Note) → at < length notes → after ≡ take at (set notes at note) ++ drop (at + 1) (set notes at note) → NoneEnded (take at notes) → NoneEnded (take at after)
+looked_out notes after at note less left before =
+    let front : List Note = take at (set notes at note) in
+    let s = length-set notes at note in
+    let l : length front ≡ at = length-take-le at (set notes at note) (omega (arith, s)) in
+    let k : take at after ≡ take at notes =
+    ap (take at) left
+    ∙ take-append-le at front (drop (at + 1) (set notes at note)) (omega (arith, l))
+    ∙ take_all at front (omega (arith, l))
+    ∙ take-set notes at note in
+    subst NoneEnded (sym k) before

@@ -1,10 +1,10 @@
 -- What a sweep over notes of ports does.
-use Rattle.std.specs.Prelude.{◌≡◌, ℕ, ◌+◌, ◌==◌, List, length, map, if◌then◌else◌}
-use Rattle.std.specs.List.{sum_by}
+use Rattle.std.specs.Prelude.{◌≡◌, ℕ, ◌+◌, ◌==◌, true, false, List, length, map, if◌then◌else◌}
+use Rattle.std.specs.List.{All, Contains, sum_by}
 use Rattle.device.specs.declared.event.Event.{Event}
 use Rattle.device.specs.declared.event.Event.TheVariants.{End}
 use Rattle.device_lock.specs.Held.{Mine, having_asked_all}
-use Rattle.guest_port.specs.Notes.{Known}
+use Rattle.guest_port.specs.Notes.{Known, knows}
 
 -- how many of the notes are of pool p
 abbrev pub notes_of : ℕ → List (ℕ × Known) → ℕ
@@ -20,3 +20,14 @@ pub record IsSwept (before after : List (ℕ × Known)) (old new : Mine) : Type 
   pub asked : new ≡ having_asked_all (map (λ (p : ℕ). End p) ended) old
   pub each : (p : ℕ) → notes_of p before ≡ notes_of p after + times p ended
   pub many : length before ≡ length after + length ended
+
+-- none of the notes knows of an end
+abbrev pub NoneEnded : List (ℕ × Known) → Type 0
+NoneEnded notes = All (λ (note : ℕ × Known). knows note.1 ≡ false) notes
+
+-- the event is the end of a pool, by one of the notes, which knows of it
+pub record IsEndOfOne (event : Event) (notes : List (ℕ × Known)) : Type 0 where
+  pub note : ℕ × Known
+  pub among : Contains notes note
+  pub ended : knows note.1 ≡ true
+  pub is : event ≡ End note.0

@@ -5,22 +5,23 @@ use Rattle.wire_frame.specs.Bits.{has_bit, has_bit_in, two_words}
 use Rattle.pool_index.specs.Entries.{IsIndexOf}
 use Rattle.pool_index.proofs.EntryLemmas.{SaySame, nothing_held}
 use Rattle.pool_index.proofs.WordLemmas.{one_word_stays, two_words_stay, no_bit_at}
-use Rattle.addr_tables.specs.Addresses.{Addresses, initial_addresses, addresses_after, low_row, high_row, pools_row, address_entries}
+use Rattle.addr_tables.specs.declared.registers.TheConstants.{RAL, RAH, MPSAR}
+use Rattle.addr_tables.specs.Addresses.{Addresses, initial_addresses, addresses_after, address_entries}
 
 -- no word of another entry than this stands at the offset
 abbrev pub NamesEntry : ℕ → Option ℕ → Type 0
 NamesEntry offset named =
-    (is_in low_row offset ≡ true → named ≡ Some (place low_row offset))
-    × (is_in high_row offset ≡ true → named ≡ Some (place high_row offset))
-    × (is_in pools_row offset ≡ true → named ≡ Some (place pools_row offset / 2))
+    (is_in RAL offset ≡ true → named ≡ Some (place RAL offset))
+    × (is_in RAH offset ≡ true → named ≡ Some (place RAH offset))
+    × (is_in MPSAR offset ≡ true → named ≡ Some (place MPSAR offset / 2))
 
 -- an entry that the offset does not name says what it said
 pub entry_stays : (a : Addresses) (offset x : ℕ) (named : Option ℕ) → NamesEntry offset named → (e : ℕ) → named ≢ Some e → SaySame (address_entries a) (address_entries (addresses_after a offset x)) e
 unfolding addresses_after
 entry_stays a offset x named names e other =
-    let low : slice_index a.low e ≡ slice_index (words_after low_row a.low offset x) e = one_word_stays low_row a.low offset x named names.0 e other in
-    let high : slice_index a.high e ≡ slice_index (words_after high_row a.high offset x) e = one_word_stays high_row a.high offset x named names.1 e other in
-    let pools : two_words a.pools e ≡ two_words (words_after pools_row a.pools offset x) e = two_words_stay pools_row a.pools offset x named names.2 e other in
+    let low : slice_index a.low e ≡ slice_index (words_after RAL a.low offset x) e = one_word_stays RAL a.low offset x named names.0 e other in
+    let high : slice_index a.high e ≡ slice_index (words_after RAH a.high offset x) e = one_word_stays RAH a.high offset x named names.1 e other in
+    let pools : two_words a.pools e ≡ two_words (words_after MPSAR a.pools offset x) e = two_words_stay MPSAR a.pools offset x named names.2 e other in
     record {
       valid = ap (λ w. has_bit w 31) high;
       keys = λ i. low i + 2 ^ 32 * (high i % 2 ^ 16);

@@ -2,7 +2,7 @@
 -- multicast table has.
 use Rattle.std.specs.Prelude.{ℕ, ◌+◌, ◌*◌, ◌%◌, ◌^◌, Bool, ◌&&◌, ◌==◌, List, [], ◌∷◌, Option, replicate, slice_index}
 use Rattle.std.specs.List.{list_any, range_with_len}
-use Rattle.wire_frame.specs.declared.row.Row.{Row}
+use Rattle.addr_tables.specs.declared.registers.TheConstants.{RAL, RAH, VALID, MPSAR, MTA, MCSTCTRL, MCSTCTRL_KEPT, MFE}
 use Rattle.wire_frame.specs.Row.{◌or◌, word_at, words_after, one_at, one_after}
 use Rattle.wire_frame.specs.Bits.{has_bit, has_bit_in, two_words, field}
 use Rattle.pool_index.specs.Entries.{Entries}
@@ -20,38 +20,23 @@ initial_addresses = record { low = replicate 128 0; high = replicate 128 0; pool
 
 -- ---- the words by their offsets
 
-abbrev pub low_row : Row
-low_row = record { first = 0xA200; count = 128; stride = 8; mask = 0xFFFFFFFF }
-
-abbrev pub high_row : Row
-high_row = record { first = 0xA204; count = 128; stride = 8; mask = 0x8000FFFF }
-
-abbrev pub pools_row : Row
-pools_row = record { first = 0xA600; count = 256; stride = 4; mask = 0xFFFFFFFF }
-
-abbrev pub hashes_row : Row
-hashes_row = record { first = 0x5200; count = 128; stride = 4; mask = 0xFFFFFFFF }
-
-abbrev pub control_offset : ℕ
-control_offset = 0x5090
-
 -- what a read of the offset gives, if it names one of these words
 unfoldable pub addresses_at : Addresses → ℕ → Option ℕ
 addresses_at a offset =
-    word_at low_row a.low offset
-    or word_at high_row a.high offset
-    or word_at pools_row a.pools offset
-    or word_at hashes_row a.hashes offset
-    or one_at control_offset a.control offset
+    word_at RAL a.low offset
+    or word_at RAH a.high offset
+    or word_at MPSAR a.pools offset
+    or word_at MTA a.hashes offset
+    or one_at MCSTCTRL a.control offset
 
 -- the words after a write of x
 unfoldable pub addresses_after : Addresses → ℕ → ℕ → Addresses
 addresses_after a offset x = record {
-  low = words_after low_row a.low offset x;
-  high = words_after high_row a.high offset x;
-  pools = words_after pools_row a.pools offset x;
-  hashes = words_after hashes_row a.hashes offset x;
-  control = one_after control_offset 7 a.control offset x;
+  low = words_after RAL a.low offset x;
+  high = words_after RAH a.high offset x;
+  pools = words_after MPSAR a.pools offset x;
+  hashes = words_after MTA a.hashes offset x;
+  control = one_after MCSTCTRL MCSTCTRL_KEPT a.control offset x;
 }
 
 -- ---- receive addresses
@@ -62,7 +47,7 @@ entry_address a e = slice_index a.low e + 2 ^ 32 * (slice_index a.high e % 2 ^ 1
 
 -- entry e is valid and has the pool's bit
 abbrev pub entry_has_pool : Addresses → ℕ → ℕ → Bool
-entry_has_pool a pool e = has_bit (slice_index a.high e) 31 && has_bit_in (two_words a.pools e) pool
+entry_has_pool a pool e = has_bit (slice_index a.high e) VALID && has_bit_in (two_words a.pools e) pool
 
 -- entry e gives the pool the address
 abbrev pub entry_gives : Addresses → ℕ → ℕ → ℕ → Bool
@@ -78,7 +63,7 @@ is_held a address = list_any (λ pool. has_address a pool address) (range_with_l
 
 -- the entries as they are kept in an index: by their addresses
 abbrev pub address_entries : Addresses → Entries
-address_entries a = record { is_valid = λ e. has_bit (slice_index a.high e) 31; key = entry_address a; has_pool = entry_has_pool a }
+address_entries a = record { is_valid = λ e. has_bit (slice_index a.high e) VALID; key = entry_address a; has_pool = entry_has_pool a }
 
 -- ---- the multicast table
 
@@ -88,4 +73,4 @@ hash_low offset = slice_index (36 ∷ 35 ∷ 34 ∷ 32 ∷ []) offset
 
 -- the table is on and has the bit of the address's hash
 unfoldable pub multicast_hit : Addresses → ℕ → Bool
-multicast_hit a address = has_bit a.control 2 && has_bit_in a.hashes (field address (hash_low (a.control % 4)) 12)
+multicast_hit a address = has_bit a.control MFE && has_bit_in a.hashes (field address (hash_low (a.control % 4)) 12)

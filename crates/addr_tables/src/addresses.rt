@@ -81,7 +81,8 @@ impl AddrTables {
     #[inline]
     pub fn address_for(&self, pool: PoolId, e: usize) -> Option<u64>
         requires { e < 128 }
-        ensures { result ≡ (if entry_has_pool self.now pool e then Some (entry_address self.now e) else None) }
+        ensures { result
+            ≡ (if entry_has_pool self.now pool e then Some (entry_address self.now e) else None) }
     {
         self.words.address_for(pool, e)
     }
@@ -90,7 +91,8 @@ impl AddrTables {
     /// with it, at most 8. The addresses of the valid entries are kept, each once.
     #[inline]
     pub fn probe(&self, address: Mac) -> (u64, u8)
-        ensures pools { (p : ℕ) → p < 64 → has_bit result.0 p ≡ has_address self.now p (little_number 6 address.0) }
+        ensures pools { (p : ℕ) → p < 64
+            → has_bit result.0 p ≡ has_address self.now p (little_number 6 address.0) }
         ensures none { (result.0 == 0) ≡ not (is_held self.now (little_number 6 address.0)) }
         ensures few { result.1 ≤ 8 }
     {
@@ -101,7 +103,8 @@ impl AddrTables {
     /// mask is 0 exactly where no pool has the address.
     #[inline]
     pub fn pools_of(&self, address: Mac) -> u64
-        ensures pools { (p : ℕ) → p < 64 → has_bit result p ≡ has_address self.now p (little_number 6 address.0) }
+        ensures pools { (p : ℕ) → p < 64
+            → has_bit result p ≡ has_address self.now p (little_number 6 address.0) }
         ensures none { (result == 0) ≡ not (is_held self.now (little_number 6 address.0)) }
     {
         self.probe(address).0

@@ -4,7 +4,8 @@ ghost use Rattle.byteorder.specs.Endian.{little_number};
 ghost use Rattle.wire_frame.specs.Bits.{has_bit, has_bit_in, two_words};
 ghost use Rattle.wire_frame.specs.Row.{is_in, place};
 ghost use Rattle.pool_index.specs.Entries.{IsAnswer};
-ghost use Rattle.addr_tables.specs.Addresses.{initial_addresses, addresses_at, addresses_after, low_row, high_row, pools_row, entry_address, entry_has_pool, address_entries, hash_low, multicast_hit};
+ghost use Rattle.addr_tables.specs.declared.registers.TheConstants.{RAL, RAH, MPSAR};
+ghost use Rattle.addr_tables.specs.Addresses.{initial_addresses, addresses_at, addresses_after, entry_address, entry_has_pool, address_entries, hash_low, multicast_hit};
 
 use crate::registers::{MCSTCTRL, MCSTCTRL_KEPT, MFE, MPSAR, MTA, RAH, RAL, VALID};
 use std::marker::Model;
@@ -26,7 +27,13 @@ impl Model for Words {
 
     ghost Value = { Addresses };
 
-    ghost view = { λ w. record { low = w.low; high = w.high; pools = w.pools; hashes = w.hashes; control = w.control } };
+    ghost view = { λ w. record {
+      low = w.low;
+      high = w.high;
+      pools = w.pools;
+      hashes = w.hashes;
+      control = w.control;
+    } };
 }
 
 /// The words by their offsets.
@@ -95,7 +102,8 @@ impl Words {
     #[inline]
     pub(crate) fn holds(&self, e: usize, address: u64) -> bool
         requires { e < 128 }
-        ensures { result ≡ (has_bit (slice_index self.now.high e) 31 && (entry_address self.now e == address)) }
+        ensures { result
+            ≡ (has_bit (slice_index self.now.high e) 31 && (entry_address self.now e == address)) }
     {
         self.is_valid(e) && self.entry_address(e) == address
     }
@@ -113,7 +121,8 @@ impl Words {
     #[inline]
     pub(crate) fn address_for(&self, pool: PoolId, e: usize) -> Option<u64>
         requires { e < 128 }
-        ensures { result ≡ (if entry_has_pool self.now pool e then Some (entry_address self.now e) else None) }
+        ensures { result
+            ≡ (if entry_has_pool self.now pool e then Some (entry_address self.now e) else None) }
     {
         if self.is_valid(e) && has_bit(self.entry_pools(e), u32::from(pool.get())) {
             Some(self.entry_address(e))
@@ -143,9 +152,9 @@ impl Words {
 /// and so do its two of MPSAR.
 #[inline]
 pub(crate) fn entry_of(offset: u32) -> Option<usize>
-    ensures low { is_in low_row offset ≡ true → result ≡ Some (place low_row offset) }
-    ensures high { is_in high_row offset ≡ true → result ≡ Some (place high_row offset) }
-    ensures pools { is_in pools_row offset ≡ true → result ≡ Some (place pools_row offset / 2) }
+    ensures low { is_in RAL offset ≡ true → result ≡ Some (place RAL offset) }
+    ensures high { is_in RAH offset ≡ true → result ≡ Some (place RAH offset) }
+    ensures pools { is_in MPSAR offset ≡ true → result ≡ Some (place MPSAR offset / 2) }
     ensures below { IfSome result (λ e. e < 128) }
 {
     let first = if offset < MPSAR.first {

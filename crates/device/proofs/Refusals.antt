@@ -10,13 +10,14 @@ use Rattle.vf_unit.specs.declared.registers.Queue.{Queue}
 use Rattle.vf_unit.specs.Unit.{Function, Closed, Open, Change, serviced}
 use Rattle.pool_filter.specs.Own.{OwnSettings, own, port_vlan_of}
 use Rattle.anti_spoof.specs.Permitted.{permitted}
+use Rattle.device.specs.declared.act.TheConstants.{PF_SPACE}
 use Rattle.device.specs.declared.event.Event.{Event}
 use Rattle.device.specs.declared.event.Event.TheVariants.{Open, End, VfRead, VfWrite, MemRead, MemWrite, Serve, Flr, PfRead, PfWrite, PfReset, Wire}
 use Rattle.device.specs.declared.event.Reply.{Reply}
 use Rattle.device.specs.declared.event.Reply.TheVariants.{Done, Value, Bytes, Idle, More, Sent, Dropped, Faulted, Refused}
 use Rattle.device.specs.Act.{Service, performed, unless_refused, refusal, act, concluded, unserved, serve, is_bad_offset, is_done}
 use Rattle.device.specs.World.{World, Stepped, function_of, with_function, own_step, flagged, service, served, step}
-use Rattle.device.proofs.Arrivals.{told_nothing}
+use Rattle.device.proofs.Arrivals.{raised_nothing}
 
 abbrev is_refused : Reply → Bool
 is_refused (Refused n) = true
@@ -90,13 +91,13 @@ put_back w p f same =
     let functions : slice_set w.functions p f ≡ w.functions = ap (slice_set w.functions p) same ∙ set-get_or w.functions p (Closed 0) in
     λ i. record { limit = w.limit; settings = w.settings; resets = w.resets; functions = functions i; wire = w.wire }
 
-told_none : (p messages : ℕ) → messages ≡ 0 → slice_set no_messages p messages ≡ no_messages
-told_none p messages none = ap (slice_set no_messages p) none ∙ told_nothing p
+raised_none : (p messages : ℕ) → messages ≡ 0 → slice_set no_messages p messages ≡ no_messages
+raised_none p messages none = ap (slice_set no_messages p) none ∙ raised_nothing p
 
 own_keeps : (w : World) (p : ℕ) (e : Event) (inside : Bool) → ltb p (length w.functions) ≡ inside → is_refused (own_step w p e).answer.reply ≡ true → IsKept w (own_step w p e)
 own_keeps w p e true here = rw here (λ is.
     let a : ((act (function_of p w) e).function ≡ function_of p w) × ((act (function_of p w) e).messages ≡ 0) = act_keeps (function_of p w) e is in
-    (put_back w p _ a.0, told_none p _ a.1))
+    (put_back w p _ a.0, raised_none p _ a.1))
 own_keeps w p e false here = rw here (λ is. (refl, refl))
 
 -- what is flagged is done, and so not refused
@@ -121,18 +122,18 @@ served_reply w p s None = refl
 served_reply w p s (Some frame) = refl
 
 served_keeps : (w : World) (p : ℕ) (s : Service) → Kept (function_of p w) s → IsKept w (served w p s s.sent)
-served_keeps w p s h = subst (λ sent. IsKept w (served w p s sent)) (sym h.sent) (put_back w p s.function h.function, told_none p s.messages h.messages)
+served_keeps w p s h = subst (λ sent. IsKept w (served w p s sent)) (sym h.sent) (put_back w p s.function h.function, raised_none p s.messages h.messages)
 
 serve_step_keeps : (w : World) (p : ℕ) (q : Queue) (inside : Bool) → ltb p (length w.functions) ≡ inside → is_refused (step w (Serve p q)).answer.reply ≡ true → IsKept w (step w (Serve p q))
 serve_step_keeps w p q true here = rw here (λ is.
     served_keeps w p (service w p q) (serve_keeps w.limit (own w.settings p) (function_of p w) q (ap is_refused (sym (served_reply w p (service w p q) (service w p q).sent)) ∙ is)))
 serve_step_keeps w p q false here = rw here (λ is. (refl, refl))
 
-pf_read_keeps : (w : World) (offset : ℕ) (bad : Bool) → is_bad_offset 0x20000 offset ≡ bad → is_refused (step w (PfRead offset)).answer.reply ≡ true → IsKept w (step w (PfRead offset))
+pf_read_keeps : (w : World) (offset : ℕ) (bad : Bool) → is_bad_offset PF_SPACE offset ≡ bad → is_refused (step w (PfRead offset)).answer.reply ≡ true → IsKept w (step w (PfRead offset))
 pf_read_keeps w offset true is = rw is (λ _. (refl, refl))
 pf_read_keeps w offset false is = rw is (λ _. (refl, refl))
 
-pf_write_keeps : (w : World) (offset x : ℕ) (bad : Bool) → is_bad_offset 0x20000 offset ≡ bad → is_refused (step w (PfWrite offset x)).answer.reply ≡ true → IsKept w (step w (PfWrite offset x))
+pf_write_keeps : (w : World) (offset x : ℕ) (bad : Bool) → is_bad_offset PF_SPACE offset ≡ bad → is_refused (step w (PfWrite offset x)).answer.reply ≡ true → IsKept w (step w (PfWrite offset x))
 pf_write_keeps w offset x true is = rw is (λ _. (refl, refl))
 pf_write_keeps w offset x false is = rw is (not_refused Done refl)
 

@@ -10,6 +10,8 @@ use Rattle.vf_unit.specs.declared.registers.Queue.{Queue}
 use Rattle.vf_unit.specs.Unit.{Function, Change, size_of, is_open, opened, ended, reset, read_of, after_read_of, written, serviced, service_outcome, one_more_sent, bytes_at, memory_written}
 use Rattle.pool_filter.specs.Own.{OwnSettings, port_vlan_of}
 use Rattle.anti_spoof.specs.Permitted.{permitted}
+use Rattle.device.specs.declared.act.TheConstants.{VF_SPACE}
+use Rattle.device.specs.declared.bytes.TheConstants.{MOST_BYTES}
 use Rattle.device.specs.declared.event.Event.{Event}
 use Rattle.device.specs.declared.event.Event.TheVariants.{Open, End, VfRead, VfWrite, MemRead, MemWrite, Flr}
 use Rattle.device.specs.declared.event.Reply.{Reply}
@@ -26,13 +28,13 @@ opens (Open p) = true
 opens _ = false
 
 abbrev pub names_bad_offset : Event → Bool
-names_bad_offset (VfRead p offset) = is_bad_offset 0x4000 offset
-names_bad_offset (VfWrite p offset x) = is_bad_offset 0x4000 offset
+names_bad_offset (VfRead p offset) = is_bad_offset VF_SPACE offset
+names_bad_offset (VfWrite p offset x) = is_bad_offset VF_SPACE offset
 names_bad_offset _ = false
 
 -- more than 2048 bytes are asked; bytes that are given are no more by their type
 abbrev pub is_too_long : Event → Bool
-is_too_long (MemRead p at count) = nat_lt 2048 count
+is_too_long (MemRead p at count) = nat_lt MOST_BYTES count
 is_too_long _ = false
 
 -- the bytes that the event names pass the end of a memory of that size

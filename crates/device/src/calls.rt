@@ -8,23 +8,24 @@ ghost use Rattle.device.specs.declared.span.Span.{Span};
 ghost use Rattle.device.specs.World.{silently, function_of, with_function, service, step, sent_by, sizes_of};
 ghost use Rattle.device.specs.Outcome.{reply_by, went_out, done_or_refused, value_or_refused, bytes_or_refused, messages_or_refused, reply_in, answer_in, left_by};
 
+use crate::act;
+use crate::act::{PF_SPACE, is_bad_offset};
 use crate::bytes::MemSlice;
 use crate::device::Device;
 use crate::outcome::{Acted, Outcome};
-use crate::own_event;
-use crate::own_event::{PF_SPACE, is_bad_offset};
 use crate::resets::{clear_resets, read_resets};
-use crate::service::{PoolRules, serve_queue};
+use crate::service::serve_queue;
 use crate::span::Span;
 use crate::switching::end_all;
 use crate::taken::Taken;
 use guest_memory::GuestMem;
 use irq_causes::{Messages, Vectors};
 use local_switch::Source;
+use pool_filter::PoolRules;
 use vf_unit::Queue;
 use wire_frame::{Fault, FrameBuf, PoolId};
 
-#[tactic(auto, using(crate::proofs::Arrivals::told_nothing, crate::proofs::SizesStay::size_set))]
+#[tactic(auto, using(crate::proofs::Arrivals::raised_nothing, crate::proofs::SizesStay::size_set))]
 impl<M: GuestMem> Device<M> {
     /// Opens a virtual function: its registers become initial, and its memory zero, whatever it was.
     ///
@@ -32,14 +33,15 @@ impl<M: GuestMem> Device<M> {
     #[inline(never)]
     pub fn open(&mut self, pool: u8) -> Result<(), Fault>
         ensures world { self.new ≡ (step self.old (Event.Open pool)).world }
-        ensures answer { silently (done_or_refused result) ≡ (step self.old (Event.Open pool)).answer }
+        ensures answer { silently (done_or_refused result)
+            ≡ (step self.old (Event.Open pool)).answer }
         ensures sizes { sizes_of self.new ≡ sizes_of self.old }
     {
         let index = usize::from(pool);
         if index >= self.units.len() {
             return Err(Fault::NoSuchVf);
         }
-        own_event::open(&mut self.units[index])
+        act::open(&mut self.units[index])
     }
 
     /// Closes a virtual function.
@@ -48,14 +50,15 @@ impl<M: GuestMem> Device<M> {
     #[inline(never)]
     pub fn end(&mut self, pool: u8) -> Result<(), Fault>
         ensures world { self.new ≡ (step self.old (Event.End pool)).world }
-        ensures answer { silently (done_or_refused result) ≡ (step self.old (Event.End pool)).answer }
+        ensures answer { silently (done_or_refused result)
+            ≡ (step self.old (Event.End pool)).answer }
         ensures sizes { sizes_of self.new ≡ sizes_of self.old }
     {
         let index = usize::from(pool);
         if index >= self.units.len() {
             return Err(Fault::NoSuchVf);
         }
-        own_event::end(&mut self.units[index])
+        act::end(&mut self.units[index])
     }
 
     /// Resets a virtual function (SR-IOV 1.1, function-level reset): its registers become initial. Its memory stays, and
@@ -65,14 +68,15 @@ impl<M: GuestMem> Device<M> {
     #[inline(never)]
     pub fn flr(&mut self, pool: u8) -> Result<(), Fault>
         ensures world { self.new ≡ (step self.old (Event.Flr pool)).world }
-        ensures answer { silently (done_or_refused result) ≡ (step self.old (Event.Flr pool)).answer }
+        ensures answer { silently (done_or_refused result)
+            ≡ (step self.old (Event.Flr pool)).answer }
         ensures sizes { sizes_of self.new ≡ sizes_of self.old }
     {
         let index = usize::from(pool);
         if index >= self.units.len() {
             return Err(Fault::NoSuchVf);
         }
-        let done = own_event::reset(&mut self.units[index]);
+        let done = act::flr(&mut self.units[index]);
         if done.is_ok() {
             self.resets |= 1 << pool;
         }
@@ -86,14 +90,15 @@ impl<M: GuestMem> Device<M> {
     #[inline]
     pub fn vf_read(&mut self, pool: u8, offset: u32) -> Result<u32, Fault>
         ensures world { self.new ≡ (step self.old (Event.VfRead pool offset)).world }
-        ensures answer { silently (value_or_refused result) ≡ (step self.old (Event.VfRead pool offset)).answer }
+        ensures answer { silently (value_or_refused result)
+            ≡ (step self.old (Event.VfRead pool offset)).answer }
         ensures sizes { sizes_of self.new ≡ sizes_of self.old }
     {
         let index = usize::from(pool);
         if index >= self.units.len() {
             return Err(Fault::NoSuchVf);
         }
-        own_event::vf_read(&mut self.units[index], offset)
+        act::vf_read(&mut self.units[index], offset)
     }
 
     /// Writes the register of a virtual function at an offset in bytes, and answers with the messages that this issues. A
@@ -103,14 +108,15 @@ impl<M: GuestMem> Device<M> {
     #[inline]
     pub fn vf_write(&mut self, pool: u8, offset: u32, value: u32) -> Result<Messages, Fault>
         ensures world { self.new ≡ (step self.old (Event.VfWrite pool offset value)).world }
-        ensures answer { messages_or_refused result ≡ (step self.old (Event.VfWrite pool offset value)).answer }
+        ensures answer { messages_or_refused result
+            ≡ (step self.old (Event.VfWrite pool offset value)).answer }
         ensures sizes { sizes_of self.new ≡ sizes_of self.old }
     {
         let index = usize::from(pool);
         if index >= self.units.len() {
             return Err(Fault::NoSuchVf);
         }
-        match own_event::vf_write(&mut self.units[index], offset, value) {
+        match act::vf_write(&mut self.units[index], offset, value) {
             Ok(vectors) => Ok(messages_to(pool, vectors)),
             Err(fault) => Err(fault),
         }
@@ -123,14 +129,15 @@ impl<M: GuestMem> Device<M> {
     #[inline]
     pub fn mem_read(&self, pool: u8, at: u64, out: &mut [u8]) -> Result<(), Fault>
         ensures world { self.now ≡ (step self.now (Event.MemRead pool at (length out.old))).world }
-        ensures answer { silently (bytes_or_refused result out.new) ≡ (step self.now (Event.MemRead pool at (length out.old))).answer }
+        ensures answer { silently (bytes_or_refused result out.new)
+            ≡ (step self.now (Event.MemRead pool at (length out.old))).answer }
         ensures unchanged { OnErr result (out.new ≡ out.old) }
     {
         let index = usize::from(pool);
         if index >= self.units.len() {
             return Err(Fault::NoSuchVf);
         }
-        own_event::mem_read(&self.units[index], at, out)
+        act::mem_read(&self.units[index], at, out)
     }
 
     /// Writes bytes of a guest's memory from an address on.
@@ -138,28 +145,31 @@ impl<M: GuestMem> Device<M> {
     /// [`Fault::NoSuchVf`], then [`Fault::NotOpen`], then [`Fault::BadRange`] where they pass the end of the memory.
     #[inline]
     pub fn mem_write(&mut self, pool: u8, at: u64, written: MemSlice<'_>) -> Result<(), Fault>
-        ensures world { self.new ≡ (step self.old (Event.MemWrite pool at written.entry.bytes.now)).world }
-        ensures answer { silently (done_or_refused result) ≡ (step self.old (Event.MemWrite pool at written.entry.bytes.now)).answer }
+        ensures world { self.new
+            ≡ (step self.old (Event.MemWrite pool at written.entry.bytes.now)).world }
+        ensures answer { silently (done_or_refused result)
+            ≡ (step self.old (Event.MemWrite pool at written.entry.bytes.now)).answer }
         ensures sizes { sizes_of self.new ≡ sizes_of self.old }
     {
         let index = usize::from(pool);
         if index >= self.units.len() {
             return Err(Fault::NoSuchVf);
         }
-        own_event::mem_write(&mut self.units[index], at, written)
+        act::mem_write(&mut self.units[index], at, written)
     }
 
     // Finds the bytes of a guest's memory that an event reads.
     #[inline]
     pub(crate) fn find(&self, pool: u8, at: u64, count: u16) -> Outcome
         ensures world { self.now ≡ (step self.now (Event.MemRead pool at count)).world }
-        ensures answer { silently (reply_in self.now result) ≡ (step self.now (Event.MemRead pool at count)).answer }
+        ensures answer { silently (reply_in self.now result)
+            ≡ (step self.now (Event.MemRead pool at count)).answer }
     {
         let index = usize::from(pool);
         if index >= self.units.len() {
             return Outcome::Refused(Fault::NoSuchVf);
         }
-        own_event::find(&self.units[index], pool, at, count)
+        act::find(&self.units[index], pool, at, count)
     }
 
     /// Fills `out` with the bytes from a span's address on. What a closed or a missing function has there is zeros, and so
@@ -167,11 +177,13 @@ impl<M: GuestMem> Device<M> {
     #[inline]
     #[tactic(auto, using(crate::proofs::Inside::read_missing))]
     pub fn read_span(&self, span: Span, out: &mut [u8])
-        ensures { out.new ≡ bytes_at (function_of span.pool self.now) span.at (replicate {A = ℕ} (length out.old) 0) }
+        ensures { out.new
+            ≡ bytes_at (function_of span.pool self.now) span.at
+            (replicate {A = ℕ} (length out.old) 0) }
     {
         let index = usize::from(span.pool());
         if index < self.units.len() {
-            own_event::read_or_zero(&self.units[index], span.at(), out);
+            act::read_or_zero(&self.units[index], span.at(), out);
         } else {
             out.fill(0);
         }
@@ -185,7 +197,8 @@ impl<M: GuestMem> Device<M> {
     #[inline(never)]
     pub fn serve<'f>(&mut self, pool: u8, queue: Queue, frame: &'f mut FrameBuf) -> Taken<'f>
         ensures world { self.new ≡ (step self.old (Event.Serve pool queue)).world }
-        ensures answer { answer_in self.new result ≡ (step self.old (Event.Serve pool queue)).answer }
+        ensures answer { answer_in self.new result
+            ≡ (step self.old (Event.Serve pool queue)).answer }
         ensures sizes { sizes_of self.new ≡ sizes_of self.old }
         ensures sent { option_copied result.sent ≡ sent_by self.old (Event.Serve pool queue) }
         ensures left { option_copied result.left ≡ left_by self.old (Event.Serve pool queue) }
@@ -204,7 +217,8 @@ impl<M: GuestMem> Device<M> {
     fn serve_pool<'f>(&mut self, pool: PoolId, queue: Queue, frame: &'f mut FrameBuf) -> Taken<'f>
         requires there { pool < length self.old.functions }
         ensures world { self.new ≡ (step self.old (Event.Serve pool queue)).world }
-        ensures answer { answer_in self.new result ≡ (step self.old (Event.Serve pool queue)).answer }
+        ensures answer { answer_in self.new result
+            ≡ (step self.old (Event.Serve pool queue)).answer }
         ensures sizes { sizes_of self.new ≡ sizes_of self.old }
         ensures sent { option_copied result.sent ≡ sent_by self.old (Event.Serve pool queue) }
         ensures left { option_copied result.left ≡ left_by self.old (Event.Serve pool queue) }
@@ -233,11 +247,14 @@ impl<M: GuestMem> Device<M> {
     // The service of a queue of a function that is there, but for the switching of a frame that is sent.
     fn transmit(&mut self, pool: PoolId, queue: Queue, frame: &mut FrameBuf) -> Acted
         requires there { pool < length self.old.functions }
-        ensures world { self.new ≡ with_function self.old pool (service self.old pool queue).function }
+        ensures world { self.new
+            ≡ with_function self.old pool (service self.old pool queue).function }
         ensures sizes { sizes_of self.new ≡ sizes_of self.old }
-        ensures reply { (bytes : Span → List ℕ) → reply_by bytes result.outcome ≡ (service self.old pool queue).reply }
+        ensures reply { (bytes : Span → List ℕ)
+            → reply_by bytes result.outcome ≡ (service self.old pool queue).reply }
         ensures messages { result.vectors ≡ (service self.old pool queue).messages }
-        ensures sent { (service self.old pool queue).sent ≡ (if went_out result.outcome then Some frame.new else None) }
+        ensures sent { (service self.old pool queue).sent
+            ≡ (if went_out result.outcome then Some frame.new else None) }
     {
         let rules = PoolRules {
             tables: &self.tables,
@@ -253,7 +270,8 @@ impl<M: GuestMem> Device<M> {
     #[inline(never)]
     pub fn pf_read(&self, offset: u32) -> Result<u32, Fault>
         ensures world { self.now ≡ (step self.now (Event.PfRead offset)).world }
-        ensures answer { silently (value_or_refused result) ≡ (step self.now (Event.PfRead offset)).answer }
+        ensures answer { silently (value_or_refused result)
+            ≡ (step self.now (Event.PfRead offset)).answer }
     {
         if is_bad_offset(PF_SPACE, offset) {
             return Err(Fault::BadOffset);
@@ -271,7 +289,8 @@ impl<M: GuestMem> Device<M> {
     #[inline(never)]
     pub fn pf_write(&mut self, offset: u32, value: u32) -> Result<(), Fault>
         ensures world { self.new ≡ (step self.old (Event.PfWrite offset value)).world }
-        ensures answer { silently (done_or_refused result) ≡ (step self.old (Event.PfWrite offset value)).answer }
+        ensures answer { silently (done_or_refused result)
+            ≡ (step self.old (Event.PfWrite offset value)).answer }
         ensures sizes { sizes_of self.new ≡ sizes_of self.old }
     {
         if is_bad_offset(PF_SPACE, offset) {
@@ -301,7 +320,8 @@ impl<M: GuestMem> Device<M> {
     #[inline]
     pub fn wire(&mut self, frame: &FrameBuf) -> Result<Messages, Fault>
         ensures world { self.new ≡ (step self.old (Event.Wire frame.now)).world }
-        ensures answer { messages_or_refused result ≡ (step self.old (Event.Wire frame.now)).answer }
+        ensures answer { messages_or_refused result
+            ≡ (step self.old (Event.Wire frame.now)).answer }
         ensures sizes { sizes_of self.new ≡ sizes_of self.old }
     {
         if frame.bytes().len() > usize::from(self.limit.get()) {

@@ -29,7 +29,13 @@ impl<M: GuestMem> Model for Device<M> {
 
     ghost Value = { World };
 
-    ghost view = { λ d. record { limit = d.limit; settings = d.tables; resets = d.resets; functions = d.units.items; wire = d.wire } };
+    ghost view = { λ d. record {
+      limit = d.limit;
+      settings = d.tables;
+      resets = d.resets;
+      functions = d.units.items;
+      wire = d.wire;
+    } };
 
     ghost invariant = { λ d. length d.units.items ≤ 64 };
 }
@@ -39,9 +45,13 @@ impl<M: GuestMem> Device<M> {
     /// [`Fault::BadMake`] comes exactly where there are no memories or more than 64, or one has a size outside the limits;
     /// [`Fault::NoMemory`] only where the host refused the room.
     pub fn new(alloc: Global, memories: Vec<M>) -> Result<Device<M>, Fault>
-        ensures ok { IfOk result (λ d. d ≡ fresh 1518 (map (λ m. length (M.bytes m)) memories.items)) }
-        ensures bad_make { is_makeable (map (λ m. length (M.bytes m)) memories.items) ≡ false → result ≡ Err Fault.BadMake }
-        ensures no_memory { IfErr result (λ e. is_makeable (map (λ m. length (M.bytes m)) memories.items) ≡ true → e ≡ Fault.NoMemory) }
+        ensures ok { IfOk result
+            (λ d. d ≡ fresh 1518 (map (λ m. length (M.bytes m)) memories.items)) }
+        ensures bad_make { is_makeable (map (λ m. length (M.bytes m)) memories.items) ≡ false
+            → result ≡ Err Fault.BadMake }
+        ensures no_memory { IfErr result
+            (λ e. is_makeable (map (λ m. length (M.bytes m)) memories.items) ≡ true
+            → e ≡ Fault.NoMemory) }
     {
         Device::make(alloc, memories, FrameLimit::standard())
     }
@@ -49,9 +59,14 @@ impl<M: GuestMem> Device<M> {
     /// The same, that takes frames of up to `limit` bytes. [`Fault::BadMake`] comes also where that is not 1518 to 9018.
     #[inline(never)]
     pub fn with_limit(alloc: Global, memories: Vec<M>, limit: u16) -> Result<Device<M>, Fault>
-        ensures ok { IfOk result (λ d. d ≡ fresh limit (map (λ m. length (M.bytes m)) memories.items)) }
-        ensures bad_make { (is_frame_limit limit && is_makeable (map (λ m. length (M.bytes m)) memories.items)) ≡ false → result ≡ Err Fault.BadMake }
-        ensures no_memory { IfErr result (λ e. (is_frame_limit limit && is_makeable (map (λ m. length (M.bytes m)) memories.items)) ≡ true → e ≡ Fault.NoMemory) }
+        ensures ok { IfOk result
+            (λ d. d ≡ fresh limit (map (λ m. length (M.bytes m)) memories.items)) }
+        ensures bad_make { (is_frame_limit limit && is_makeable
+            (map (λ m. length (M.bytes m)) memories.items)) ≡ false → result ≡ Err Fault.BadMake }
+        ensures no_memory { IfErr result
+            (λ e.
+            (is_frame_limit limit && is_makeable (map (λ m. length (M.bytes m)) memories.items))
+            ≡ true → e ≡ Fault.NoMemory) }
     {
         match FrameLimit::new(limit) {
             Some(limit) => Device::make(alloc, memories, limit),
@@ -62,9 +77,13 @@ impl<M: GuestMem> Device<M> {
     // A device that takes frames up to the limit.
     #[inline(never)]
     fn make(alloc: Global, memories: Vec<M>, limit: FrameLimit) -> Result<Device<M>, Fault>
-        ensures ok { IfOk result (λ d. d ≡ fresh limit (map (λ m. length (M.bytes m)) memories.items)) }
-        ensures bad_make { is_makeable (map (λ m. length (M.bytes m)) memories.items) ≡ false → result ≡ Err Fault.BadMake }
-        ensures no_memory { IfErr result (λ e. is_makeable (map (λ m. length (M.bytes m)) memories.items) ≡ true → e ≡ Fault.NoMemory) }
+        ensures ok { IfOk result
+            (λ d. d ≡ fresh limit (map (λ m. length (M.bytes m)) memories.items)) }
+        ensures bad_make { is_makeable (map (λ m. length (M.bytes m)) memories.items) ≡ false
+            → result ≡ Err Fault.BadMake }
+        ensures no_memory { IfErr result
+            (λ e. is_makeable (map (λ m. length (M.bytes m)) memories.items) ≡ true
+            → e ≡ Fault.NoMemory) }
     {
         if !is_makeable(memories.as_slice()) {
             return Err(Fault::BadMake);
@@ -148,7 +167,8 @@ fn is_makeable<M: GuestMem>(memories: &[M]) -> bool
 
 // A closed function over each of the memories. The error comes only where the host refused the room.
 fn close_all<M: GuestMem>(alloc: Global, memories: Vec<M>) -> Result<Vec<VfUnit<M>>, AllocError>
-    ensures { IfOk result (λ units. units.items ≡ map (λ m. Closed (length (M.bytes m))) memories.items) }
+    ensures { IfOk result
+        (λ units. units.items ≡ map (λ m. Closed (length (M.bytes m))) memories.items) }
 {
     let mut units = Vec::with_capacity(alloc, memories.len())?;
     for memory in memories {

@@ -3,7 +3,7 @@ ghost use Rattle.std.specs.Prelude.{◌≡◌, ℕ, ◌<◌, ◌≤◌, length, 
 ghost use Rattle.wire_frame.specs.Bits.{has_bit};
 ghost use Rattle.vf_unit.specs.Unit.{Closed, size_of, ended};
 ghost use Rattle.local_switch.specs.Switch.{leaves};
-ghost use Rattle.device.specs.World.{is_looped, offered, told, switched, sizes_of};
+ghost use Rattle.device.specs.World.{is_looped, offered, all_raised, switched, sizes_of};
 
 use crate::device::Device;
 use guest_memory::GuestMem;
@@ -35,12 +35,16 @@ fn deliver_to_all<M: GuestMem>(
 ) -> Messages
     requires { length units.old ≤ 64 }
     ensures functions { (r : ℕ) → r < length units.old →
-        slice_index_or units.new r (Closed 0) ≡ (offered (has_bit pools r) loopback frame.now (slice_index_or units.old r (Closed 0))).function }
+        slice_index_or units.new r (Closed 0)
+        ≡ (offered (has_bit pools r) loopback frame.now
+        (slice_index_or units.old r (Closed 0))).function }
     ensures same_length { length units.new ≡ length units.old }
     ensures sizes { map size_of units.new ≡ map size_of units.old }
     ensures pools { length result ≡ 64 }
     ensures messages { (r : ℕ) → r < 64 →
-        slice_index result r ≡ (offered (has_bit pools r) loopback frame.now (slice_index_or units.old r (Closed 0))).messages }
+        slice_index result r
+        ≡ (offered (has_bit pools r) loopback frame.now
+        (slice_index_or units.old r (Closed 0))).messages }
 {
     let mut raised = Messages::none();
     let mut rest = pools;
@@ -58,7 +62,7 @@ fn deliver_to_all<M: GuestMem>(
 
 // Sets the messages to one pool, which has been told none. Most frames issue none.
 #[inline]
-#[tactic(auto, using(crate::proofs::Arrivals::told_no_more))]
+#[tactic(auto, using(crate::proofs::Arrivals::raised_no_more))]
 fn note(raised: &mut Messages, pool: usize, messages: u8)
     requires pool { pool < 64 }
     requires vectors { messages < 8 }
@@ -88,7 +92,8 @@ impl<M: GuestMem> Device<M> {
     // Switches a frame.
     pub(crate) fn switch(&mut self, from: Source, frame: &FrameBuf) -> Switched
         ensures world { self.new ≡ switched self.old from frame.now }
-        ensures messages { result.messages ≡ told self.old.settings self.old.functions from frame.now }
+        ensures messages { result.messages
+            ≡ all_raised self.old.settings self.old.functions from frame.now }
         ensures left { result.left ≡ leaves self.old.settings from frame.now }
         ensures sizes { sizes_of self.new ≡ sizes_of self.old }
     {

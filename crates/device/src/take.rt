@@ -27,7 +27,8 @@ impl<M: GuestMem> Device<M> {
     #[inline]
     pub fn take<'f>(&mut self, request: Request<'_>, frame: &'f mut FrameBuf) -> Taken<'f>
         ensures world { self.new ≡ (step self.old (event_of request.entry)).world }
-        ensures answer { answer_in self.new result ≡ (step self.old (event_of request.entry)).answer }
+        ensures answer { answer_in self.new result
+            ≡ (step self.old (event_of request.entry)).answer }
         ensures sent { option_copied result.sent ≡ sent_by self.old (event_of request.entry) }
         ensures left { option_copied result.left ≡ left_by self.old (event_of request.entry) }
         ensures sizes { sizes_of self.new ≡ sizes_of self.old }
@@ -36,7 +37,8 @@ impl<M: GuestMem> Device<M> {
             seen_by p (event_of request.entry ∷ []) (answer_in self.new result ∷ [])
             ≡ lone_seen (lone_of p self.old) (keep p self.old (event_of request.entry ∷ [])) }
         ensures isolated_state { (p : ℕ) → p < length self.old.functions →
-            lone_of p self.new ≡ lone_after (lone_of p self.old) (keep p self.old (event_of request.entry ∷ [])) }
+            lone_of p self.new
+            ≡ lone_after (lone_of p self.old) (keep p self.old (event_of request.entry ∷ [])) }
     {
         let count = self.functions();
         prove!(count <= usize::from(PoolId::COUNT));
@@ -47,7 +49,8 @@ impl<M: GuestMem> Device<M> {
     #[inline]
     fn take_any<'f>(&mut self, request: Request<'_>, frame: &'f mut FrameBuf) -> Taken<'f>
         ensures world { self.new ≡ (step self.old (event_of request.entry)).world }
-        ensures answer { answer_in self.new result ≡ (step self.old (event_of request.entry)).answer }
+        ensures answer { answer_in self.new result
+            ≡ (step self.old (event_of request.entry)).answer }
         ensures sent { option_copied result.sent ≡ sent_by self.old (event_of request.entry) }
         ensures left { option_copied result.left ≡ left_by self.old (event_of request.entry) }
         ensures sizes { sizes_of self.new ≡ sizes_of self.old }
@@ -74,19 +77,21 @@ impl<M: GuestMem> Device<M> {
     #[inline]
     fn take_vf_read<'f>(&mut self, pool: u8, offset: u32) -> Taken<'f>
         ensures world { self.new ≡ (step self.old (Event.VfRead pool offset)).world }
-        ensures answer { answer_in self.new result ≡ (step self.old (Event.VfRead pool offset)).answer }
+        ensures answer { answer_in self.new result
+            ≡ (step self.old (Event.VfRead pool offset)).answer }
         ensures sizes { sizes_of self.new ≡ sizes_of self.old }
         ensures sent { result.sent ≡ None }
         ensures left { result.left ≡ None }
     {
-        Taken::value(self.vf_read(pool, offset))
+        Taken::value_or_refused(self.vf_read(pool, offset))
     }
 
     // A write of a function's register.
     #[inline]
     fn take_vf_write<'f>(&mut self, pool: u8, offset: u32, value: u32) -> Taken<'f>
         ensures world { self.new ≡ (step self.old (Event.VfWrite pool offset value)).world }
-        ensures answer { answer_in self.new result ≡ (step self.old (Event.VfWrite pool offset value)).answer }
+        ensures answer { answer_in self.new result
+            ≡ (step self.old (Event.VfWrite pool offset value)).answer }
         ensures sizes { sizes_of self.new ≡ sizes_of self.old }
         ensures sent { result.sent ≡ None }
         ensures left { result.left ≡ None }
@@ -98,7 +103,8 @@ impl<M: GuestMem> Device<M> {
     #[inline]
     fn take_mem_read<'f>(&self, pool: u8, at: u64, count: u16) -> Taken<'f>
         ensures world { self.now ≡ (step self.now (Event.MemRead pool at count)).world }
-        ensures answer { answer_in self.now result ≡ (step self.now (Event.MemRead pool at count)).answer }
+        ensures answer { answer_in self.now result
+            ≡ (step self.now (Event.MemRead pool at count)).answer }
         ensures sent { result.sent ≡ None }
         ensures left { result.left ≡ None }
     {
@@ -108,13 +114,15 @@ impl<M: GuestMem> Device<M> {
     // A write of a function's memory.
     #[inline]
     fn take_mem_write<'f>(&mut self, pool: u8, at: u64, written: MemSlice<'_>) -> Taken<'f>
-        ensures world { self.new ≡ (step self.old (Event.MemWrite pool at written.entry.bytes.now)).world }
-        ensures answer { answer_in self.new result ≡ (step self.old (Event.MemWrite pool at written.entry.bytes.now)).answer }
+        ensures world { self.new
+            ≡ (step self.old (Event.MemWrite pool at written.entry.bytes.now)).world }
+        ensures answer { answer_in self.new result
+            ≡ (step self.old (Event.MemWrite pool at written.entry.bytes.now)).answer }
         ensures sizes { sizes_of self.new ≡ sizes_of self.old }
         ensures sent { result.sent ≡ None }
         ensures left { result.left ≡ None }
     {
-        Taken::done(self.mem_write(pool, at, written))
+        Taken::done_or_refused(self.mem_write(pool, at, written))
     }
 
     // A frame from the wire.
@@ -137,19 +145,20 @@ impl<M: GuestMem> Device<M> {
         ensures sent { result.sent ≡ None }
         ensures left { result.left ≡ None }
     {
-        Taken::value(self.pf_read(offset))
+        Taken::value_or_refused(self.pf_read(offset))
     }
 
     // A write of a register of the physical function.
     #[inline]
     fn take_pf_write<'f>(&mut self, offset: u32, value: u32) -> Taken<'f>
         ensures world { self.new ≡ (step self.old (Event.PfWrite offset value)).world }
-        ensures answer { answer_in self.new result ≡ (step self.old (Event.PfWrite offset value)).answer }
+        ensures answer { answer_in self.new result
+            ≡ (step self.old (Event.PfWrite offset value)).answer }
         ensures sizes { sizes_of self.new ≡ sizes_of self.old }
         ensures sent { result.sent ≡ None }
         ensures left { result.left ≡ None }
     {
-        Taken::done(self.pf_write(offset, value))
+        Taken::done_or_refused(self.pf_write(offset, value))
     }
 
     // A function is opened.
@@ -161,7 +170,7 @@ impl<M: GuestMem> Device<M> {
         ensures sent { result.sent ≡ None }
         ensures left { result.left ≡ None }
     {
-        Taken::done(self.open(pool))
+        Taken::done_or_refused(self.open(pool))
     }
 
     // A function is closed.
@@ -173,7 +182,7 @@ impl<M: GuestMem> Device<M> {
         ensures sent { result.sent ≡ None }
         ensures left { result.left ≡ None }
     {
-        Taken::done(self.end(pool))
+        Taken::done_or_refused(self.end(pool))
     }
 
     // A function is reset.
@@ -185,7 +194,7 @@ impl<M: GuestMem> Device<M> {
         ensures sent { result.sent ≡ None }
         ensures left { result.left ≡ None }
     {
-        Taken::done(self.flr(pool))
+        Taken::done_or_refused(self.flr(pool))
     }
 
     // The device is reset.
@@ -253,7 +262,8 @@ impl<M: GuestMem> Device<M> {
         ensures unchanged { OnErr result (self.new ≡ self.old) }
         // each function sees what it would see alone
         ensures isolated { IfOk result (λ given. (p : ℕ) → p < length self.old.functions →
-            seen_by p events.now given.items ≡ lone_seen (lone_of p self.old) (keep p self.old events.now)) }
+            seen_by p events.now given.items
+            ≡ lone_seen (lone_of p self.old) (keep p self.old events.now)) }
         // and is left as it would be left alone
         ensures isolated_state { OnOk result ((p : ℕ) → p < length self.old.functions →
             lone_of p self.new ≡ lone_after (lone_of p self.old) (keep p self.old events.now)) }
@@ -276,7 +286,8 @@ impl<M: GuestMem> Device<M> {
     fn step_onto(&mut self, event: &Event, frame: &mut FrameBuf, given: &mut Vec<Answer>)
         requires { vec_len given.old < vec_capacity given.old }
         ensures world { self.new ≡ (step self.old event.now).world }
-        ensures answer { given.new.items ≡ given.old.items ++ (step self.old event.now).answer ∷ [] }
+        ensures answer { given.new.items
+            ≡ given.old.items ++ (step self.old event.now).answer ∷ [] }
         ensures len { vec_len given.new ≡ vec_len given.old + 1 }
         ensures capacity { vec_capacity given.new ≡ vec_capacity given.old }
     {

@@ -91,7 +91,7 @@ impl<'f> Taken<'f> {
 
     // What was done, or refused.
     #[inline]
-    pub(crate) fn done(done: Result<(), Fault>) -> Taken<'f>
+    pub(crate) fn done_or_refused(done: Result<(), Fault>) -> Taken<'f>
         ensures answer { (w : World) → answer_in w result ≡ silently (done_or_refused done) }
         ensures sent { result.sent ≡ None }
         ensures left { result.left ≡ None }
@@ -104,7 +104,7 @@ impl<'f> Taken<'f> {
 
     // A value, or a refusal.
     #[inline]
-    pub(crate) fn value(value: Result<u32, Fault>) -> Taken<'f>
+    pub(crate) fn value_or_refused(value: Result<u32, Fault>) -> Taken<'f>
         ensures answer { (w : World) → answer_in w result ≡ silently (value_or_refused value) }
         ensures sent { result.sent ≡ None }
         ensures left { result.left ≡ None }

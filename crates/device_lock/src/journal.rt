@@ -93,9 +93,12 @@ impl<M: GuestMem> Journal<M> {
         requires may { may caller (event_of request) ≡ true }
         ensures answer { IfSome result (λ taken.
             answer_in self.new.live taken ≡ (step self.old.live (event_of request.entry)).answer) }
-        ensures sent { IfSome result (λ taken. option_copied taken.sent ≡ sent_by self.old.live (event_of request.entry)) }
-        ensures left { IfSome result (λ taken. option_copied taken.left ≡ left_by self.old.live (event_of request.entry)) }
-        ensures kept { IfSome result (λ taken. Keeps self.old caller (event_of request.entry) self.new) }
+        ensures sent { IfSome result
+            (λ taken. option_copied taken.sent ≡ sent_by self.old.live (event_of request.entry)) }
+        ensures left { IfSome result
+            (λ taken. option_copied taken.left ≡ left_by self.old.live (event_of request.entry)) }
+        ensures kept { IfSome result
+            (λ taken. Keeps self.old caller (event_of request.entry) self.new) }
         ensures full { IfNone result (length self.old.kept ≡ self.old.cap) }
         ensures unchanged { IfNone result (self.new ≡ self.old) }
     {
@@ -118,7 +121,9 @@ impl<M: GuestMem> Journal<M> {
     /// Fills `out` with the bytes from a span's address on.
     #[inline]
     pub fn read_span(&self, span: Span, out: &mut [u8])
-        ensures { out.new ≡ bytes_at (function_of span.pool self.now.live) span.at (replicate {A = ℕ} (length out.old) 0) }
+        ensures { out.new
+            ≡ bytes_at (function_of span.pool self.now.live) span.at
+            (replicate {A = ℕ} (length out.old) 0) }
     {
         self.live.read_span(span, out);
     }
@@ -130,8 +135,11 @@ impl<M: GuestMem> Journal<M> {
         ensures count { IfSome result (λ count. count ≡ length self.old.kept) }
         ensures few { IfSome result (λ count. count ≤ 65536) }
         ensures rebased { IfSome result (λ count. Rebased self.old self.new) }
-        ensures can { IfSome result (λ count. (self.old.has_twin ≡ true) × (folded self.old + length self.old.kept ≤ 2 ^ 62)) }
-        ensures cannot { IfNone result ((self.old.has_twin ≡ false) ⊎ (2 ^ 62 < folded self.old + length self.old.kept)) }
+        ensures can { IfSome result
+            (λ count. (self.old.has_twin ≡ true)
+            × (folded self.old + length self.old.kept ≤ 2 ^ 62)) }
+        ensures cannot { IfNone result
+            ((self.old.has_twin ≡ false) ⊎ (2 ^ 62 < folded self.old + length self.old.kept)) }
         ensures unchanged { IfNone result (self.new ≡ self.old) }
     {
         let count = self.history.len();
@@ -151,7 +159,8 @@ impl<M: GuestMem> Journal<M> {
     /// How many calls each caller made, with those that were folded away.
     #[tactic(auto, using(crate::proofs::CallerLemmas::callers_below))]
     pub fn tally(&self) -> [u64; CALLERS]
-        ensures each { (c : ℕ) → c < 67 → slice_index result c ≡ slice_index self.now.tallies c + calls_of c self.now.kept }
+        ensures each { (c : ℕ) → c < 67
+            → slice_index result c ≡ slice_index self.now.tallies c + calls_of c self.now.kept }
         ensures all { sum result ≡ folded self.now + length self.now.kept }
     {
         with_calls(&self.tallies, &self.history)
@@ -160,7 +169,8 @@ impl<M: GuestMem> Journal<M> {
     /// Steps a device through the kept calls, and tells whether it gave the kept answers.
     pub fn replays(&self, device: &mut Device<M>) -> bool
         ensures world { device.new ≡ world_after device.old (events self.now.kept) }
-        ensures same { IsTrue result ↔ (answers device.old (events self.now.kept) ≡ given self.now.kept) }
+        ensures same { IsTrue result
+            ↔ (answers device.old (events self.now.kept) ≡ given self.now.kept) }
         ensures base { device.old ≡ self.now.base → IsTrue result }
     {
         gives_all(device, &self.history)
@@ -189,15 +199,18 @@ impl<M: GuestMem> Journal<M> {
     pub fn agrees(&self)
         ensures legal { Legal self.now.base self.now.kept self.now.live }
         ensures few { length self.now.kept ≤ self.now.cap }
-        ensures first { folded self.now ≡ 0 → self.now.base ≡ fresh self.now.live.limit (sizes_of self.now.live) }
+        ensures first { folded self.now ≡ 0
+            → self.now.base ≡ fresh self.now.live.limit (sizes_of self.now.live) }
         ensures raised { (p v : ℕ) → p < 64 →
-            raised p v self.now.line.raises ≡ kept_raises p v self.now.kept + folded_raises p v self.now }
+            raised p v self.now.line.raises
+            ≡ kept_raises p v self.now.kept + folded_raises p v self.now }
         ensures folded { (p v : ℕ) → p < 64 → folded_raises p v self.now ≤ folded self.now }
         ensures seen { (p : ℕ) → p < length self.now.base.functions →
             seen_by p (events self.now.kept) (given self.now.kept)
             ≡ lone_seen (lone_of p self.now.base) (keep p self.now.base (events self.now.kept)) }
         ensures state { (p : ℕ) → p < length self.now.base.functions →
-            lone_of p self.now.live ≡ lone_after (lone_of p self.now.base) (keep p self.now.base (events self.now.kept)) }
+            lone_of p self.now.live
+            ≡ lone_after (lone_of p self.now.base) (keep p self.now.base (events self.now.kept)) }
     {
         isolation();
         let _functions = self.live.functions();
@@ -209,7 +222,8 @@ impl<M: GuestMem> Journal<M> {
 #[inline]
 fn raise_all(line: &mut DeviceSeat, messages: &Messages)
     ensures raised { (p v : ℕ) → p < 64 →
-        raised p v line.new.raises ≡ raised p v line.old.raises + bit_at (slice_index messages.now p) v }
+        raised p v line.new.raises
+        ≡ raised p v line.old.raises + bit_at (slice_index messages.now p) v }
     ensures line { line.new.line ≡ line.old.line }
 {
     let mut rest = messages.pools();
@@ -225,7 +239,8 @@ fn raise_all(line: &mut DeviceSeat, messages: &Messages)
 fn raise(line: &mut DeviceSeat, pool: u8, messages: &Messages)
     requires { pool < 64 }
     ensures raised { (p v : ℕ) →
-        raised p v line.new.raises ≡ raised p v line.old.raises + bit_for p v pool (slice_index messages.now pool) }
+        raised p v line.new.raises
+        ≡ raised p v line.old.raises + bit_for p v pool (slice_index messages.now pool) }
     ensures line { line.new.line ≡ line.old.line }
 {
     if let Some(pool) = PoolId::new(pool) {
@@ -246,7 +261,8 @@ fn step_through<M: GuestMem>(device: &mut Device<M>, history: &History)
 // The same, and tells whether the device gave the answers of the history.
 fn gives_all<M: GuestMem>(device: &mut Device<M>, history: &History) -> bool
     ensures world { device.new ≡ world_after device.old (events history.now.entries) }
-    ensures same { IsTrue result ↔ (answers device.old (events history.now.entries) ≡ given history.now.entries) }
+    ensures same { IsTrue result
+        ↔ (answers device.old (events history.now.entries) ≡ given history.now.entries) }
 {
     let mut room = Room::new();
     let mut same = true;
@@ -273,7 +289,8 @@ fn with_calls(tallies: &[u64; CALLERS], history: &History) -> [u64; CALLERS]
     requires few { history.now.cap ≤ 65536 }
     requires room { sum tallies.now ≤ 2 ^ 62 }
     ensures long { length result ≡ 67 }
-    ensures each { (c : ℕ) → c < 67 → slice_index result c ≡ slice_index tallies.now c + calls_of c history.now.entries }
+    ensures each { (c : ℕ) → c < 67
+        → slice_index result c ≡ slice_index tallies.now c + calls_of c history.now.entries }
     ensures all { sum result ≡ sum tallies.now + length history.now.entries }
 {
     let mut tallies = *tallies;

@@ -65,11 +65,15 @@ impl<M: GuestMem, L: Ledger> LockedDevice<M, L> {
         requires may { may share.old.caller (event_of request) ≡ true }
         requires room { bytes_asked (event_of request) ≤ length read.old }
         ensures answer { IfSome result (λ taken. (w : World)
-            × (answer_with (take (bytes_told taken.outcome) read.new) taken ≡ (step w (event_of request.entry)).answer)
+            × (answer_with (take (bytes_told taken.outcome) read.new) taken
+            ≡ (step w (event_of request.entry)).answer)
             × (option_copied taken.sent ≡ sent_by w (event_of request.entry))
             × (option_copied taken.left ≡ left_by w (event_of request.entry))) }
-        ensures rest { IfSome result (λ taken. drop (bytes_told taken.outcome) read.new ≡ drop (bytes_told taken.outcome) read.old) }
-        ensures counted { IfSome result (λ taken. share.new ≡ having_asked (event_of request.entry) share.old) }
+        ensures rest { IfSome result
+            (λ taken. drop (bytes_told taken.outcome) read.new
+            ≡ drop (bytes_told taken.outcome) read.old) }
+        ensures counted { IfSome result
+            (λ taken. share.new ≡ having_asked (event_of request.entry) share.old) }
         ensures unchanged { IfNone result ((share.new ≡ share.old) × (read.new ≡ read.old)) }
     {
         self.inner.lock(rt).record_read(share, request, frame, read)

@@ -54,7 +54,8 @@ impl<M: GuestMem, L: Ledger> Model for Recorded<M, L> {
 
     ghost view = { λ r. r.journal };
 
-    ghost invariant = { λ r. (r.book.total ≡ folded r.journal + length r.journal.kept) × (L.parts ≡ 67) };
+    ghost invariant = { λ r. (r.book.total ≡ folded r.journal + length r.journal.kept)
+        × (L.parts ≡ 67) };
 }
 
 impl<M: GuestMem, L: Ledger> Recorded<M, L> {
@@ -102,7 +103,8 @@ impl<M: GuestMem, L: Ledger> Recorded<M, L> {
         ensures shares { IfOk result (λ r. AreUnused r.1) }
         ensures bad_make { is_cap cap ≡ false → result ≡ Err Fault.BadMake }
         ensures bad_twin { ¬ (SameMake live twin) → result ≡ Err Fault.BadMake }
-        ensures no_memory { IfErr result (λ e. is_cap cap ≡ true → SameMake live twin → e ≡ Fault.NoMemory) }
+        ensures no_memory { IfErr result
+            (λ e. is_cap cap ≡ true → SameMake live twin → e ≡ Fault.NoMemory) }
     {
         if !is_same_make(&live, &twin) {
             return Err(Fault::BadMake);
@@ -128,10 +130,14 @@ impl<M: GuestMem, L: Ledger> Recorded<M, L> {
         requires may { may share.old.caller (event_of request) ≡ true }
         ensures answer { IfSome result (λ taken.
             answer_in self.new.live taken ≡ (step self.old.live (event_of request.entry)).answer) }
-        ensures sent { IfSome result (λ taken. option_copied taken.sent ≡ sent_by self.old.live (event_of request.entry)) }
-        ensures left { IfSome result (λ taken. option_copied taken.left ≡ left_by self.old.live (event_of request.entry)) }
-        ensures kept { IfSome result (λ taken. Keeps self.old share.old.caller (event_of request.entry) self.new) }
-        ensures counted { IfSome result (λ taken. share.new ≡ having_asked (event_of request.entry) share.old) }
+        ensures sent { IfSome result
+            (λ taken. option_copied taken.sent ≡ sent_by self.old.live (event_of request.entry)) }
+        ensures left { IfSome result
+            (λ taken. option_copied taken.left ≡ left_by self.old.live (event_of request.entry)) }
+        ensures kept { IfSome result
+            (λ taken. Keeps self.old share.old.caller (event_of request.entry) self.new) }
+        ensures counted { IfSome result
+            (λ taken. share.new ≡ having_asked (event_of request.entry) share.old) }
         ensures full { IfNone result (length self.old.kept ≡ self.old.cap) }
         ensures unchanged { IfNone result ((self.new ≡ self.old) × (share.new ≡ share.old)) }
     {
@@ -158,14 +164,22 @@ impl<M: GuestMem, L: Ledger> Recorded<M, L> {
         requires may { may share.old.caller (event_of request) ≡ true }
         requires room { bytes_asked (event_of request) ≤ length read.old }
         ensures answer { IfSome result (λ taken.
-            answer_with (take (bytes_told taken.outcome) read.new) taken ≡ (step self.old.live (event_of request.entry)).answer) }
-        ensures rest { IfSome result (λ taken. drop (bytes_told taken.outcome) read.new ≡ drop (bytes_told taken.outcome) read.old) }
-        ensures sent { IfSome result (λ taken. option_copied taken.sent ≡ sent_by self.old.live (event_of request.entry)) }
-        ensures left { IfSome result (λ taken. option_copied taken.left ≡ left_by self.old.live (event_of request.entry)) }
-        ensures kept { IfSome result (λ taken. Keeps self.old share.old.caller (event_of request.entry) self.new) }
-        ensures counted { IfSome result (λ taken. share.new ≡ having_asked (event_of request.entry) share.old) }
+            answer_with (take (bytes_told taken.outcome) read.new) taken
+            ≡ (step self.old.live (event_of request.entry)).answer) }
+        ensures rest { IfSome result
+            (λ taken. drop (bytes_told taken.outcome) read.new
+            ≡ drop (bytes_told taken.outcome) read.old) }
+        ensures sent { IfSome result
+            (λ taken. option_copied taken.sent ≡ sent_by self.old.live (event_of request.entry)) }
+        ensures left { IfSome result
+            (λ taken. option_copied taken.left ≡ left_by self.old.live (event_of request.entry)) }
+        ensures kept { IfSome result
+            (λ taken. Keeps self.old share.old.caller (event_of request.entry) self.new) }
+        ensures counted { IfSome result
+            (λ taken. share.new ≡ having_asked (event_of request.entry) share.old) }
         ensures full { IfNone result (length self.old.kept ≡ self.old.cap) }
-        ensures unchanged { IfNone result ((self.new ≡ self.old) × (share.new ≡ share.old) × (read.new ≡ read.old)) }
+        ensures unchanged { IfNone result
+            ((self.new ≡ self.old) × (share.new ≡ share.old) × (read.new ≡ read.old)) }
     {
         let Some(taken) = self.record_request(share, request, frame) else {
             return None;
@@ -178,7 +192,8 @@ impl<M: GuestMem, L: Ledger> Recorded<M, L> {
     #[inline]
     fn copy_read(&self, outcome: Outcome, read: &mut [u8])
         requires { bytes_told outcome ≤ length read.old }
-        ensures read { reply_by (λ span. take (bytes_told outcome) read.new) outcome ≡ reply_in self.now.live outcome }
+        ensures read { reply_by (λ span. take (bytes_told outcome) read.new) outcome
+            ≡ reply_in self.now.live outcome }
         ensures rest { drop (bytes_told outcome) read.new ≡ drop (bytes_told outcome) read.old }
     {
         if let Outcome::Bytes(span) = outcome {
@@ -193,7 +208,8 @@ impl<M: GuestMem, L: Ledger> Recorded<M, L> {
         ensures answer { IfOk result (λ answer. answer ≡ (step self.old.live event).answer) }
         ensures kept { OnOk result (Keeps self.old share.old.caller event self.new) }
         ensures counted { OnOk result (share.new ≡ having_asked event share.old) }
-        ensures full { IfErr result (λ full. (full.0 ≡ event) × (length self.old.kept ≡ self.old.cap)) }
+        ensures full { IfErr result
+            (λ full. (full.0 ≡ event) × (length self.old.kept ≡ self.old.cap)) }
         ensures unchanged { OnErr result ((self.new ≡ self.old) × (share.new ≡ share.old)) }
     {
         let mut frame = FrameBuf::blank();
@@ -211,8 +227,11 @@ impl<M: GuestMem, L: Ledger> Recorded<M, L> {
         ensures count { IfSome result (λ count. count ≡ length self.old.kept) }
         ensures few { IfSome result (λ count. count ≤ 65536) }
         ensures rebased { IfSome result (λ count. Rebased self.old self.new) }
-        ensures can { IfSome result (λ count. (self.old.has_twin ≡ true) × (folded self.old + length self.old.kept ≤ 2 ^ 62)) }
-        ensures cannot { IfNone result ((self.old.has_twin ≡ false) ⊎ (2 ^ 62 < folded self.old + length self.old.kept)) }
+        ensures can { IfSome result
+            (λ count. (self.old.has_twin ≡ true)
+            × (folded self.old + length self.old.kept ≤ 2 ^ 62)) }
+        ensures cannot { IfNone result
+            ((self.old.has_twin ≡ false) ⊎ (2 ^ 62 < folded self.old + length self.old.kept)) }
         ensures unchanged { IfNone result (self.new ≡ self.old) }
     {
         self.journal.rebase()
@@ -223,8 +242,10 @@ impl<M: GuestMem, L: Ledger> Recorded<M, L> {
         ensures none { IfNone result (length shares.items ≢ 67) }
         ensures some { IfSome result (λ tally. length shares.items ≡ 67) }
         ensures each { IfSome result (λ tally. (c : ℕ) → c < 67 →
-            slice_index tally.entries c ≡ slice_index self.old.tallies c + calls_of c self.old.kept) }
-        ensures all { IfSome result (λ tally. sum tally.entries ≡ folded self.old + length self.old.kept) }
+            slice_index tally.entries c
+            ≡ slice_index self.old.tallies c + calls_of c self.old.kept) }
+        ensures all { IfSome result
+            (λ tally. sum tally.entries ≡ folded self.old + length self.old.kept) }
         ensures counts { IfSome result (λ tally. sum tally.entries ≡ sum_by count_of shares.items) }
         ensures unchanged { self.new ≡ self.old }
     {
@@ -243,10 +264,12 @@ impl<M: GuestMem, L: Ledger> Recorded<M, L> {
     /// messages.
     pub fn replays(&self, device: &mut Device<M>) -> bool
         ensures world { device.new ≡ world_after device.old (events self.now.kept) }
-        ensures same { IsTrue result ↔ (answers device.old (events self.now.kept) ≡ given self.now.kept) }
+        ensures same { IsTrue result
+            ↔ (answers device.old (events self.now.kept) ≡ given self.now.kept) }
         // of the base, and of a device of the live one's make while no calls were folded away
         ensures base { device.old ≡ self.now.base → IsTrue result }
-        ensures fresh { folded self.now ≡ 0 → device.old ≡ fresh self.now.live.limit (sizes_of self.now.live) → IsTrue result }
+        ensures fresh { folded self.now ≡ 0
+            → device.old ≡ fresh self.now.live.limit (sizes_of self.now.live) → IsTrue result }
     {
         self.journal.agrees();
         self.journal.replays(device)
@@ -277,17 +300,20 @@ impl<M: GuestMem, L: Ledger> Recorded<M, L> {
         ensures legal { Legal self.now.base self.now.kept self.now.live }
         ensures few { length self.now.kept ≤ self.now.cap }
         // until calls are folded away, the base is a device as it is made
-        ensures first { folded self.now ≡ 0 → self.now.base ≡ fresh self.now.live.limit (sizes_of self.now.live) }
+        ensures first { folded self.now ≡ 0
+            → self.now.base ≡ fresh self.now.live.limit (sizes_of self.now.live) }
         // each message that was raised is one of a kept answer, or of a call that was folded away
         ensures raised { (p v : ℕ) → p < 64 →
-            raised p v self.now.line.raises ≡ kept_raises p v self.now.kept + folded_raises p v self.now }
+            raised p v self.now.line.raises
+            ≡ kept_raises p v self.now.kept + folded_raises p v self.now }
         ensures folded { (p v : ℕ) → p < 64 → folded_raises p v self.now ≤ folded self.now }
         // each function sees what it would see alone, and is as it would be alone
         ensures seen { (p : ℕ) → p < length self.now.base.functions →
             seen_by p (events self.now.kept) (given self.now.kept)
             ≡ lone_seen (lone_of p self.now.base) (keep p self.now.base (events self.now.kept)) }
         ensures state { (p : ℕ) → p < length self.now.base.functions →
-            lone_of p self.now.live ≡ lone_after (lone_of p self.now.base) (keep p self.now.base (events self.now.kept)) }
+            lone_of p self.now.live
+            ≡ lone_after (lone_of p self.now.base) (keep p self.now.base (events self.now.kept)) }
     {
         self.journal.agrees();
     }

@@ -42,12 +42,14 @@ impl<L: Ledger> Shares<L> {
 
     /// The share of a pool's port, which is handed out once: None the second time, and above pool 63.
     pub fn port(&mut self, pool: u8) -> Option<Share<L>>
-        ensures share { IfSome result (λ share. slice_get self.old.ports.items pool ≡ Some (Some share)) }
+        ensures share { IfSome result
+            (λ share. slice_get self.old.ports.items pool ≡ Some (Some share)) }
         ensures caller { IfSome result (λ share. share.caller ≡ pool) }
         ensures gone { IfNone result ((slice_get self.old.ports.items pool ≡ None)
             ⊎ (slice_get self.old.ports.items pool ≡ Some None)) }
         ensures ports { self.new.ports.items ≡ slice_set self.old.ports.items pool None }
-        ensures others { (self.new.pf ≡ self.old.pf) × (self.new.pump ≡ self.old.pump) × (self.new.service ≡ self.old.service) }
+        ensures others { (self.new.pf ≡ self.old.pf) × (self.new.pump ≡ self.old.pump)
+            × (self.new.service ≡ self.old.service) }
     {
         let index = usize::from(pool);
         if index >= self.ports.len() {

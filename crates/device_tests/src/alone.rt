@@ -1,12 +1,13 @@
 //! Values from outside: what events leave for a pool, and what a function by itself makes of it.
 use device::{Device, MemSlice, Outcome, Queue, Request, Span};
 use guest_memory::FlatMem;
-use lone::{Given, Lone, Room, Seen, Watch, follow};
+use lone::follow::follow;
+use lone::{Given, Lone, Room, Seen, Watch};
 use pool_filter::{Own, Tables};
 use std::alloc::Global;
 use std::process::Abort;
 use std::test::Fail;
-use test_support::all_room;
+use test_support::{all_room, assert_equal, assert_equal_at};
 use wire_frame::{Fault, FrameBuf, FrameLimit, PoolId};
 
 // Registers of the physical function, and what they are written: functions 0 and 1 have addresses that end with 10 and 11,
@@ -116,7 +117,7 @@ fn span_of(seen: &Option<Seen>) -> Option<Span> {
 
 // An event of the function's own that is done, without messages.
 fn does<R: Abort>(rt: &R, lone: &mut Lone<FlatMem>, request: Request<'_>) {
-    assert_eq!(rt; messages(&lone.take(Given::OwnEvent(request))), Some(0));
+    assert_equal(rt, messages(&lone.take(Given::OwnEvent(request))), Some(0));
 }
 
 // The function is open, has its rings, and a descriptor that sends a frame of 60 bytes.
@@ -161,11 +162,12 @@ fn settings_that_differ_are_left(rt: HostRuntime) -> Result<(), Fail> {
         } else {
             Kind::Nothing
         };
-        assert_eq!(rt; kind_of(watch.step(request, &mut room)), want, "{offset}");
-        assert_eq!(rt;
+        assert_equal_at(&rt, kind_of(watch.step(request, &mut room)), want, offset);
+        assert_equal_at(
+            &rt,
             kind_of(watch.step(request, &mut room)),
             Kind::Nothing,
-            "{offset} again"
+            offset,
         );
     }
     for (request, kind) in [
@@ -174,7 +176,7 @@ fn settings_that_differ_are_left(rt: HostRuntime) -> Result<(), Fail> {
         (Request::PfReset, Kind::Gone),
         (Request::PfReset, Kind::Gone),
     ] {
-        assert_eq!(rt; kind_of(watch.step(request, &mut room)), kind);
+        assert_equal(&rt, kind_of(watch.step(request, &mut room)), kind);
     }
     Ok(())
 }
@@ -214,7 +216,7 @@ fn own_events_and_frames_are_left(rt: HostRuntime) -> Result<(), Fail> {
         (Request::Open(64), Kind::Nothing),
         (Request::Serve(1, Queue::Q0), Kind::Nothing),
     ] {
-        assert_eq!(rt; kind_of(watch.step(request, &mut room)), kind);
+        assert_equal(&rt, kind_of(watch.step(request, &mut room)), kind);
     }
     let (mine, others, nobodys) = (frame_to(0x10)?, frame_to(0x11)?, frame_to(0x12)?);
     assert!(rt; is_offered(&mut watch, &mine, &mut room));
@@ -222,7 +224,11 @@ fn own_events_and_frames_are_left(rt: HostRuntime) -> Result<(), Fail> {
     assert!(rt; !is_offered(&mut watch, &nobodys, &mut room));
     // and as default pool it gets the last of them
     let default_pool = Request::PfWrite(0x51B0, 0);
-    assert_eq!(rt; kind_of(watch.step(default_pool, &mut room)), Kind::Nothing);
+    assert_equal(
+        &rt,
+        kind_of(watch.step(default_pool, &mut room)),
+        Kind::Nothing,
+    );
     assert!(rt; is_offered(&mut watch, &nobodys, &mut room));
     Ok(())
 }
@@ -235,19 +241,23 @@ fn a_function_by_itself(rt: HostRuntime) -> Result<(), Fail> {
     both_ways(&mut own)?;
     let serve = Given::OwnEvent(Request::Serve(0, Queue::Q0));
     let frame = frame_to(0x10)?;
-    assert_eq!(rt; messages(&lone.take(serve)), None);
+    assert_equal(&rt, messages(&lone.take(serve)), None);
     set_up(&rt, &mut lone)?;
     // without settings it may neither send nor receive
-    assert_eq!(rt; messages(&lone.take(serve)), None);
+    assert_equal(&rt, messages(&lone.take(serve)), None);
     assert!(rt; lone.take(Given::Offer(&frame, false)).is_none());
     assert!(rt; lone.take(Given::NewSettings(&own)).is_none());
-    assert_eq!(rt; messages(&lone.take(serve)), Some(2));
-    assert_eq!(rt; messages(&lone.take(Given::Offer(&frame, true))), Some(1));
+    assert_equal(&rt, messages(&lone.take(serve)), Some(2));
+    assert_equal(
+        &rt,
+        messages(&lone.take(Given::Offer(&frame, true))),
+        Some(1),
+    );
     // there is one buffer, so a second frame has no room
     assert!(rt; lone.take(Given::Offer(&frame, true)).is_none());
     assert!(rt; lone.take(Given::Gone).is_none());
     set_up(&rt, &mut lone)?;
-    assert_eq!(rt; messages(&lone.take(serve)), None);
+    assert_equal(&rt, messages(&lone.take(serve)), None);
     assert!(rt; lone.take(Given::Offer(&frame, false)).is_none());
     Ok(())
 }
@@ -289,7 +299,7 @@ fn a_frame_of_another_function(rt: HostRuntime) -> Result<(), Fail> {
         );
     }
     let seen = follow(&mut watch, &mut lone, Request::Open(0), &mut room);
-    assert_eq!(rt; messages(&seen), Some(0));
+    assert_equal(&rt, messages(&seen), Some(0));
     for (offset, value) in RINGS {
         let seen = follow(
             &mut watch,
@@ -297,7 +307,7 @@ fn a_frame_of_another_function(rt: HostRuntime) -> Result<(), Fail> {
             Request::VfWrite(0, offset, value),
             &mut room,
         );
-        assert_eq!(rt; messages(&seen), Some(0), "{offset}");
+        assert_equal_at(&rt, messages(&seen), Some(0), offset);
     }
     let frame = frame_to(0x10)?;
     for (at, bytes) in [(0x6000, frame.bytes()), (0x2000, DESCRIPTOR.as_slice())] {
@@ -323,7 +333,7 @@ fn a_frame_of_another_function(rt: HostRuntime) -> Result<(), Fail> {
         Request::Serve(1, Queue::Q0),
         &mut room,
     );
-    assert_eq!(rt; messages(&seen), Some(1));
+    assert_equal(&rt, messages(&seen), Some(1));
     let written_back = [0, 0, 0, 0, 0, 0, 0, 0, 3, 0, 4, 0, 60, 0, 0, 0];
     let seen = follow(
         &mut watch,
@@ -334,7 +344,7 @@ fn a_frame_of_another_function(rt: HostRuntime) -> Result<(), Fail> {
     let span = span_of(&seen).ok_or("no bytes")?;
     let mut bytes = [9; 16];
     lone.read_span(span, &mut bytes);
-    assert_eq!(rt; bytes, written_back);
+    assert_equal(&rt, bytes, written_back);
     Ok(())
 }
 
@@ -351,10 +361,10 @@ fn tells_of_refused_memory(rt: HostRuntime) -> Result<(), Fail> {
     let alloc = rt.alloc();
     let (first, second) = (FlatMem::new(alloc, 4096)?, FlatMem::new(alloc, 4096)?);
     // The stack grows to what the call wants before nothing is left.
-    assert_eq!(rt; fault_of(alloc, FlatMem::new(alloc, 4096)?), None);
+    assert_equal(&rt, fault_of(alloc, FlatMem::new(alloc, 4096)?), None);
     let taken = all_room(alloc).ok_or("the heap does not run out")?;
-    assert_eq!(rt; fault_of(alloc, first), Some(Fault::NoMemory));
+    assert_equal(&rt, fault_of(alloc, first), Some(Fault::NoMemory));
     drop(taken);
-    assert_eq!(rt; fault_of(alloc, second), None);
+    assert_equal(&rt, fault_of(alloc, second), None);
     Ok(())
 }

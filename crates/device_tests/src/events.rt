@@ -4,6 +4,7 @@ use guest_memory::{FlatMem, GuestMem};
 use std::alloc::{AllocError, Global};
 use std::process::Abort;
 use std::test::Fail;
+use test_support::assert_equal;
 use wire_frame::{Fault, FrameBuf};
 
 mod calls;
@@ -62,7 +63,7 @@ pub fn memories(alloc: Global, count: usize) -> Result<Vec<FlatMem>, Fault> {
 pub fn do_silently<R: Abort, M: GuestMem>(rt: &R, device: &mut Device<M>, event: &Event) {
     let answer = device.step(event);
     assert!(rt; answer.reply.is_done());
-    assert_eq!(rt; answer.raised.as_slice(), [0u8; 64].as_slice());
+    assert_equal(rt, answer.raised.as_slice(), [0u8; 64].as_slice());
 }
 
 // The settings, and function 3 open with its receive ring.
@@ -83,7 +84,7 @@ pub fn set_up<R: Abort, M: GuestMem>(rt: &R, device: &mut Device<M>) -> Result<(
 pub fn assert_bytes<R: Abort, M: GuestMem>(rt: &R, device: &mut Device<M>, at: u64, want: &[u8]) {
     let count = want.len().min(2048) as u16;
     match &device.step(&Event::MemRead(3, at, count)).reply {
-        Reply::Bytes(bytes) => assert_eq!(rt; bytes.bytes(), want),
+        Reply::Bytes(bytes) => assert_equal(rt, bytes.bytes(), want),
         _ => assert!(rt; false),
     }
 }

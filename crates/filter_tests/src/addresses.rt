@@ -1,5 +1,6 @@
 //! Words as a driver writes them, and what the tables then say.
 use addr_tables::AddrTables;
+use test_support::{assert_equal, assert_equal_at};
 use wire_frame::{Mac, PoolId};
 
 /// The first and the last entry hold one address, 02:00:00:00:00:77, for pools 1 and 34; an entry that is not valid holds
@@ -24,12 +25,13 @@ fn entries_with_one_address_are_united(rt: HostRuntime) {
         tables.write(offset, value);
     }
     let address = Mac([2, 0, 0, 0, 0, 0x77]);
-    assert_eq!(rt; tables.pools_of(address), 0x4_0000_0002);
+    assert_equal(&rt, tables.pools_of(address), 0x4_0000_0002);
     for (number, has) in [(0, false), (1, true), (5, false), (34, true)] {
-        assert_eq!(rt;
+        assert_equal_at(
+            &rt,
             PoolId::new(number).map(|pool| tables.has_pool(address, pool)),
             Some(has),
-            "pool {number}"
+            number,
         );
     }
     assert!(rt; tables.is_held(address));
@@ -85,13 +87,9 @@ fn repeated_addresses_lose_one_entry(rt: HostRuntime) {
     }
     for (high, want) in [(0xA5FC, 21), (0xA204, 20), (0xA224, 4), (0xA214, 0)] {
         tables.write(high, 0x5500);
-        assert_eq!(rt;
-            tables.pools_of(Mac([2, 0, 0, 0, 0, 0x55])),
-            want,
-            "after {high}"
-        );
-        assert_eq!(rt; tables.pools_of(Mac([2, 0, 0, 0, 0, 0x44])), 8);
-        assert_eq!(rt; tables.pools_of(Mac([2, 0, 0, 0, 0, 0x66])), 2);
+        assert_equal_at(&rt, tables.pools_of(Mac([2, 0, 0, 0, 0, 0x55])), want, high);
+        assert_equal(&rt, tables.pools_of(Mac([2, 0, 0, 0, 0, 0x44])), 8);
+        assert_equal(&rt, tables.pools_of(Mac([2, 0, 0, 0, 0, 0x66])), 2);
     }
 }
 
@@ -100,7 +98,7 @@ fn repeated_addresses_lose_one_entry(rt: HostRuntime) {
 #[test]
 fn many_addresses_take_few_comparisons(rt: HostRuntime) {
     let mut tables = AddrTables::new();
-    assert_eq!(rt; tables.probe(Mac([2, 0, 0, 0, 0, 0])), (0, 0));
+    assert_equal(&rt, tables.probe(Mac([2, 0, 0, 0, 0, 0])), (0, 0));
     for e in 0..128 {
         tables.write(0xA200 + 8 * e, 0x2);
         tables.write(0xA204 + 8 * e, 0x8000_FE00 - 512 * e);
@@ -109,10 +107,10 @@ fn many_addresses_take_few_comparisons(rt: HostRuntime) {
     for e in 0..128u8 {
         let last = 254 - 2 * e;
         let (pools, compared) = tables.probe(Mac([2, 0, 0, 0, 0, last]));
-        assert_eq!(rt; pools, 1 << (e % 64), "entry {e}");
+        assert_equal_at(&rt, pools, 1 << (e % 64), e);
         assert!(rt; 1 <= compared && compared <= 8, "entry {e}: {compared}");
         let (pools, compared) = tables.probe(Mac([2, 0, 0, 0, 0, last + 1]));
-        assert_eq!(rt; pools, 0, "above entry {e}");
+        assert_equal_at(&rt, pools, 0, e);
         assert!(rt;
             7 <= compared && compared <= 8,
             "above entry {e}: {compared}"
@@ -124,7 +122,7 @@ fn many_addresses_take_few_comparisons(rt: HostRuntime) {
         Mac([0xFF; 6]),
     ] {
         let (pools, compared) = tables.probe(other);
-        assert_eq!(rt; pools, 0);
+        assert_equal(&rt, pools, 0);
         assert!(rt; 7 <= compared && compared <= 8, "{compared}");
     }
 }
@@ -149,10 +147,10 @@ fn full_tables_are_rewritten(rt: HostRuntime) {
     for e in 0..128u8 {
         tables.write(0xA204 + 8 * u32::from(e), 0x8000_8000 + 256 * u32::from(e));
         let former = tables.probe(Mac([2, 0, 0, 0, 0, e]));
-        assert_eq!(rt; former.0, 0, "entry {e}");
+        assert_equal_at(&rt, former.0, 0, e);
         assert!(rt; former.1 <= 8, "entry {e}");
         let (pools, compared) = tables.probe(Mac([2, 0, 0, 0, 0, 128 + e]));
-        assert_eq!(rt; pools, 1 << (e % 64), "entry {e}");
+        assert_equal_at(&rt, pools, 1 << (e % 64), e);
         assert!(rt; 1 <= compared && compared <= 8, "entry {e}: {compared}");
     }
 }
@@ -166,18 +164,18 @@ fn one_address_gathers_all_pools(rt: HostRuntime) {
     for e in 0..128 {
         tables.write(0xA204 + 8 * e, 0x8000_EE00);
     }
-    assert_eq!(rt; tables.probe(address), (u64::MAX, 1));
-    assert_eq!(rt; tables.probe(Mac([2, 0, 0, 0, 0, 0x7F])), (0, 1));
+    assert_equal(&rt, tables.probe(address), (u64::MAX, 1));
+    assert_equal(&rt, tables.probe(Mac([2, 0, 0, 0, 0, 0x7F])), (0, 1));
     for e in 0..64 {
         tables.write(0xA204 + 8 * e, 0xEE00);
     }
-    assert_eq!(rt; tables.probe(address), (u64::MAX, 1));
+    assert_equal(&rt, tables.probe(address), (u64::MAX, 1));
     for e in 64..127 {
         tables.write(0xA204 + 8 * e, 0xEE00);
     }
-    assert_eq!(rt; tables.probe(address), (0x8000_0000_0000_0000, 1));
+    assert_equal(&rt, tables.probe(address), (0x8000_0000_0000_0000, 1));
     tables.write(0xA5FC, 0xEE00);
-    assert_eq!(rt; tables.probe(address), (0, 0));
+    assert_equal(&rt, tables.probe(address), (0, 0));
 }
 
 /// What an entry gives a pool. The first entry is for pool 1, the last for pool 34, the second is not valid and the third
@@ -262,6 +260,6 @@ fn words_read_back(rt: HostRuntime) {
     for (offset, want) in kept {
         let mut tables = AddrTables::new();
         tables.write(offset, 0xFFFF_FFFF);
-        assert_eq!(rt; tables.read(offset), want, "at {offset}");
+        assert_equal_at(&rt, tables.read(offset), want, offset);
     }
 }

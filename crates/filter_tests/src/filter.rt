@@ -3,6 +3,7 @@ use bitflags::Flags;
 use pool_filter::{Own, PoolFlags, Tables, accept_mask};
 use std::process::Abort;
 use std::test::Fail;
+use test_support::{assert_equal, assert_equal_at};
 use wire_frame::{FrameBuf, Mac, PoolId, PortVlan, Vid};
 
 // Settings as a device is made, with some words written.
@@ -46,15 +47,17 @@ fn entries_with_one_address_are_united(rt: HostRuntime) -> Result<(), Fail> {
         (0xA9FC, 0x4),
     ]);
     let address = [2, 0, 0, 0, 0, 0x77];
-    assert_eq!(rt;
+    assert_equal(
+        &rt,
         accept_mask(&tables, &frame_to(address, None)?),
-        0x4_0000_0002
+        0x4_0000_0002,
     );
-    assert_eq!(rt;
+    assert_equal(
+        &rt,
         accept_mask(&tables, &frame_to([2, 0, 0, 0, 0, 0x78], None)?),
-        0
+        0,
     );
-    assert_eq!(rt; tables.pools_of(Mac(address)), 0x4_0000_0002);
+    assert_equal(&rt, tables.pools_of(Mac(address)), 0x4_0000_0002);
     assert!(rt; tables.is_held(Mac(address)));
     assert!(rt; tables.has_address(pool(34)?, Mac(address)));
     assert!(rt; !tables.has_address(pool(2)?, Mac(address)));
@@ -65,14 +68,16 @@ fn entries_with_one_address_are_united(rt: HostRuntime) -> Result<(), Fail> {
 #[test]
 fn broadcast_by_its_flag(rt: HostRuntime) -> Result<(), Fail> {
     let tables = tables_with(&[(0xF00C, 0x0800_0000), (0xF010, 0x1300_0000)]);
-    assert_eq!(rt; accept_mask(&tables, &frame_to([0xFF; 6], None)?), 0x8);
-    assert_eq!(rt;
+    assert_equal(&rt, accept_mask(&tables, &frame_to([0xFF; 6], None)?), 0x8);
+    assert_equal(
+        &rt,
         accept_mask(&tables, &frame_to([1, 0, 0x5E, 0, 0, 1], None)?),
-        0x10
+        0x10,
     );
-    assert_eq!(rt;
+    assert_equal(
+        &rt,
         accept_mask(&tables, &frame_to([2, 0, 0, 0, 0, 3], None)?),
-        0
+        0,
     );
     assert!(rt; tables.flags(pool(3)?).contains(PoolFlags::BAM));
     assert!(rt; !tables.flags(pool(4)?).contains(PoolFlags::BAM));
@@ -145,20 +150,12 @@ fn multicast_by_its_hash(rt: HostRuntime) -> Result<(), Fail> {
     for (offset_bits, address, word, bit) in hashes {
         let mut tables = tables_with(&[(0xF004, 0x0200_0000), (0x5090, 4 + offset_bits)]);
         let frame = frame_to(address, None)?;
-        assert_eq!(rt;
-            accept_mask(&tables, &frame),
-            0,
-            "MO {offset_bits}, no bit set"
-        );
+        assert_equal_at(&rt, accept_mask(&tables, &frame), 0, offset_bits);
         tables.write(word, bit);
-        assert_eq!(rt; accept_mask(&tables, &frame), 0x2, "MO {offset_bits}");
+        assert_equal_at(&rt, accept_mask(&tables, &frame), 0x2, offset_bits);
         assert!(rt; tables.multicast_hit(Mac(address)));
         tables.write(0x5090, offset_bits);
-        assert_eq!(rt;
-            accept_mask(&tables, &frame),
-            0,
-            "MO {offset_bits}, the table off"
-        );
+        assert_equal_at(&rt, accept_mask(&tables, &frame), 0, offset_bits);
     }
     Ok(())
 }
@@ -183,17 +180,25 @@ fn vlans_filter(rt: HostRuntime) -> Result<(), Fail> {
     let first = [2, 0, 0, 0, 0, 1];
     let second = [2, 0, 0, 0, 0, 2];
     assert!(rt; !tables.filtering());
-    assert_eq!(rt; accept_mask(&tables, &frame_to(first, Some(101))?), 0x2);
+    assert_equal(&rt, accept_mask(&tables, &frame_to(first, Some(101))?), 0x2);
     tables.write(0x5088, 0x4000_0000);
     assert!(rt; tables.filtering());
-    assert_eq!(rt; accept_mask(&tables, &frame_to(first, Some(100))?), 0);
+    assert_equal(&rt, accept_mask(&tables, &frame_to(first, Some(100))?), 0);
     tables.write(0xA00C, 0x10);
-    assert_eq!(rt; accept_mask(&tables, &frame_to(first, Some(0xE064))?), 0x2);
-    assert_eq!(rt; accept_mask(&tables, &frame_to(second, Some(100))?), 0x4);
-    assert_eq!(rt; accept_mask(&tables, &frame_to(first, Some(101))?), 0);
-    assert_eq!(rt; accept_mask(&tables, &frame_to(first, None)?), 0);
-    assert_eq!(rt; accept_mask(&tables, &frame_to(second, None)?), 0x4);
-    assert_eq!(rt; tables.pools_of_vlan(Vid::of_tag(100)), 0x6);
+    assert_equal(
+        &rt,
+        accept_mask(&tables, &frame_to(first, Some(0xE064))?),
+        0x2,
+    );
+    assert_equal(
+        &rt,
+        accept_mask(&tables, &frame_to(second, Some(100))?),
+        0x4,
+    );
+    assert_equal(&rt, accept_mask(&tables, &frame_to(first, Some(101))?), 0);
+    assert_equal(&rt, accept_mask(&tables, &frame_to(first, None)?), 0);
+    assert_equal(&rt, accept_mask(&tables, &frame_to(second, None)?), 0x4);
+    assert_equal(&rt, tables.pools_of_vlan(Vid::of_tag(100)), 0x6);
     assert!(rt; tables.has_vlan(pool(1)?, Vid::of_tag(100)));
     assert!(rt; !tables.takes_untagged(pool(1)?));
     assert!(rt; tables.takes_untagged(pool(2)?));
@@ -204,16 +209,16 @@ fn vlans_filter(rt: HostRuntime) -> Result<(), Fail> {
 #[test]
 fn default_pool(rt: HostRuntime) -> Result<(), Fail> {
     let mut tables = Tables::new();
-    assert_eq!(rt; tables.read(0x51B0), 0x6000_0001);
-    assert_eq!(rt; tables.default_pool(), None);
+    assert_equal(&rt, tables.read(0x51B0), 0x6000_0001);
+    assert_equal(&rt, tables.default_pool(), None);
     tables.write(0x51B0, 0x300);
-    assert_eq!(rt; tables.read(0x51B0), 0x4000_0301);
-    assert_eq!(rt; tables.default_pool(), Some(pool(6)?));
+    assert_equal(&rt, tables.read(0x51B0), 0x4000_0301);
+    assert_equal(&rt, tables.default_pool(), Some(pool(6)?));
     tables.write(0x51B0, 0xFFFF_FFFF);
-    assert_eq!(rt; tables.read(0x51B0), 0x6000_1F81);
-    assert_eq!(rt; tables.default_pool(), None);
+    assert_equal(&rt, tables.read(0x51B0), 0x6000_1F81);
+    assert_equal(&rt, tables.default_pool(), None);
     tables.clear();
-    assert_eq!(rt; tables.read(0x51B0), 0x6000_0001);
+    assert_equal(&rt, tables.read(0x51B0), 0x6000_0001);
     Ok(())
 }
 
@@ -228,7 +233,7 @@ fn switches(rt: HostRuntime) -> Result<(), Fail> {
         (0x8204, 0x0402),
         (0x8220, 0xFFFF_FFFF),
     ]);
-    assert_eq!(rt; tables.receiving_pools(), 0x8000_0000_0000_0001);
+    assert_equal(&rt, tables.receiving_pools(), 0x8000_0000_0000_0001);
     for (number, receives, transmits, address, vlan) in [
         (0, true, false, false, false),
         (9, false, false, true, false),
@@ -237,10 +242,10 @@ fn switches(rt: HostRuntime) -> Result<(), Fail> {
         (63, true, false, false, false),
     ] {
         let pool = pool(number)?;
-        assert_eq!(rt; tables.may_receive(pool), receives, "pool {number}");
-        assert_eq!(rt; tables.may_transmit(pool), transmits, "pool {number}");
-        assert_eq!(rt; tables.checks_address(pool), address, "pool {number}");
-        assert_eq!(rt; tables.checks_vlan(pool), vlan, "pool {number}");
+        assert_equal_at(&rt, tables.may_receive(pool), receives, number);
+        assert_equal_at(&rt, tables.may_transmit(pool), transmits, number);
+        assert_equal_at(&rt, tables.checks_address(pool), address, number);
+        assert_equal_at(&rt, tables.checks_vlan(pool), vlan, number);
     }
     assert!(rt; tables.loops_back());
     assert!(rt; !Tables::new().loops_back());
@@ -258,9 +263,9 @@ fn port_vlans(rt: HostRuntime) -> Result<(), Fail> {
         (0xFFFF_FFFF, 0xC000_FFFF, PortVlan::Descriptor),
     ] {
         let tables = tables_with(&[(0x8014, written)]);
-        assert_eq!(rt; tables.read(0x8014), read);
-        assert_eq!(rt; tables.port_vlan(pool(5)?), rule);
-        assert_eq!(rt; tables.port_vlan(pool(4)?), PortVlan::Descriptor);
+        assert_equal(&rt, tables.read(0x8014), read);
+        assert_equal(&rt, tables.port_vlan(pool(5)?), rule);
+        assert_equal(&rt, tables.port_vlan(pool(4)?), PortVlan::Descriptor);
     }
     Ok(())
 }
@@ -310,10 +315,10 @@ const OWN_WORDS: [(u32, u32); 34] = [
 fn assert_sets<R: Abort>(rt: &R, own: &Own, addresses: [u8; 2], ids: [u16; 2]) {
     for last in [0x03, 0x55, 0x66, 0x77] {
         let has = own.has_address(Mac([2, 0, 0, 0, 0, last]));
-        assert_eq!(rt; has, addresses.contains(&last), "to {last}");
+        assert_equal_at(rt, has, addresses.contains(&last), last);
     }
     for id in [7, 9, 11, 100, 200] {
-        assert_eq!(rt; own.has_vlan(Vid::of_tag(id)), ids.contains(&id), "id {id}");
+        assert_equal_at(rt, own.has_vlan(Vid::of_tag(id)), ids.contains(&id), id);
     }
 }
 
@@ -329,7 +334,7 @@ fn own_settings_are_sets(rt: HostRuntime) -> Result<(), Fail> {
     assert!(rt; !own.may_transmit());
     assert!(rt; own.checks_address());
     assert!(rt; !own.checks_vlan());
-    assert_eq!(rt; own.port_vlan(), PortVlan::Always(0xE064));
+    assert_equal(&rt, own.port_vlan(), PortVlan::Always(0xE064));
     tables.own(pool(2)?, &mut own);
     assert_sets(&rt, &own, [0x03, 0x66], [7, 9]);
     assert!(rt; !own.takes_untagged());
@@ -337,7 +342,7 @@ fn own_settings_are_sets(rt: HostRuntime) -> Result<(), Fail> {
     assert!(rt; own.may_transmit());
     assert!(rt; !own.checks_address());
     assert!(rt; own.checks_vlan());
-    assert_eq!(rt; own.port_vlan(), PortVlan::Descriptor);
+    assert_equal(&rt, own.port_vlan(), PortVlan::Descriptor);
     Ok(())
 }
 
@@ -391,7 +396,7 @@ fn own_settings_as_a_whole(rt: HostRuntime) -> Result<(), Fail> {
     assert_eq!(rt; own, first);
     assert!(rt; !own.has_address(Mac([2, 0, 0, 0, 0, 0x77])));
     assert!(rt; !own.has_vlan(Vid::of_tag(0)));
-    assert_eq!(rt; own.port_vlan(), PortVlan::Descriptor);
+    assert_equal(&rt, own.port_vlan(), PortVlan::Descriptor);
     Ok(())
 }
 
@@ -437,11 +442,7 @@ fn every_word_reads_back(rt: HostRuntime) {
         for word in 0..0x8000u32 {
             let offset = 4 * word;
             tables.write(offset, pattern);
-            assert_eq!(rt;
-                tables.read(offset),
-                expected(offset, pattern),
-                "at {offset}"
-            );
+            assert_equal_at(&rt, tables.read(offset), expected(offset, pattern), offset);
         }
     }
 }

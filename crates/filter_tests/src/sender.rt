@@ -1,7 +1,8 @@
 //! Frames that pools try to send, and the checks that stop them.
-use anti_spoof::{honest, permits};
+use anti_spoof::{honest, honest_by};
 use pool_filter::{Own, Tables};
 use std::test::Fail;
+use test_support::{assert_equal, assert_equal_at};
 use wire_frame::{FrameBuf, PoolId};
 
 // A frame of 60 bytes to 02:00:00:00:00:04, with a VLAN tag or none.
@@ -49,10 +50,10 @@ fn sources_are_checked(rt: HostRuntime) -> Result<(), Fail> {
     }
     let second = PoolId::new(2).ok_or("no such pool")?;
     let fifth = PoolId::new(5).ok_or("no such pool")?;
-    assert_eq!(rt; sources_of(&tables, second)?, [true, true, true]);
+    assert_equal(&rt, sources_of(&tables, second)?, [true, true, true]);
     tables.write(0x8200, 0x4);
-    assert_eq!(rt; sources_of(&tables, second)?, [true, false, false]);
-    assert_eq!(rt; sources_of(&tables, fifth)?, [true, true, true]);
+    assert_equal(&rt, sources_of(&tables, second)?, [true, false, false]);
+    assert_equal(&rt, sources_of(&tables, fifth)?, [true, true, true]);
     Ok(())
 }
 
@@ -75,15 +76,12 @@ fn vlans_are_checked(rt: HostRuntime) -> Result<(), Fail> {
         (0xA00C, 0x20, false, true),
     ] {
         tables.write(offset, value);
-        assert_eq!(rt;
-            honest(&tables, pool, &tagged),
-            tagged_passes,
-            "tagged, after {offset}"
-        );
-        assert_eq!(rt;
+        assert_equal_at(&rt, honest(&tables, pool, &tagged), tagged_passes, offset);
+        assert_equal_at(
+            &rt,
             honest(&tables, pool, &untagged),
             untagged_passes,
-            "untagged, after {offset}"
+            offset,
         );
     }
     Ok(())
@@ -122,12 +120,12 @@ fn held_settings_are_checked(rt: HostRuntime) -> Result<(), Fail> {
         tables.own(pool, &mut own);
         let [tagged, elsewhere, untagged, nobodys] = &frames;
         let found = [
-            permits(&own, tagged),
-            permits(&own, elsewhere),
-            permits(&own, untagged),
-            permits(&own, nobodys),
+            honest_by(&own, tagged),
+            honest_by(&own, elsewhere),
+            honest_by(&own, untagged),
+            honest_by(&own, nobodys),
         ];
-        assert_eq!(rt; found, passes, "checks {checks}");
+        assert_equal_at(&rt, found, passes, checks);
     }
     Ok(())
 }

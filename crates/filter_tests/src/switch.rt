@@ -2,6 +2,7 @@
 use local_switch::*;
 use pool_filter::Tables;
 use std::test::Fail;
+use test_support::assert_equal;
 use wire_frame::{FrameBuf, PoolId};
 
 // Pools 3, 4 and 5 have the addresses 02:00:00:00:00:03 to 05 and take broadcast; all pools may receive.
@@ -46,7 +47,7 @@ fn routes_frames_of_the_wire(rt: HostRuntime) -> Result<(), Fail> {
     ] {
         tables.write(0x51B0, default);
         let route = route(&tables, Source::Wire, &frame_to(address)?);
-        assert_eq!(rt; route, Route { local, wire: false });
+        assert_equal(&rt, route, Route { local, wire: false });
     }
     Ok(())
 }
@@ -67,17 +68,18 @@ fn routes_frames_of_a_pool(rt: HostRuntime) -> Result<(), Fail> {
     ] {
         tables.write(0x8220, loopback);
         let route = route(&tables, Source::Pool(sender), &frame_to(address)?);
-        assert_eq!(rt; route, Route { local, wire });
+        assert_equal(&rt, route, Route { local, wire });
     }
     // VLAN filtering holds of frames of pools too, and changes nothing of the wire.
     tables.write(0x5088, 0x4000_0000);
     let route = route(&tables, Source::Pool(sender), &frame_to(OF_POOL_3)?);
-    assert_eq!(rt;
+    assert_equal(
+        &rt,
         route,
         Route {
             local: 0,
-            wire: false
-        }
+            wire: false,
+        },
     );
     Ok(())
 }

@@ -1,4 +1,5 @@
 //! Words as a driver writes them, and what the tables then say.
+use test_support::{assert_equal, assert_equal_at};
 use vlan_table::VlanTable;
 use wire_frame::{PoolId, Vid};
 
@@ -22,19 +23,20 @@ fn entries_with_one_id_are_united(rt: HostRuntime) {
     for (offset, value) in words {
         table.write(offset, value);
     }
-    assert_eq!(rt; Vid::new(100).map(|id| table.pools_of(id)), Some(0));
-    assert_eq!(rt; Vid::new(0).map(|id| table.pools_of(id)), Some(0x8));
+    assert_equal(&rt, Vid::new(100).map(|id| table.pools_of(id)), Some(0));
+    assert_equal(&rt, Vid::new(0).map(|id| table.pools_of(id)), Some(0x8));
     table.write(0xA00C, 0x10);
-    assert_eq!(rt;
+    assert_equal(
+        &rt,
         Vid::new(100).map(|id| table.pools_of(id)),
-        Some(0x4_0000_0002)
+        Some(0x4_0000_0002),
     );
-    assert_eq!(rt; Vid::new(101).map(|id| table.pools_of(id)), Some(0));
+    assert_equal(&rt, Vid::new(101).map(|id| table.pools_of(id)), Some(0));
     for (number, has) in [(0, false), (1, true), (5, false), (34, true)] {
         let found = PoolId::new(number).and_then(|pool| Vid::new(100).map(|id| table.member(
             id, pool,
         )));
-        assert_eq!(rt; found, Some(has), "pool {number}");
+        assert_equal_at(&rt, found, Some(has), number);
     }
 }
 
@@ -80,9 +82,9 @@ fn repeated_ids_lose_one_entry(rt: HostRuntime) {
     }
     for (offset, want) in [(0xF1FC, 21), (0xF100, 20), (0xF110, 4), (0xF108, 0)] {
         table.write(offset, 73);
-        assert_eq!(rt; found(&table, 73).0, want, "after {offset}");
-        assert_eq!(rt; found(&table, 72).0, 8);
-        assert_eq!(rt; found(&table, 74).0, 2);
+        assert_equal_at(&rt, found(&table, 73).0, want, offset);
+        assert_equal(&rt, found(&table, 72).0, 8);
+        assert_equal(&rt, found(&table, 74).0, 2);
     }
 }
 
@@ -117,7 +119,7 @@ fn many_ids_take_few_comparisons(rt: HostRuntime) {
     for word in 0..128 {
         table.write(0xA000 + 4 * word, 0xFFFF_FFFF);
     }
-    assert_eq!(rt; found(&table, 0), (0, 0));
+    assert_equal(&rt, found(&table, 0), (0, 0));
     for e in 0..64 {
         table.write(0xF100 + 4 * e, 0x8000_0FFF - 65 * e);
         table.write(0xF200 + 8 * e + 4 * (e / 32), 1 << (e % 32));
@@ -125,10 +127,10 @@ fn many_ids_take_few_comparisons(rt: HostRuntime) {
     for e in 0..64u16 {
         let id = 4095 - 65 * e;
         let (pools, compared) = found(&table, id);
-        assert_eq!(rt; pools, 1 << e, "id {id}");
+        assert_equal_at(&rt, pools, 1 << e, id);
         assert!(rt; 1 <= compared && compared <= 7, "id {id}: {compared}");
         let (pools, compared) = found(&table, id ^ 1);
-        assert_eq!(rt; pools, 0, "beside id {id}");
+        assert_equal_at(&rt, pools, 0, id);
         assert!(rt;
             6 <= compared && compared <= 7,
             "beside id {id}: {compared}"
@@ -206,6 +208,6 @@ fn words_read_back(rt: HostRuntime) {
     for (offset, want) in kept {
         let mut table = VlanTable::new();
         table.write(offset, 0xFFFF_FFFF);
-        assert_eq!(rt; table.read(offset), want, "at {offset}");
+        assert_equal_at(&rt, table.read(offset), want, offset);
     }
 }

@@ -2,6 +2,7 @@
 //! of messages as words and as text.
 use irq_causes::{Causes, Messages, Vectors};
 use std::test::Fail;
+use test_support::{assert_equal, assert_equal_at};
 use wire_frame::PoolId;
 
 // Vector 1 is enabled and vector 0 is not when both causes are set; then vector 0 is cleared automatically.
@@ -17,7 +18,7 @@ fn messages_follow_the_mask(rt: HostRuntime) {
     assert_eq!(rt; causes.read_icr(), 0b000, "it was cleared automatically");
     assert_eq!(rt; causes.ims(0b001), 0b000, "vector 0 is enabled already");
     causes.imc(0b010);
-    assert_eq!(rt; causes.mask(), 0b001);
+    assert_equal(&rt, causes.mask(), 0b001);
     assert_eq!(rt; causes.ics(0b111), 0b001, "the others are not enabled");
     assert_eq!(rt;
         causes.read_icr(),
@@ -30,37 +31,37 @@ fn messages_follow_the_mask(rt: HostRuntime) {
 #[test]
 fn a_waiting_cause_is_issued(rt: HostRuntime) {
     let mut causes = Causes::new();
-    assert_eq!(rt; causes.ics(0b001), 0b000);
+    assert_equal(&rt, causes.ics(0b001), 0b000);
     causes.iac(0b001);
-    assert_eq!(rt; causes.auto_clear(), 0b001);
-    assert_eq!(rt; causes.ims(0b001), 0b001);
-    assert_eq!(rt; causes.read_icr(), 0b000);
+    assert_equal(&rt, causes.auto_clear(), 0b001);
+    assert_equal(&rt, causes.ims(0b001), 0b001);
+    assert_equal(&rt, causes.read_icr(), 0b000);
 }
 
 // A cause that stands issues no second message until the driver clears it.
 #[test]
 fn a_standing_cause_is_silent(rt: HostRuntime) {
     let mut causes = Causes::new();
-    assert_eq!(rt; causes.ims(0b111), 0b000);
-    assert_eq!(rt; causes.cause(2), 0b100);
+    assert_equal(&rt, causes.ims(0b111), 0b000);
+    assert_equal(&rt, causes.cause(2), 0b100);
     assert_eq!(rt; causes.cause(2), 0b000, "the cause stands");
-    assert_eq!(rt; causes.cause(0), 0b001);
+    assert_equal(&rt, causes.cause(0), 0b001);
     causes.write_icr(0b100);
     assert_eq!(rt; causes.cause(2), 0b100, "the cause was cleared");
     causes.write_icr(0b001);
-    assert_eq!(rt; causes.read_icr(), 0b100);
+    assert_equal(&rt, causes.read_icr(), 0b100);
 }
 
 // The bits of a register above its three vectors are reserved.
 #[test]
 fn reserved_bits_are_ignored(rt: HostRuntime) {
     let mut causes = Causes::new();
-    assert_eq!(rt; causes.ims(0xFFFF_FFF8), 0);
-    assert_eq!(rt; causes.mask(), 0);
-    assert_eq!(rt; causes.ics(0xFFFF_FFF8), 0);
-    assert_eq!(rt; causes.read_icr(), 0);
+    assert_equal(&rt, causes.ims(0xFFFF_FFF8), 0);
+    assert_equal(&rt, causes.mask(), 0);
+    assert_equal(&rt, causes.ics(0xFFFF_FFF8), 0);
+    assert_equal(&rt, causes.read_icr(), 0);
     causes.iac(0xFFFF_FFFF);
-    assert_eq!(rt; causes.auto_clear(), 0b111);
+    assert_equal(&rt, causes.auto_clear(), 0b111);
 }
 
 // Bit 7 of an entry says that it names a vector, and bits 1:0 say which; a function has no vector 3.
@@ -75,9 +76,9 @@ fn entries_raise_their_vector(rt: HostRuntime) {
         (0x02, 0),
     ] {
         let mut causes = Causes::new();
-        assert_eq!(rt; causes.ims(0b111), 0);
-        assert_eq!(rt; causes.raise_by(entry), messages, "entry {entry}");
-        assert_eq!(rt; causes.read_icr(), messages, "entry {entry}");
+        assert_equal(&rt, causes.ims(0b111), 0);
+        assert_equal_at(&rt, causes.raise_by(entry), messages, entry);
+        assert_equal_at(&rt, causes.read_icr(), messages, entry);
     }
 }
 
@@ -85,21 +86,21 @@ fn entries_raise_their_vector(rt: HostRuntime) {
 #[test]
 fn no_vector_is_above_two(rt: HostRuntime) {
     let mut causes = Causes::default();
-    assert_eq!(rt; causes.ims(0b111), 0);
+    assert_equal(&rt, causes.ims(0b111), 0);
     for v in [3, 4, 7, 8, 64, 255] {
-        assert_eq!(rt; causes.cause(v), 0, "vector {v}");
+        assert_equal_at(&rt, causes.cause(v), 0, v);
     }
-    assert_eq!(rt; causes.read_icr(), 0);
+    assert_equal(&rt, causes.read_icr(), 0);
 }
 
 // A set of three vectors is a number below 8.
 #[test]
 fn three_vectors_make_eight_sets(rt: HostRuntime) {
     for (bits, is_set) in [(0, true), (7, true), (8, false), (255, false)] {
-        assert_eq!(rt; Vectors::new(bits).is_some(), is_set, "{bits}");
+        assert_equal_at(&rt, Vectors::new(bits).is_some(), is_set, bits);
     }
-    assert_eq!(rt; Vectors::new(0b101), Some(Vectors::from_bits(5)));
-    assert_eq!(rt; Vectors::from_bits(6).bits(), 0b110);
+    assert_equal(&rt, Vectors::new(0b101), Some(Vectors::from_bits(5)));
+    assert_equal(&rt, Vectors::from_bits(6).bits(), 0b110);
     assert!(rt; Vectors::from_bits(0).is_empty());
     assert!(rt; !Vectors::from_bits(0b100).is_empty());
 }
@@ -114,7 +115,7 @@ fn each_vector_has_its_pools(rt: HostRuntime) -> Result<(), Fail> {
             Vectors::from_bits(bits),
         );
     }
-    assert_eq!(rt; messages.pools(), 0x8000_0000_0000_0021);
+    assert_equal(&rt, messages.pools(), 0x8000_0000_0000_0021);
     for (v, pools) in [
         (0, 0x0000_0000_0000_0021),
         (1, 0x8000_0000_0000_0020),
@@ -122,16 +123,16 @@ fn each_vector_has_its_pools(rt: HostRuntime) -> Result<(), Fail> {
         (3, 0),
         (255, 0),
     ] {
-        assert_eq!(rt; messages.pools_with(v), pools, "vector {v}");
+        assert_equal_at(&rt, messages.pools_with(v), pools, v);
     }
     let words = [0x21, 0x8000_0000_0000_0020, 0x8000_0000_0000_0020];
-    assert_eq!(rt; messages.words().as_slice(), words.as_slice());
-    assert_eq!(rt; Messages::from_words(words), messages);
+    assert_equal(&rt, messages.words().as_slice(), words.as_slice());
+    assert_equal(&rt, Messages::from_words(words), messages);
     let mut masks = [0; 64];
     masks[0] = 0b001;
     masks[5] = 0b111;
     masks[63] = 0b110;
-    assert_eq!(rt; messages.to_masks().as_slice(), masks.as_slice());
+    assert_equal(&rt, messages.to_masks().as_slice(), masks.as_slice());
     Ok(())
 }
 
@@ -144,12 +145,12 @@ fn a_pool_is_told_anew(rt: HostRuntime) -> Result<(), Fail> {
     let mut second = first;
     second.set(fifth, Vectors::from_bits(0b001));
     second.masks_are_small();
-    assert_eq!(rt; second.to(fifth).bits(), 0b001);
+    assert_equal(&rt, second.to(fifth).bits(), 0b001);
     assert!(rt; second.to(sixth).is_empty());
     assert_eq!(rt; first.to(fifth).bits(), 0b110, "the copy stays");
     assert!(rt; first != second);
     second.set(fifth, Vectors::from_bits(0));
-    assert_eq!(rt; second, Messages::default());
+    assert_equal(&rt, second, Messages::default());
     Ok(())
 }
 
@@ -158,17 +159,20 @@ fn texts_for_people(rt: HostRuntime) -> Result<(), Fail> {
     let set = Vectors::from_bits(5);
     let messages = Messages::from_words([1, 2, 3]);
     let causes = Causes::new();
-    assert_eq!(rt;
+    assert_equal(
+        &rt,
         format!(in rt.alloc(); "{set:?}")?.as_str(),
-        "Vectors { bits: 5 }"
+        "Vectors { bits: 5 }",
     );
-    assert_eq!(rt;
+    assert_equal(
+        &rt,
         format!(in rt.alloc(); "{messages:?}")?.as_str(),
-        "Messages { vector_0: 1, vector_1: 2, vector_2: 3 }"
+        "Messages { vector_0: 1, vector_1: 2, vector_2: 3 }",
     );
-    assert_eq!(rt;
+    assert_equal(
+        &rt,
         format!(in rt.alloc(); "{causes:?}")?.as_str(),
-        "Causes { causes: 0, enabled: 0, auto_clear: 0 }"
+        "Causes { causes: 0, enabled: 0, auto_clear: 0 }",
     );
     Ok(())
 }

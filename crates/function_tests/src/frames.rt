@@ -1,5 +1,6 @@
 //! Values from outside: frames as 802.1Q and the receive address registers lay them out, limits, texts.
 use std::test::Fail;
+use test_support::{assert_equal, assert_equal_at};
 use wire_frame::*;
 
 // A frame to 02:00:00:00:00:03 from 02:00:00:00:00:99 with VLAN id 100 at priority 5, of type IPv4.
@@ -27,23 +28,23 @@ fn takes_frames_alone(rt: HostRuntime) {
         (9019, false, false),
     ] {
         let is_plain = FrameBuf::from_bytes(&plain[..len]).is_ok();
-        assert_eq!(rt; is_plain, takes_plain, "untagged, {len} bytes");
+        assert_equal_at(&rt, is_plain, takes_plain, len);
         let is_tagged = FrameBuf::from_bytes(&tagged[..len]).is_ok();
-        assert_eq!(rt; is_tagged, takes_tagged, "tagged, {len} bytes");
+        assert_equal_at(&rt, is_tagged, takes_tagged, len);
     }
 }
 
 #[test]
 fn reads_a_tagged_frame(rt: HostRuntime) -> Result<(), Fail> {
     let frame = FrameBuf::from_bytes(&TAGGED)?;
-    assert_eq!(rt; frame.bytes(), TAGGED.as_slice());
-    assert_eq!(rt; frame.dst(), Mac([2, 0, 0, 0, 0, 3]));
-    assert_eq!(rt; frame.src(), Mac([2, 0, 0, 0, 0, 0x99]));
-    assert_eq!(rt; frame.tag(), Some(0xA064));
-    assert_eq!(rt; frame.copy(), frame);
+    assert_equal(&rt, frame.bytes(), TAGGED.as_slice());
+    assert_equal(&rt, frame.dst(), Mac([2, 0, 0, 0, 0, 3]));
+    assert_equal(&rt, frame.src(), Mac([2, 0, 0, 0, 0, 0x99]));
+    assert_equal(&rt, frame.tag(), Some(0xA064));
+    assert!(rt; frame.copy() == frame);
     let (tag, rest) = frame.stripped().ok_or("tagged")?;
-    assert_eq!(rt; tag, 0xA064);
-    assert_eq!(rt; rest.as_slice(), UNTAGGED.as_slice());
+    assert_equal(&rt, tag, 0xA064);
+    assert_equal(&rt, rest.as_slice(), UNTAGGED.as_slice());
     Ok(())
 }
 
@@ -64,9 +65,10 @@ fn frames_are_equal_by_their_bytes(rt: HostRuntime) -> Result<(), Fail> {
     assert!(rt; other.refill(&TAGGED, limit));
     assert!(rt; other.refill(&UNTAGGED, limit));
     assert!(rt; frame == other);
-    assert_eq!(rt;
+    assert_equal(
+        &rt,
         format!(in rt.alloc(); "{:?}", FrameBuf::blank())?.as_str(),
-        "FrameBuf { kept: [0, 0, 0, 0, 0, 0, 0, 0, 0, 0, 0, 0, 0, 0] }"
+        "FrameBuf { kept: [0, 0, 0, 0, 0, 0, 0, 0, 0, 0, 0, 0, 0, 0] }",
     );
     Ok(())
 }
@@ -74,11 +76,12 @@ fn frames_are_equal_by_their_bytes(rt: HostRuntime) -> Result<(), Fail> {
 #[test]
 fn inserts_a_tag(rt: HostRuntime) -> Result<(), Fail> {
     let frame = FrameBuf::from_bytes(&UNTAGGED)?;
-    assert_eq!(rt; frame.tag(), None);
+    assert_equal(&rt, frame.tag(), None);
     assert!(rt; frame.stripped().is_none());
-    assert_eq!(rt;
+    assert_equal(
+        &rt,
         frame.insert(0xA064).ok_or("fits")?.bytes(),
-        TAGGED.as_slice()
+        TAGGED.as_slice(),
     );
     let longest = [0u8; 9018];
     assert!(rt; FrameBuf::from_bytes(&longest[..9014])?.insert(1).is_some());
@@ -90,19 +93,19 @@ fn inserts_a_tag(rt: HostRuntime) -> Result<(), Fail> {
 fn refills_in_place(rt: HostRuntime) -> Result<(), Fail> {
     let limit = FrameLimit::standard();
     let mut frame = FrameBuf::blank();
-    assert_eq!(rt; frame.bytes(), [0u8; 14].as_slice());
+    assert_equal(&rt, frame.bytes(), [0u8; 14].as_slice());
     let long = [7u8; 1519];
     assert!(rt; frame.refill(&long[..1518], limit));
-    assert_eq!(rt; frame.bytes(), &long[..1518]);
+    assert_equal(&rt, frame.bytes(), &long[..1518]);
     assert!(rt; !frame.refill(&long, limit));
-    assert_eq!(rt; frame.bytes(), &long[..1518]);
+    assert_equal(&rt, frame.bytes(), &long[..1518]);
     assert!(rt; frame.refill_tagged(0xA064, &UNTAGGED, limit));
-    assert_eq!(rt; frame.bytes(), TAGGED.as_slice());
+    assert_equal(&rt, frame.bytes(), TAGGED.as_slice());
     assert!(rt; !frame.refill_tagged(1, &UNTAGGED[..13], limit));
     assert!(rt; !frame.refill_tagged(1, &long[..1515], limit));
-    assert_eq!(rt; frame.bytes(), TAGGED.as_slice());
+    assert_equal(&rt, frame.bytes(), TAGGED.as_slice());
     assert!(rt; frame.refill_tagged(1, &long[..1514], limit));
-    assert_eq!(rt; frame.bytes().len(), 1518);
+    assert_equal(&rt, frame.bytes().len(), 1518);
     Ok(())
 }
 
@@ -130,24 +133,24 @@ fn knows_kinds_of_addresses(rt: HostRuntime) {
             0x0300_0000_0002,
         ),
     ] {
-        assert_eq!(rt; Mac(address).kind(), kind);
-        assert_eq!(rt; Mac(address).number(), number);
+        assert_equal(&rt, Mac(address).kind(), kind);
+        assert_equal(&rt, Mac(address).number(), number);
     }
 }
 
 #[test]
 fn bounds_are_in_the_types(rt: HostRuntime) {
-    assert_eq!(rt; PoolId::new(63).map(|p| p.get()), Some(63));
+    assert_equal(&rt, PoolId::new(63).map(|p| p.get()), Some(63));
     assert!(rt; PoolId::new(64).is_none());
-    assert_eq!(rt; Vid::new(4095).map(|v| v.get()), Some(4095));
+    assert_equal(&rt, Vid::new(4095).map(|v| v.get()), Some(4095));
     assert!(rt; Vid::new(4096).is_none());
-    assert_eq!(rt; Vid::of_tag(0xA064).get(), 100);
-    assert_eq!(rt; FrameLimit::standard().get(), 1518);
-    assert_eq!(rt; FrameLimit::default(), FrameLimit::standard());
+    assert_equal(&rt, Vid::of_tag(0xA064).get(), 100);
+    assert_equal(&rt, FrameLimit::standard().get(), 1518);
+    assert_equal(&rt, FrameLimit::default(), FrameLimit::standard());
     for (bytes, is_limit) in [(1517, false), (1518, true), (9018, true), (9019, false)] {
-        assert_eq!(rt; FrameLimit::new(bytes).is_some(), is_limit, "{bytes} bytes");
+        assert_equal_at(&rt, FrameLimit::new(bytes).is_some(), is_limit, bytes);
     }
-    assert_eq!(rt; FrameLimit::new(9018).map(|l| l.get()), Some(9018));
+    assert_equal(&rt, FrameLimit::new(9018).map(|l| l.get()), Some(9018));
 }
 
 #[test]
@@ -172,8 +175,8 @@ fn numbers_and_texts_of_faults(rt: HostRuntime) -> Result<(), Fail> {
             "a size or a count is outside its limits",
         ),
     ] {
-        assert_eq!(rt; fault.number(), number);
-        assert_eq!(rt; format!(in rt.alloc(); "{fault}")?.as_str(), text);
+        assert_equal(&rt, fault.number(), number);
+        assert_equal(&rt, format!(in rt.alloc(); "{fault}")?.as_str(), text);
     }
     Ok(())
 }
@@ -197,17 +200,17 @@ fn reads_and_writes_rows(rt: HostRuntime) {
     ] {
         write_word(&mut words, HIGH, offset, 0xFFFF_FFFF);
         let word = read_word(&words, HIGH, offset);
-        assert_eq!(rt; word, if stays { None } else { Some(0x8000_FFFF) });
+        assert_equal(&rt, word, if stays { None } else { Some(0x8000_FFFF) });
     }
-    assert_eq!(rt; words[0], 0x8000_FFFF);
-    assert_eq!(rt; words[1], 0);
-    assert_eq!(rt; words[127], 0x8000_FFFF);
+    assert_equal(&rt, words[0], 0x8000_FFFF);
+    assert_equal(&rt, words[1], 0);
+    assert_equal(&rt, words[127], 0x8000_FFFF);
     let mut control = 0;
     write_one(&mut control, 0x5090, 7, 0x5094, 0xFF);
-    assert_eq!(rt; control, 0);
+    assert_equal(&rt, control, 0);
     write_one(&mut control, 0x5090, 7, 0x5090, 0xFF);
-    assert_eq!(rt; read_one(control, 0x5090, 0x5090), Some(7));
-    assert_eq!(rt; read_one(control, 0x5090, 0x5094), None);
+    assert_equal(&rt, read_one(control, 0x5090, 0x5090), Some(7));
+    assert_equal(&rt, read_one(control, 0x5090, 0x5094), None);
 }
 
 #[test]
@@ -216,5 +219,5 @@ fn reads_sets_of_pools(rt: HostRuntime) {
     assert!(rt; !has_bit(0x8000_0000_0000_0000, 62));
     // Entry 1 has pool 0 in its low word and pool 63 in its high one.
     let entries = [0, 0, 1, 0x8000_0000];
-    assert_eq!(rt; pool_words(&entries, 1), 0x8000_0000_0000_0001);
+    assert_equal(&rt, pool_words(&entries, 1), 0x8000_0000_0000_0001);
 }

@@ -31,6 +31,7 @@ enum Step {
 }
 
 use Step::*;
+use test_support::{assert_equal, assert_equal_at};
 
 // That many bytes and more, of which the first are these.
 fn filled(head: &[u8], fill: u8) -> [u8; 9018] {
@@ -49,15 +50,11 @@ fn do_step<M: GuestMem>(
     step: Step,
 ) -> Result<(), Fail> {
     match step {
-        W(offset, x) => assert_eq!(rt; unit.reg_write(offset, x), Some(0), "write at {offset}"),
+        W(offset, x) => assert_equal_at(rt, unit.reg_write(offset, x), Some(0), offset),
         Issues(offset, x, messages) => {
-            assert_eq!(rt;
-                unit.reg_write(offset, x),
-                Some(messages),
-                "write at {offset}"
-            );
+            assert_equal_at(rt, unit.reg_write(offset, x), Some(messages), offset);
         }
-        R(offset, x) => assert_eq!(rt; unit.reg_read(offset), Some(x), "read at {offset}"),
+        R(offset, x) => assert_equal_at(rt, unit.reg_read(offset), Some(x), offset),
         Put(at, head, fill, len) => {
             let bytes = filled(head, fill);
             assert!(rt; unit.mem_write(at, &bytes[..len.min(9018)]));
@@ -66,21 +63,21 @@ fn do_step<M: GuestMem>(
             let mut bytes = [0u8; 64];
             let len = want.len().min(64);
             assert!(rt; unit.mem_read(at, &mut bytes[..len]));
-            assert_eq!(rt; &bytes[..len], want, "memory at {at}");
+            assert_equal_at(rt, &bytes[..len], want, at);
         }
         Wire(head, fill, len, messages) => {
             let bytes = filled(head, fill);
             let received = FrameBuf::from_bytes(&bytes[..len.min(9018)])?;
-            assert_eq!(rt; unit.deliver(&received, false), messages, "{len} bytes");
+            assert_equal_at(rt, unit.deliver(&received, false), messages, len);
         }
         Serve(outcome, messages) => {
             let service = unit.serve(Queue::Q0, frame, rule, limit).ok_or("open")?;
-            assert_eq!(rt; service.outcome, outcome);
-            assert_eq!(rt; service.messages, messages);
+            assert_equal(rt, service.outcome, outcome);
+            assert_equal(rt, service.messages, messages);
         }
         Ended(head, fill, len) => {
             let bytes = filled(head, fill);
-            assert_eq!(rt; frame.bytes(), &bytes[..len.min(9018)]);
+            assert_equal(rt, frame.bytes(), &bytes[..len.min(9018)]);
         }
         Reset => unit.reset(),
     }
@@ -601,11 +598,11 @@ fn a_closed_function_does_nothing(rt: HostRuntime) -> Result<(), Fail> {
     let mut frame = FrameBuf::blank();
     let limit = FrameLimit::standard();
     let mut byte = [1u8];
-    assert_eq!(rt; unit.reg_read(0x10), None);
-    assert_eq!(rt; unit.reg_write(0x108, 7), None);
+    assert_equal(&rt, unit.reg_read(0x10), None);
+    assert_equal(&rt, unit.reg_write(0x108, 7), None);
     let service = unit.serve(Queue::Q1, &mut frame, PortVlan::Never, limit);
     assert!(rt; service.is_none());
-    assert_eq!(rt; unit.deliver(&frame, true), 0);
+    assert_equal(&rt, unit.deliver(&frame, true), 0);
     let accessed = (unit.mem_write(0, &[0xAA]), unit.mem_read(0, &mut byte));
     assert!(rt; accessed == (false, false) && byte == [1]);
     Ok(())
@@ -630,12 +627,12 @@ fn nothing_of_an_earlier_tenant_is_left(rt: HostRuntime) -> Result<(), Fail> {
     unit.open();
     assert!(rt; unit.mem_write(4095, &[0xAA]));
     unit.sent();
-    assert_eq!(rt; unit.reg_read(0x201C), Some(1));
+    assert_equal(&rt, unit.reg_read(0x201C), Some(1));
     unit.end();
     assert!(rt; !unit.is_open());
     unit.open();
     assert!(rt; unit.mem_read(4095, &mut byte) && byte == [0]);
-    assert_eq!(rt; unit.reg_read(0x201C), Some(0));
+    assert_equal(&rt, unit.reg_read(0x201C), Some(0));
     Ok(())
 }
 

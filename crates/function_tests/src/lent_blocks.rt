@@ -3,6 +3,7 @@ ghost use Rattle.std.specs.Prelude.{◌≡◌, ◌≤◌, length};
 
 use guest_memory::GuestMem;
 use lent_memory::LentMem;
+use test_support::assert_equal;
 
 // Writes four bytes of the memory, and reads six around them.
 fn write_and_read<M: GuestMem>(memory: &mut M, out: &mut [u8; 6])
@@ -20,11 +21,11 @@ fn the_lender_has_what_was_written(rt: HostRuntime) {
     let mut memory = LentMem::new(&mut cells);
     assert_eq!(rt; memory.size(), 4096);
     write_and_read(&mut memory, &mut out);
-    assert_eq!(rt; out, [7, 1, 2, 3, 4, 7]);
-    assert_eq!(rt; cells[4087], 7);
-    assert_eq!(rt; cells[4088], 1);
-    assert_eq!(rt; cells[4091], 4);
-    assert_eq!(rt; cells[4092], 7);
+    assert_equal(&rt, out, [7, 1, 2, 3, 4, 7]);
+    assert_equal(&rt, cells[4087], 7);
+    assert_equal(&rt, cells[4088], 1);
+    assert_equal(&rt, cells[4091], 4);
+    assert_equal(&rt, cells[4092], 7);
 }
 
 #[test]
@@ -32,6 +33,6 @@ fn cleared_bytes_are_zero_for_the_lender(rt: HostRuntime) {
     let mut cells = [7u8; 128];
     let mut memory = LentMem::new(&mut cells);
     memory.clear();
-    assert_eq!(rt; cells[0], 0);
-    assert_eq!(rt; cells[127], 0);
+    assert_equal(&rt, cells[0], 0);
+    assert_equal(&rt, cells[127], 0);
 }

@@ -3,7 +3,7 @@ use guest_memory::*;
 use std::alloc::Global;
 use std::process::Abort;
 use std::test::Fail;
-use test_support::all_room;
+use test_support::{all_room, assert_equal, assert_equal_at};
 use wire_frame::Fault;
 
 mod pages;
@@ -23,7 +23,7 @@ fn makes_memories_within_limits(rt: HostRuntime) {
         (16_777_344, Some(Fault::BadMake)),
         (u64::MAX, Some(Fault::BadMake)),
     ] {
-        assert_eq!(rt; FlatMem::new(rt.alloc(), size).err(), fault, "{size} bytes");
+        assert_equal_at(&rt, FlatMem::new(rt.alloc(), size).err(), fault, size);
     }
 }
 
@@ -35,14 +35,14 @@ fn reads_what_was_written(rt: HostRuntime) -> Result<(), Fail> {
     let mut last = [0u8; 16];
     read_bytes(&memory, 4080, &mut last);
     let bytes = [0, 0x10, 0, 0, 0, 0, 0, 0, 3, 0, 0, 0, 0x3C, 0, 0, 0];
-    assert_eq!(rt; last, bytes);
-    assert_eq!(rt; read_word(&memory, 4088), 0x3C_0000_0003);
-    assert_eq!(rt; read_words(&memory, 4080), (0x1000, 0x3C_0000_0003));
+    assert_equal(&rt, last, bytes);
+    assert_equal(&rt, read_word(&memory, 4088), 0x3C_0000_0003);
+    assert_equal(&rt, read_words(&memory, 4080), (0x1000, 0x3C_0000_0003));
     write_word(&mut memory, 4080, 0x0102_0304_0506_0708);
     write_bytes(&mut memory, 4081, &[0xAA, 0xBB]);
-    assert_eq!(rt; read_word(&memory, 4080), 0x0102_0304_05BB_AA08);
+    assert_equal(&rt, read_word(&memory, 4080), 0x0102_0304_05BB_AA08);
     memory.clear();
-    assert_eq!(rt; read_words(&memory, 4080), (0, 0));
+    assert_equal(&rt, read_words(&memory, 4080), (0, 0));
     Ok(())
 }
 
@@ -76,7 +76,7 @@ fn do_steps<R: Abort + AllocGlobal>(rt: &R, steps: &[Step<'_>]) -> Result<(), Fa
                 assert!(rt; bytes.len() as u64 <= 65_536 - addr);
                 write_bytes(&mut memory, addr, bytes);
             }
-            Finds(addr, bytes) => assert_eq!(rt; eight(&memory, addr), bytes, "at {addr:x}"),
+            Finds(addr, bytes) => assert_equal_at(rt, eight(&memory, addr), bytes, addr),
             Clear => memory.clear(),
         }
     }
@@ -157,15 +157,23 @@ fn first_word<M: GuestMem>(mut memory: M) -> Option<u64> {
 #[test]
 fn boxes_are_memories(rt: HostRuntime) -> Result<(), Fail> {
     let boxed: Box<dyn GuestMem + Send> = Box::new(rt.alloc(), FlatMem::new(rt.alloc(), 4096)?)?;
-    assert_eq!(rt; first_word(boxed), Some(7));
+    assert_equal(&rt, first_word(boxed), Some(7));
     Ok(())
 }
 
 #[test]
 fn tells_of_refused_memory(rt: HostRuntime) -> Result<(), Fail> {
     let taken = all_room(rt.alloc()).ok_or("the heap does not run out")?;
-    assert_eq!(rt; FlatMem::new(rt.alloc(), 4096).err(), Some(Fault::NoMemory));
-    assert_eq!(rt; FlatMem::new(rt.alloc(), 4097).err(), Some(Fault::BadMake));
+    assert_equal(
+        &rt,
+        FlatMem::new(rt.alloc(), 4096).err(),
+        Some(Fault::NoMemory),
+    );
+    assert_equal(
+        &rt,
+        FlatMem::new(rt.alloc(), 4097).err(),
+        Some(Fault::BadMake),
+    );
     drop(taken);
     assert!(rt; FlatMem::new(rt.alloc(), 4096).is_ok());
     Ok(())

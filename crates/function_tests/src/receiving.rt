@@ -11,6 +11,7 @@ use rx_desc::{Placed, RxConfig, place};
 use std::alloc::Global;
 use std::process::Abort;
 use std::test::Fail;
+use test_support::{assert_equal, assert_equal_at};
 use wire_frame::{Fault, FrameBuf};
 
 /// The size of the memory.
@@ -275,7 +276,7 @@ fn bytes_in_memory(rt: HostRuntime) -> Result<(), Fail> {
         let mut memory = memory_of(&rt, rt.alloc(), 0, first, second)?;
         let frame = frame_of(start, len)?;
         let outcome = place(&mut memory, &mut ring, &queue(strip), &frame, false);
-        assert_eq!(rt; outcome, Placed::Put, "{first:x}");
+        assert_equal_at(&rt, outcome, Placed::Put, first);
         for (at, word) in words {
             assert_eq!(rt; memory.size(), 65536);
             assert!(rt; at <= SIZE - 8);
@@ -303,13 +304,13 @@ fn nine_pieces(rt: HostRuntime) -> Result<(), Fail> {
         assert_eq!(rt; memory.size(), 65536);
         let frame = frame_of(PLAIN, 9018)?;
         let outcome = place(&mut memory, &mut ring, &queue(KEEP), &frame, false);
-        assert_eq!(rt; outcome, placed);
+        assert_equal(&rt, outcome, placed);
         assert_eq!(rt; memory.size(), 65536);
         for i in 0..8 {
-            assert_eq!(rt; read_word(&memory, RING + 16 * i + 8), word, "piece {i}");
+            assert_equal_at(&rt, read_word(&memory, RING + 16 * i + 8), word, i);
         }
-        assert_eq!(rt; read_word(&memory, RING + 16 * 8 + 8), last_word);
-        assert_eq!(rt; ring.read(RingRegister::Head), head);
+        assert_equal(&rt, read_word(&memory, RING + 16 * 8 + 8), last_word);
+        assert_equal(&rt, ring.read(RingRegister::Head), head);
     }
     Ok(())
 }
@@ -327,11 +328,11 @@ fn takes_nothing_while_off(rt: HostRuntime) -> Result<(), Fail> {
         };
         let frame = frame_of(PLAIN, 60)?;
         let outcome = place(&mut memory, &mut ring, &config, &frame, false);
-        assert_eq!(rt; outcome, Placed::NoRoom, "{buffer_size}");
+        assert_equal_at(&rt, outcome, Placed::NoRoom, buffer_size);
         assert_eq!(rt; memory.size(), 65536);
-        assert_eq!(rt; read_word(&memory, RING + 8), 0, "{buffer_size}");
-        assert_eq!(rt; read_word(&memory, FIRST), 0, "{buffer_size}");
-        assert_eq!(rt; ring.read(RingRegister::Head), 0, "{buffer_size}");
+        assert_equal_at(&rt, read_word(&memory, RING + 8), 0, buffer_size);
+        assert_equal_at(&rt, read_word(&memory, FIRST), 0, buffer_size);
+        assert_equal_at(&rt, ring.read(RingRegister::Head), 0, buffer_size);
     }
     Ok(())
 }
@@ -359,8 +360,8 @@ fn page_borders(rt: HostRuntime) -> Result<(), Fail> {
         assert_eq!(rt; memory.size(), 65536);
         let mut ring = ring_at(base, count, head, next);
         let outcome = place(&mut memory, &mut ring, &queue(KEEP), &frame, false);
-        assert_eq!(rt; outcome, Placed::Put, "{buffer:x}");
-        assert_eq!(rt; ring.read(RingRegister::Head), next, "{buffer:x}");
+        assert_equal_at(&rt, outcome, Placed::Put, buffer);
+        assert_equal_at(&rt, ring.read(RingRegister::Head), next, buffer);
         assert_eq!(rt; memory.size(), 65536);
         for (place, word) in [
             (at, 0),
@@ -387,8 +388,8 @@ fn pieces_over_page_borders(rt: HostRuntime) -> Result<(), Fail> {
     write_word(&mut memory, 0x2000, 0x5FFF);
     let frame = frame_of(PLAIN, 1518)?;
     let outcome = place(&mut memory, &mut ring, &queue(KEEP), &frame, false);
-    assert_eq!(rt; outcome, Placed::Put);
-    assert_eq!(rt; ring.read(RingRegister::Head), 9);
+    assert_equal(&rt, outcome, Placed::Put);
+    assert_equal(&rt, ring.read(RingRegister::Head), 9);
     assert_eq!(rt; memory.size(), 65536);
     for (place, word) in [
         (0x1FF8, 0x0400_0000_0001),
@@ -403,7 +404,7 @@ fn pieces_over_page_borders(rt: HostRuntime) -> Result<(), Fail> {
         (0x61ED, 0),
     ] {
         assert!(rt; place <= SIZE - 8);
-        assert_eq!(rt; read_word(&memory, place), word, "{place:x}");
+        assert_equal_at(&rt, read_word(&memory, place), word, place);
     }
     Ok(())
 }

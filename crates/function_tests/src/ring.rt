@@ -1,5 +1,6 @@
 //! Values from outside: rings as drivers lay them out, with the limits of the 82599's registers.
 use rings::*;
+use test_support::{assert_equal, assert_equal_at};
 
 // A ring of 8 descriptors at 0x1000 with this head and tail, turned on in a memory of 64 KiB.
 fn ring_of_eight(head: u32, tail: u32) -> Ring {
@@ -17,17 +18,17 @@ fn goes_round(rt: HostRuntime) {
     let mut ring = ring_of_eight(7, 1);
     assert!(rt; ring.is_enabled());
     assert_eq!(rt; ring.available(), 2);
-    assert_eq!(rt; ring.slot(0), 0x1070);
-    assert_eq!(rt; ring.slot(1), 0x1000);
-    assert_eq!(rt; ring.head_slot(), Some(0x1070));
+    assert_equal(&rt, ring.slot(0), 0x1070);
+    assert_equal(&rt, ring.slot(1), 0x1000);
+    assert_equal(&rt, ring.head_slot(), Some(0x1070));
     ring.advance(2);
-    assert_eq!(rt; ring.read(RingRegister::Head), 1);
-    assert_eq!(rt; ring.available(), 0);
-    assert_eq!(rt; ring.head_slot(), None);
+    assert_equal(&rt, ring.read(RingRegister::Head), 1);
+    assert_equal(&rt, ring.available(), 0);
+    assert_equal(&rt, ring.head_slot(), None);
     ring.disable();
     ring.set_tail(5);
-    assert_eq!(rt; ring.read(RingRegister::Tail), 5);
-    assert_eq!(rt; ring.available(), 0);
+    assert_equal(&rt, ring.read(RingRegister::Tail), 5);
+    assert_equal(&rt, ring.available(), 0);
 }
 
 #[test]
@@ -41,11 +42,11 @@ fn registers_stay_while_on(rt: HostRuntime) {
         (RingRegister::Tail, 8, 1),
     ] {
         ring.write(register, x);
-        assert_eq!(rt; ring.read(register), stays);
+        assert_equal(&rt, ring.read(register), stays);
     }
     // The low 16 bits of a tail count, and one below the number of descriptors is taken.
     ring.write(RingRegister::Tail, 0x1_0007);
-    assert_eq!(rt; ring.read(RingRegister::Tail), 7);
+    assert_equal(&rt, ring.read(RingRegister::Tail), 7);
     ring.disable();
     for (register, x, reads) in [
         (RingRegister::BaseLow, 0xFFFF_FFFF, 0xFFFF_FF80),
@@ -55,7 +56,7 @@ fn registers_stay_while_on(rt: HostRuntime) {
         (RingRegister::Tail, 0xFFFF_FFFF, 0xFFFF),
     ] {
         ring.write(register, x);
-        assert_eq!(rt; ring.read(register), reads);
+        assert_equal(&rt, ring.read(register), reads);
     }
 }
 
@@ -107,12 +108,12 @@ fn stands_at_page_borders(rt: HostRuntime) {
         ring.write(RingRegister::Tail, (head + 2) % (length / 16));
         assert!(rt; ring.try_enable(65_536), "{base:x}");
         assert_eq!(rt; ring.available(), 2, "{base:x}");
-        assert_eq!(rt; ring.head_slot(), Some(first), "{base:x}");
-        assert_eq!(rt; ring.slot(0), first, "{base:x}");
-        assert_eq!(rt; ring.slot(1), second, "{base:x}");
+        assert_equal_at(&rt, ring.head_slot(), Some(first), base);
+        assert_equal_at(&rt, ring.slot(0), first, base);
+        assert_equal_at(&rt, ring.slot(1), second, base);
         ring.advance(1);
-        assert_eq!(rt; ring.head_slot(), Some(second), "{base:x}");
+        assert_equal_at(&rt, ring.head_slot(), Some(second), base);
         ring.advance(1);
-        assert_eq!(rt; ring.head_slot(), None, "{base:x}");
+        assert_equal_at(&rt, ring.head_slot(), None, base);
     }
 }

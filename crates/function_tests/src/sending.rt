@@ -9,6 +9,7 @@ use std::alloc::Global;
 use std::iter;
 use std::process::Abort;
 use std::test::Fail;
+use test_support::{assert_equal, assert_equal_at};
 use tx_desc::{Fetched, Pending, Progress, fetch, fetch_into};
 use wire_frame::{Fault, FrameBuf, FrameLimit, PortVlan};
 
@@ -179,11 +180,11 @@ fn a_descriptor_sends_itself(rt: HostRuntime) -> Result<(), Fail> {
         rule,
         limit,
     );
-    assert_eq!(rt; served.outcome, Progress::Ended);
+    assert_equal(&rt, served.outcome, Progress::Ended);
     let expected = [0, 0x10, 0, 0, 0, 0, 0, 0, 0x10, 0, 0x30, 0x29, 0, 0, 0, 0];
-    assert_eq!(rt; frame.bytes(), expected.as_slice());
+    assert_equal(&rt, frame.bytes(), expected.as_slice());
     assert_eq!(rt; memory.size(), 65536);
-    assert_eq!(rt; read_word(&memory, RING + 8), 0x1_2930_0010);
+    assert_equal(&rt, read_word(&memory, RING + 8), 0x1_2930_0010);
     Ok(())
 }
 
@@ -199,7 +200,7 @@ fn two_descriptors(rt: HostRuntime) -> Result<(), Fail> {
         let mut ring = ring_of(2);
         let mut pending = Pending::new(rt.alloc())?;
         let (first, reported) = fetch(&mut memory, &mut ring, &mut pending, rule, limit);
-        assert_eq!(rt; (first, reported), (Fetched::More, true), "under {most}");
+        assert_equal_at(&rt, (first, reported), (Fetched::More, true), most);
         let (second, reported) = fetch(&mut memory, &mut ring, &mut pending, rule, limit);
         assert!(rt; reported, "under {most}");
         match (second, len) {
@@ -208,7 +209,7 @@ fn two_descriptors(rt: HostRuntime) -> Result<(), Fail> {
             _ => assert!(rt; false, "under {most}"),
         }
         let (third, reported) = fetch(&mut memory, &mut ring, &mut pending, rule, limit);
-        assert_eq!(rt; (third, reported), (Fetched::Idle, false), "under {most}");
+        assert_equal_at(&rt, (third, reported), (Fetched::Idle, false), most);
     }
     Ok(())
 }
@@ -233,7 +234,7 @@ fn pending_bytes(rt: HostRuntime) -> Result<(), Fail> {
             rule,
             limit,
         );
-        assert_eq!(rt; first.outcome, Progress::More);
+        assert_equal(&rt, first.outcome, Progress::More);
         if is_forgotten {
             pending.clear();
         }
@@ -245,7 +246,7 @@ fn pending_bytes(rt: HostRuntime) -> Result<(), Fail> {
             rule,
             limit,
         );
-        assert_eq!(rt; second.outcome, Progress::Ended);
+        assert_equal(&rt, second.outcome, Progress::Ended);
         assert!(rt; is_padded(&frame, start, len), "of {len}");
     }
     Ok(())
@@ -271,13 +272,13 @@ fn frames_in_turn(rt: HostRuntime) -> Result<(), Fail> {
         );
         let mut ring = ring_of(2);
         let (more, _) = fetch(&mut memory, &mut ring, &mut pending, rule, limit);
-        assert_eq!(rt; more, Fetched::More, "of {first}");
+        assert_equal_at(&rt, more, Fetched::More, first);
         let (ended, _) = fetch(&mut memory, &mut ring, &mut pending, rule, limit);
         let Fetched::Frame(frame) = ended else {
             return Err("no frame")?;
         };
         let len = usize::from(first) + usize::from(second);
-        assert_eq!(rt; frame.bytes().len(), len);
+        assert_equal(&rt, frame.bytes().len(), len);
         assert!(rt;
             frame.bytes().iter().all(|found| *found == byte),
             "of {first}"
@@ -318,10 +319,10 @@ fn page_borders(rt: HostRuntime) -> Result<(), Fail> {
             rule,
             limit,
         );
-        assert_eq!(rt; served.outcome, Progress::Ended, "{buffer:x}");
+        assert_equal_at(&rt, served.outcome, Progress::Ended, buffer);
         assert!(rt; is_padded(&frame, PLAIN, 60), "{buffer:x}");
         assert_eq!(rt; memory.size(), 65536);
-        assert_eq!(rt; read_word(&memory, at + 8), 0x1_2930_003C, "{buffer:x}");
+        assert_equal_at(&rt, read_word(&memory, at + 8), 0x1_2930_003C, buffer);
     }
     Ok(())
 }
@@ -344,8 +345,8 @@ fn no_frame_leaves_the_lent_one(rt: HostRuntime) -> Result<(), Fail> {
             rule,
             limit,
         );
-        assert_eq!(rt; served.outcome, Progress::Dropped, "{word:x}");
-        assert_eq!(rt; frame.bytes(), [0xFF; 1600].as_slice(), "{word:x}");
+        assert_equal_at(&rt, served.outcome, Progress::Dropped, word);
+        assert_equal_at(&rt, frame.bytes(), [0xFF; 1600].as_slice(), word);
     }
     Ok(())
 }

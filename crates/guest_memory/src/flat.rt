@@ -54,7 +54,8 @@ impl Model for FlatMem {
 
     ghost view = { λ m. paged m.size m.table.items m.cells.items };
 
-    ghost invariant = { λ m. IsPaged m.size m.table.items m.stored.items (length m.cells.items) (vec_capacity m.cells) (vec_capacity m.stored) (vec_capacity m.table) };
+    ghost invariant = { λ m. IsPaged m.size m.table.items m.stored.items (length m.cells.items)
+        (vec_capacity m.cells) (vec_capacity m.stored) (vec_capacity m.table) };
 }
 
 impl FlatMem {
@@ -195,9 +196,12 @@ fn store(
     requires seat { length stored.old.items < vec_capacity stored.old }
     requires within { start + length source.now ≤ 4096 }
     requires cells { length cells.old.items + 4096 ≤ vec_capacity cells.old }
-    ensures table { table.new.items ≡ set (reaching (page + 1) table.old.items) page (length stored.old.items) }
+    ensures table { table.new.items
+        ≡ set (reaching (page + 1) table.old.items) page (length stored.old.items) }
     ensures stored { stored.new.items ≡ stored.old.items ++ page ∷ [] }
-    ensures cells { cells.new.items ≡ overwrite (length cells.old.items + start) source.now (cells.old.items ++ replicate 4096 0) }
+    ensures cells { cells.new.items
+        ≡ overwrite (length cells.old.items + start) source.now
+        (cells.old.items ++ replicate 4096 0) }
     ensures len { length cells.new.items ≡ length cells.old.items + 4096 }
     ensures entries { vec_capacity table.old ≤ vec_capacity table.new }
     ensures seats { vec_capacity stored.old ≤ vec_capacity stored.new }
@@ -213,7 +217,8 @@ fn give_place(table: &mut Vec<u16>, stored: &mut Vec<u16>, page: usize)
     requires place { length stored.old.items < 4097 }
     requires entry { page + 1 ≤ vec_capacity table.old }
     requires room { length stored.old.items < vec_capacity stored.old }
-    ensures table { table.new.items ≡ set (reaching (page + 1) table.old.items) page (length stored.old.items) }
+    ensures table { table.new.items
+        ≡ set (reaching (page + 1) table.old.items) page (length stored.old.items) }
     ensures stored { stored.new.items ≡ stored.old.items ++ page ∷ [] }
     ensures entries { vec_capacity table.old ≤ vec_capacity table.new }
     ensures capacity { vec_capacity stored.old ≤ vec_capacity stored.new }
@@ -245,7 +250,9 @@ fn reach(table: &mut Vec<u16>, pages: usize)
 fn write_first(cells: &mut Vec<u8>, start: usize, source: &[u8])
     requires within { start + length source.now ≤ 4096 }
     requires room { length cells.old.items + 4096 ≤ vec_capacity cells.old }
-    ensures cells { cells.new.items ≡ overwrite (length cells.old.items + start) source.now (cells.old.items ++ replicate 4096 0) }
+    ensures cells { cells.new.items
+        ≡ overwrite (length cells.old.items + start) source.now
+        (cells.old.items ++ replicate 4096 0) }
     ensures len { length cells.new.items ≡ length cells.old.items + 4096 }
     ensures capacity { vec_capacity cells.old ≤ vec_capacity cells.new }
 {

@@ -55,7 +55,8 @@ impl IrqPort {
     /// [`Fault::NoMemory`] comes only where the host refused the room; the seat is dropped then.
     pub fn new(alloc: Global, pool: u8, seat: GuestSeat) -> Result<(IrqPort, EndNote), Fault>
         requires { seat.view.pool ≡ pool }
-        ensures port { IfOk result (λ r. (discarded : ℕ) × (r.0 ≡ seated pool r.1.port (seat_taken seat discarded))) }
+        ensures port { IfOk result
+            (λ r. (discarded : ℕ) × (r.0 ≡ seated pool r.1.port (seat_taken seat discarded))) }
         ensures note { IfOk result (λ r. r.1 ≡ new_note r.1.port) }
         ensures no_memory { IfErr result (λ fault. fault ≡ NoMemory) }
     {
@@ -68,7 +69,8 @@ impl IrqPort {
     /// The same; where the room is refused the seat comes back, and what stands for the pool stands on.
     pub fn try_new(alloc: Global, pool: u8, seat: GuestSeat) -> Result<(IrqPort, EndNote), Refused>
         requires { seat.view.pool ≡ pool }
-        ensures port { IfOk result (λ r. (discarded : ℕ) × (r.0 ≡ seated pool r.1.port (seat_taken seat discarded))) }
+        ensures port { IfOk result
+            (λ r. (discarded : ℕ) × (r.0 ≡ seated pool r.1.port (seat_taken seat discarded))) }
         ensures note { IfOk result (λ r. r.1 ≡ new_note r.1.port) }
         ensures no_memory { IfErr result (λ refused. refused.fault ≡ NoMemory) }
         ensures seat { IfErr result (λ refused. refused.seat ≡ seat) }
@@ -200,7 +202,8 @@ impl GuestPort for IrqPort {
             (λ t. (self.old.port.is_closed ≡ false) × (t.seat.view.pool ≡ self.old.port.pool)
             × (t.note ≡ self.new.port.note)) }
         ensures seat { self.new ≡ irq_closed self.old }
-        ensures handed { MatchOption result (self.old.port.is_closed ≡ true) (λ t. t.seat ≡ self.new.seat) }
+        ensures handed { MatchOption result (self.old.port.is_closed ≡ true)
+            (λ t. t.seat ≡ self.new.seat) }
     {
         self.finish();
         self.tokens.take()

@@ -57,9 +57,11 @@ impl<M: GuestMem, L: Ledger, P: GuestPort> Model for LockedPort<M, L, P> {
       calls = asked_since s.first.value s.last.value;
     } };
 
-    ghost invariant = { λ s. (s.last.value ≡ having_asked_all (asked_since s.first.value s.last.value) s.first.value)
+    ghost invariant = { λ s.
+        (s.last.value ≡ having_asked_all (asked_since s.first.value s.last.value) s.first.value)
         × MatchOption s.share ((P.meaning s.inner).is_closed ≡ true)
-        (λ share. ((P.meaning s.inner).is_closed ≡ false) × (share.caller ≡ (P.meaning s.inner).pool)
+        (λ share. ((P.meaning s.inner).is_closed ≡ false)
+        × (share.caller ≡ (P.meaning s.inner).pool)
         × (share ≡ s.last.value)) };
 }
 
@@ -176,9 +178,12 @@ impl<M: GuestMem, L: Ledger, P: GuestPort> LockedPort<M, L, P> {
         ensures too_long { self.old.port.is_open ≡ true → 2048 < length out.old →
             (result ≡ Err Fault.TooLong) × (self.new ≡ self.old) }
         ensures full { is_full result ≡ true → self.new ≡ self.old }
-        ensures counted { self.old.port.is_open ≡ true → length out.old ≤ 2048 → is_full result ≡ false →
-            self.new ≡ having_called (Event.MemRead self.old.port.pool addr (length out.old)) self.old }
-        ensures reply { self.old.port.is_open ≡ true → length out.old ≤ 2048 → is_full result ≡ false →
+        ensures counted { self.old.port.is_open ≡ true → length out.old ≤ 2048
+            → is_full result ≡ false →
+            self.new
+            ≡ having_called (Event.MemRead self.old.port.pool addr (length out.old)) self.old }
+        ensures reply { self.old.port.is_open ≡ true → length out.old ≤ 2048
+            → is_full result ≡ false →
             MayReply (Event.MemRead self.old.port.pool addr (length out.old)) (bytes_or_refused result out.new) }
         ensures unread { OnErr result (out.new ≡ out.old) }
     {
@@ -205,9 +210,11 @@ impl<M: GuestMem, L: Ledger, P: GuestPort> LockedPort<M, L, P> {
         ensures too_long { self.old.port.is_open ≡ true → 2048 < length bytes.now →
             (result ≡ Err Fault.TooLong) × (self.new ≡ self.old) }
         ensures full { is_full result ≡ true → self.new ≡ self.old }
-        ensures counted { self.old.port.is_open ≡ true → length bytes.now ≤ 2048 → is_full result ≡ false →
+        ensures counted { self.old.port.is_open ≡ true → length bytes.now ≤ 2048
+            → is_full result ≡ false →
             self.new ≡ having_called (Event.MemWrite self.old.port.pool addr bytes.now) self.old }
-        ensures reply { self.old.port.is_open ≡ true → length bytes.now ≤ 2048 → is_full result ≡ false →
+        ensures reply { self.old.port.is_open ≡ true → length bytes.now ≤ 2048
+            → is_full result ≡ false →
             MayReply (Event.MemWrite self.old.port.pool addr bytes.now) (done_or_refused result) }
     {
         if !self.inner.is_open() {
@@ -293,8 +300,10 @@ impl<M: GuestMem, L: Ledger, P: GuestPort> LockedPort<M, L, P> {
         requires room { bytes_asked (event_of request) ≤ length read.old }
         ensures reply { IfSome result (λ outcome. MayReply (event_of request.entry)
             (reply_by (λ span. take (bytes_told outcome) read.new) outcome)) }
-        ensures rest { IfSome result (λ outcome. drop (bytes_told outcome) read.new ≡ drop (bytes_told outcome) read.old) }
-        ensures counted { IfSome result (λ outcome. self.new ≡ having_called (event_of request.entry) self.old) }
+        ensures rest { IfSome result
+            (λ outcome. drop (bytes_told outcome) read.new ≡ drop (bytes_told outcome) read.old) }
+        ensures counted { IfSome result
+            (λ outcome. self.new ≡ having_called (event_of request.entry) self.old) }
         ensures full { IfNone result ((self.new ≡ self.old) × (read.new ≡ read.old)) }
     {
         let Some(share) = &mut self.share else {
@@ -342,8 +351,10 @@ fn done_of(outcome: Outcome) -> Result<(), Fault>
 // The bytes that were read, which stand at the front of `read`, or why none were.
 fn bytes_of(outcome: Outcome, read: &[u8]) -> Result<MemBytes, Fault>
     requires room { 2048 ≤ length read.now }
-    requires read { (count : ℕ) × IsRead count (reply_by (λ span. take (bytes_told outcome) read.now) outcome) }
-    ensures reply { read_or_refused result ≡ reply_by (λ span. take (bytes_told outcome) read.now) outcome }
+    requires read { (count : ℕ)
+        × IsRead count (reply_by (λ span. take (bytes_told outcome) read.now) outcome) }
+    ensures reply { read_or_refused result
+        ≡ reply_by (λ span. take (bytes_told outcome) read.now) outcome }
     ensures kept { is_full result ≡ false }
 {
     match outcome {
@@ -360,8 +371,10 @@ fn bytes_of(outcome: Outcome, read: &[u8]) -> Result<MemBytes, Fault>
 #[inline]
 #[tactic(auto, using(crate::proofs::Replies::taken_whole))]
 fn filled_of(outcome: Outcome, read: &[u8]) -> Result<(), Fault>
-    requires { IsRead (length read.now) (reply_by (λ span. take (bytes_told outcome) read.now) outcome) }
-    ensures reply { bytes_or_refused result read.now ≡ reply_by (λ span. take (bytes_told outcome) read.now) outcome }
+    requires { IsRead (length read.now)
+        (reply_by (λ span. take (bytes_told outcome) read.now) outcome) }
+    ensures reply { bytes_or_refused result read.now
+        ≡ reply_by (λ span. take (bytes_told outcome) read.now) outcome }
     ensures refused { OnErr result (bytes_told outcome ≡ 0) }
     ensures kept { is_full result ≡ false }
 {

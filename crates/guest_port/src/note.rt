@@ -34,9 +34,14 @@ impl Model for EndNote {
     ghost use Rattle.std.specs.Arc.{arc_value};
     ghost use Rattle.once_cell.specs.Once.{cell_name};
 
-    ghost view = { λ n. record { port = cell_name (arc_value n.cell); found = is_some n.note.known; told = n.told } };
+    ghost view = { λ n. record {
+      port = cell_name (arc_value n.cell);
+      found = is_some n.note.known;
+      told = n.told;
+    } };
 
-    ghost invariant = { λ n. (n.note.cell ≡ cell_name (arc_value n.cell)) × (is_some n.note.known ≡ n.found) };
+    ghost invariant = { λ n. (n.note.cell ≡ cell_name (arc_value n.cell))
+        × (is_some n.note.known ≡ n.found) };
 }
 
 impl EndNote {

@@ -37,14 +37,16 @@ pub trait GuestPort: Drop {
     fn take_irqs(&mut self) -> u8
         ensures taken { meaning self.new ≡ having_taken (meaning self.old) result }
         ensures closed { (meaning self.old).is_closed ≡ true → result ≡ 0 }
-        ensures stood { (meaning self.old).is_closed ≡ false → StandsIn (meaning self.old).peeked result };
+        ensures stood { (meaning self.old).is_closed ≡ false
+            → StandsIn (meaning self.old).peeked result };
 
     /// The interrupt messages that stand for the pool, bit v for vector v; they stand on. One step; 0 once the port was
     /// closed.
     fn peek_irqs(&mut self) -> u8
         ensures peeked { meaning self.new ≡ having_peeked (meaning self.old) result }
         ensures closed { (meaning self.old).is_closed ≡ true → result ≡ 0 }
-        ensures stood { (meaning self.old).is_closed ≡ false → StandsIn (meaning self.old).peeked result };
+        ensures stood { (meaning self.old).is_closed ≡ false
+            → StandsIn (meaning self.old).peeked result };
 
     /// Ends the port: its notes can find the end from now on, and its own knows it. Again, it does nothing.
     fn end(&mut self)
@@ -55,6 +57,7 @@ pub trait GuestPort: Drop {
         ensures closed { meaning self.new ≡ closed (meaning self.old) }
         ensures tokens { MatchOption result
             ((meaning self.old).is_closed ≡ true)
-            (λ t. ((meaning self.old).is_closed ≡ false) × (t.seat.view.pool ≡ (meaning self.old).pool)
+            (λ t. ((meaning self.old).is_closed ≡ false)
+            × (t.seat.view.pool ≡ (meaning self.old).pool)
             × (t.note ≡ (meaning self.new).note)) };
 }

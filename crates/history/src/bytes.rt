@@ -47,7 +47,8 @@ fn read_onto<M: GuestMem>(device: &Device<M>, span: Span, start: usize, pool: &m
 #[inline]
 fn append_span<M: GuestMem>(pool: &mut Vec<u8>, device: &Device<M>, span: Span)
     requires { vec_len pool.old + 2048 ≤ vec_capacity pool.old }
-    ensures items { pool.new.items ≡ pool.old.items ++ bytes_in (function_of span.pool device.now) span }
+    ensures items { pool.new.items
+        ≡ pool.old.items ++ bytes_in (function_of span.pool device.now) span }
     ensures len { vec_len pool.new ≡ vec_len pool.old + span.count }
     ensures capacity { vec_capacity pool.old ≤ vec_capacity pool.new }
 {
@@ -68,7 +69,8 @@ pub fn append_moved<M: GuestMem>(
     outcome: Outcome,
 ) -> u16
     requires { vec_len pool.old + 9018 ≤ vec_capacity pool.old }
-    ensures items { pool.new.items ≡ pool.old.items ++ moved device.now (event_of request.entry) outcome }
+    ensures items { pool.new.items
+        ≡ pool.old.items ++ moved device.now (event_of request.entry) outcome }
     ensures count { result ≡ length (moved device.now (event_of request.entry) outcome) }
     ensures most { result ≤ 9018 }
     ensures sound { IsSound (event_of request.entry) }

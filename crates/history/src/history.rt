@@ -179,7 +179,8 @@ impl History {
         room: &mut [u8; 2048],
     ) -> bool
         requires { index < length self.now.entries }
-        ensures { IsTrue result ↔ (answer_in device.now taken.now ≡ (entry_at self.now index).answer) }
+        ensures { IsTrue result
+            ↔ (answer_in device.now taken.now ≡ (entry_at self.now index).answer) }
     {
         let head = self.heads[index];
         let pool = self.pool.as_slice();

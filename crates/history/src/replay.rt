@@ -49,7 +49,8 @@ impl History {
     ) -> Taken<'f>
         requires { length self.old.entries < self.old.cap }
         ensures world { device.new ≡ (step device.old (event_of request.entry)).world }
-        ensures answer { answer_in device.new result ≡ (step device.old (event_of request.entry)).answer }
+        ensures answer { answer_in device.new result
+            ≡ (step device.old (event_of request.entry)).answer }
         ensures sent { option_copied result.sent ≡ sent_by device.old (event_of request.entry) }
         ensures left { option_copied result.left ≡ left_by device.old (event_of request.entry) }
         ensures sizes { sizes_of device.new ≡ sizes_of device.old }
@@ -77,7 +78,8 @@ impl History {
         requires { index < length self.now.entries }
         ensures world { device.new ≡ (step device.old (entry_at self.now index).event).world }
         ensures same { IsTrue result
-            ↔ ((step device.old (entry_at self.now index).event).answer ≡ (entry_at self.now index).answer) }
+            ↔ ((step device.old (entry_at self.now index).event).answer
+            ≡ (entry_at self.now index).answer) }
         ensures sizes { sizes_of device.new ≡ sizes_of device.old }
     {
         let request = self.request(index, &mut room.asked);

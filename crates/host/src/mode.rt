@@ -69,7 +69,8 @@ impl Mode {
     pub fn task(self, functions: u8) -> Result<Task, Fault>
         requires { functions ≤ 64 }
         ensures ok { IfOk result (λ task. (task ≡ task_of self) × NamesBelow functions task) }
-        ensures err { IfErr result (λ e. (e ≡ Fault.NoSuchVf) × (NamesBelow functions (task_of self) → ⊥)) }
+        ensures err { IfErr result
+            (λ e. (e ≡ Fault.NoSuchVf) × (NamesBelow functions (task_of self) → ⊥)) }
     {
         match self {
             Mode::Run => Ok(Task::Run),

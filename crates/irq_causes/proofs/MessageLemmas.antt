@@ -66,21 +66,22 @@ any_of a b c p below = rw (mask_of_pool a b c p below, bit_at_or (bit_or a b) c 
     cases : (x y z : ℕ) → x < 2 → y < 2 → z < 2 → eqb (max (max x y) z) 1 ≡ ltb 0 (x + 2 * y + 4 * z)
     cases x y z h k l = grind (arith, nat_tests)
 
-pub with_zero : (a b c p : ℕ) → p < 64 → has_bit a p ≡ has_bit (get_or (masks a b c) p 0) 0
+-- a pool got vector v where its mask has bit v, and none got a vector past 2
+pub pools_with_zero : (a b c p : ℕ) → p < 64 → has_bit a p ≡ has_bit (get_or (masks a b c) p 0) 0
 unfolding has_bit
-with_zero a b c p below = ap (λ bit. eqb bit 1) (sym (ap (λ m. bit_at m 0) (mask_of_pool a b c p below) ∙ bit_zero a b c p))
+pools_with_zero a b c p below = ap (λ bit. eqb bit 1) (sym (ap (λ m. bit_at m 0) (mask_of_pool a b c p below) ∙ bit_zero a b c p))
 
-pub with_one : (a b c p : ℕ) → p < 64 → has_bit b p ≡ has_bit (get_or (masks a b c) p 0) 1
+pub pools_with_one : (a b c p : ℕ) → p < 64 → has_bit b p ≡ has_bit (get_or (masks a b c) p 0) 1
 unfolding has_bit
-with_one a b c p below = ap (λ bit. eqb bit 1) (sym (ap (λ m. bit_at m 1) (mask_of_pool a b c p below) ∙ bit_one a b c p))
+pools_with_one a b c p below = ap (λ bit. eqb bit 1) (sym (ap (λ m. bit_at m 1) (mask_of_pool a b c p below) ∙ bit_one a b c p))
 
-pub with_two : (a b c p : ℕ) → p < 64 → has_bit c p ≡ has_bit (get_or (masks a b c) p 0) 2
+pub pools_with_two : (a b c p : ℕ) → p < 64 → has_bit c p ≡ has_bit (get_or (masks a b c) p 0) 2
 unfolding has_bit
-with_two a b c p below = ap (λ bit. eqb bit 1) (sym (ap (λ m. bit_at m 2) (mask_of_pool a b c p below) ∙ bit_two a b c p))
+pools_with_two a b c p below = ap (λ bit. eqb bit 1) (sym (ap (λ m. bit_at m 2) (mask_of_pool a b c p below) ∙ bit_two a b c p))
 
-pub with_other : (a b c p v : ℕ) → p < 64 → v ≢ 0 → v ≢ 1 → v ≢ 2 → has_bit 0 p ≡ has_bit (get_or (masks a b c) p 0) v
+pub pools_with_past_two : (a b c p v : ℕ) → p < 64 → v ≢ 0 → v ≢ 1 → v ≢ 2 → has_bit 0 p ≡ has_bit (get_or (masks a b c) p 0) v
 unfolding has_bit
-with_other a b c p v below h k l =
+pools_with_past_two a b c p v below h k l =
     ap (λ bit. eqb bit 1) (bit_at-zero p ∙ sym (ap (λ m. bit_at m v) (mask_of_pool a b c p below) ∙ bit_at_above (mask_at a b c p) 3 v (mask_small a b c p) (omega arith)))
 
 -- ---- comparison

@@ -7,8 +7,8 @@
 //! and the numbers of pools, and no call takes memory.
 #![tactic(auto)]
 
+pub mod causes;
 pub mod messages;
-pub mod sets;
 
+pub use causes::Causes;
 pub use messages::{Messages, Vectors};
-pub use sets::Causes;

@@ -91,9 +91,14 @@ impl Model for Messages {
 
     ghost view = { λ m. masks m.vector_0 m.vector_1 m.vector_2 };
 
-    ghost invariant = { λ m. (m.vector_0 < 2 ^ 64) × (m.vector_1 < 2 ^ 64) × (m.vector_2 < 2 ^ 64) };
+    ghost invariant = { λ m. (m.vector_0 < 2 ^ 64) × (m.vector_1 < 2 ^ 64)
+        × (m.vector_2 < 2 ^ 64) };
 
-    ghost inverse = { λ xs. record { vector_0 = pools_of 0 xs; vector_1 = pools_of 1 xs; vector_2 = pools_of 2 xs } };
+    ghost inverse = { λ xs. record {
+      vector_0 = pools_of 0 xs;
+      vector_1 = pools_of 1 xs;
+      vector_2 = pools_of 2 xs;
+    } };
 
     ghost inverse_ok = { λ m fits. λ i. record {
       vector_0 = zero_back m.vector_0 m.vector_1 m.vector_2 fits.0 i;
@@ -159,7 +164,7 @@ impl Messages {
 
     /// The pools that got vector `v`: bit p is pool p. None got a vector above 2.
     #[inline]
-    #[tactic(auto, using(crate::proofs::MessageLemmas::with_zero, crate::proofs::MessageLemmas::with_one, crate::proofs::MessageLemmas::with_two, crate::proofs::MessageLemmas::with_other))]
+    #[tactic(auto, using(crate::proofs::MessageLemmas::pools_with_zero, crate::proofs::MessageLemmas::pools_with_one, crate::proofs::MessageLemmas::pools_with_two, crate::proofs::MessageLemmas::pools_with_past_two))]
     pub fn pools_with(&self, v: u8) -> u64
         ensures { (p : ℕ) → p < 64 → has_bit result p ≡ has_bit (slice_index self.now p) v }
     {

@@ -65,7 +65,8 @@ fn seat_of(line: &Arc<Line>, seat: &mut Seat<(), View>, pool: u8) -> Result<Gues
     requires next { (seat.old.me ≡ (Device [] pool, [])) × (pool < 64) }
     ensures line { seat.new.table_id ≡ seat.old.table_id }
     ensures next { OnOk result (seat.new.me ≡ (Device [] (pool + 1), [])) }
-    ensures guest { IfOk result (λ g. g ≡ record { line = seat.old.table_id; view = new_guest pool }) }
+    ensures guest { IfOk result
+        (λ g. g ≡ record { line = seat.old.table_id; view = new_guest pool }) }
 {
     let line = Arc::try_clone(line)?;
     let guest = line.shared.split_seat::<NextGuest>(seat);

@@ -73,7 +73,8 @@ impl DeviceSeat {
     pub fn raise(&mut self, pool: u8, mask: u8)
         requires { (pool < 64) × (mask < 8) }
         ensures made { (found : ℕ) × (found < 8)
-            × (self.new ≡ record self.old { raises = self.old.raises ++ raise_of pool mask found ∷ [] }) }
+            × (self.new
+            ≡ record self.old { raises = self.old.raises ++ raise_of pool mask found ∷ [] }) }
         ensures counted { (p v : ℕ) →
             raised p v self.new.raises ≡ raised p v self.old.raises + bit_for p v pool mask }
     {

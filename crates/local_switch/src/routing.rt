@@ -10,7 +10,8 @@ use wire_frame::{AddressKind, FrameBuf, PoolId, has_bit};
 /// Where a frame goes. That its sender may send it is not asked here.
 #[tactic(auto, using(wire_frame::proofs::BitLemmas::has_bit_and), unfolding(crate::specs::Switch::receives))]
 pub fn route(tables: &Tables, from: Source, frame: &FrameBuf) -> Route
-    ensures local { (p : ℕ) → p < 64 → has_bit result.local p ≡ receives tables.now from frame.now p }
+    ensures local { (p : ℕ) → p < 64
+        → has_bit result.local p ≡ receives tables.now from frame.now p }
     ensures wire { result.wire ≡ leaves tables.now from frame.now }
 {
     let receiving = tables.receiving_pools();

@@ -5,7 +5,7 @@ ghost use Rattle.device.specs.Lone.{alone};
 ghost use Rattle.lone.specs.Kept.{Watched, IsPartOf};
 
 /// A closed function without settings is as the pool's part of a device as it is made, where it has a memory of the same
-/// size and the same limit on frames. So a device and a function that [`follow`](crate::follow) takes along from there show
+/// size and the same limit on frames. So a device and a function that [`follow`](crate::follow::follow) takes along from there show
 /// the same, event by event.
 pub fn part_at_first()
     ensures { (p limit : ℕ) (sizes : List ℕ) → p < length sizes →

@@ -7,13 +7,12 @@
 //! both are what that promise speaks of. It stands on `device`, and no call takes memory but the making of a function.
 #![tactic(auto)]
 
-pub mod function;
+pub mod follow;
 pub mod item;
 pub mod laws;
-pub mod together;
+pub mod lone;
 pub mod watch;
 
-pub use function::Lone;
 pub use item::{Given, Room, Seen};
-pub use together::follow;
+pub use lone::Lone;
 pub use watch::Watch;

@@ -57,7 +57,8 @@ impl<M: GuestMem> Watch<M> {
     pub fn step<'a>(&mut self, request: Request<'a>, room: &'a mut Room) -> Option<Given<'a>>
         ensures world { self.new.world ≡ (step self.old.world (event_of request.entry)).world }
         ensures pool { self.new.pool ≡ self.old.pool }
-        ensures kept { option_map item_of result ≡ kept self.old.pool self.old.world (event_of request.entry) }
+        ensures kept { option_map item_of result
+            ≡ kept self.old.pool self.old.world (event_of request.entry) }
     {
         if request.pool() == Some(self.pool.get()) {
             self.pass(request, &mut room.frame);
@@ -80,7 +81,8 @@ impl<M: GuestMem> Watch<M> {
 
     // An event that leaves the settings as they are.
     fn pass(&mut self, request: Request<'_>, frame: &mut FrameBuf)
-        requires { (step self.old.world (event_of request)).world.settings ≡ self.old.world.settings }
+        requires { (step self.old.world (event_of request)).world.settings
+            ≡ self.old.world.settings }
         ensures world { self.new.world ≡ (step self.old.world (event_of request.entry)).world }
         ensures pool { self.new.pool ≡ self.old.pool }
     {
@@ -91,7 +93,8 @@ impl<M: GuestMem> Watch<M> {
     fn pf_write<'a>(&mut self, offset: u32, value: u32, room: &'a mut Own) -> Option<Given<'a>>
         ensures world { self.new.world ≡ (step self.old.world (Event.PfWrite offset value)).world }
         ensures pool { self.new.pool ≡ self.old.pool }
-        ensures kept { option_map item_of result ≡ kept_of self.old.pool self.old.world (Event.PfWrite offset value) }
+        ensures kept { option_map item_of result
+            ≡ kept_of self.old.pool self.old.world (Event.PfWrite offset value) }
     {
         let _ = self.device.pf_write(offset, value);
         self.device.tables().own(self.pool, room);
@@ -116,7 +119,8 @@ impl<M: GuestMem> Watch<M> {
     fn wire<'a>(&mut self, frame: &'a FrameBuf) -> Option<Given<'a>>
         ensures world { self.new.world ≡ (step self.old.world (Event.Wire frame.now)).world }
         ensures pool { self.new.pool ≡ self.old.pool }
-        ensures kept { option_map item_of result ≡ kept_of self.old.pool self.old.world (Event.Wire frame.now) }
+        ensures kept { option_map item_of result
+            ≡ kept_of self.old.pool self.old.world (Event.Wire frame.now) }
     {
         let taken = self.device.wire(frame);
         if taken.is_ok() && is_for_pool(self.device.tables(), Source::Wire, frame, self.pool) {
@@ -130,7 +134,8 @@ impl<M: GuestMem> Watch<M> {
     fn serve<'a>(&mut self, sender: u8, queue: Queue, frame: &'a mut FrameBuf) -> Option<Given<'a>>
         ensures world { self.new.world ≡ (step self.old.world (Event.Serve sender queue)).world }
         ensures pool { self.new.pool ≡ self.old.pool }
-        ensures kept { option_map item_of result ≡ kept_of self.old.pool self.old.world (Event.Serve sender queue) }
+        ensures kept { option_map item_of result
+            ≡ kept_of self.old.pool self.old.world (Event.Serve sender queue) }
     {
         let count = self.device.functions();
         prove!(count <= usize::from(PoolId::COUNT));

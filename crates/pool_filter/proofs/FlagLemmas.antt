@@ -10,7 +10,7 @@ use Rattle.wire_frame.specs.Row.{is_in, place, words_after}
 use Rattle.wire_frame.proofs.BitLemmas.{has_bit_set, has_bit_zero}
 use Rattle.pool_index.proofs.WordLemmas.{one_word_stays, no_bit_at, not_other, not_any}
 use Rattle.pool_filter.specs.Flags.{has_flags, IsFlagMask}
-use Rattle.pool_filter.specs.Settings.{flag_row}
+use Rattle.pool_filter.specs.declared.registers.TheConstants.{VMOLR}
 
 one_bit : (b m : ℕ) → b < 2 → 0 < m → eqb (b * m) m ≡ eqb b 1
 one_bit zero m h k = grind (arith, nat_tests)
@@ -54,18 +54,18 @@ pool_taken pools k p h l = go (eqb k p) refl
 
 -- the offset names no pool's word but this
 abbrev NamesPool : ℕ → Option ℕ → Type 0
-NamesPool offset named = is_in flag_row offset ≡ true → named ≡ Some (place flag_row offset)
+NamesPool offset named = is_in VMOLR offset ≡ true → named ≡ Some (place VMOLR offset)
 
-pub mask_stays : (bit mask : ℕ) (words : List ℕ) (offset x : ℕ) (named : Option ℕ) → NamesPool offset named → named ≡ None → IsFlagMask bit mask words → IsFlagMask bit mask (words_after flag_row words offset x)
+pub mask_stays : (bit mask : ℕ) (words : List ℕ) (offset x : ℕ) (named : Option ℕ) → NamesPool offset named → named ≡ None → IsFlagMask bit mask words → IsFlagMask bit mask (words_after VMOLR words offset x)
 mask_stays bit mask words offset x named names none says p h =
-    says p h ∙ ap (λ w. has_bit w bit) (one_word_stays flag_row words offset x named names p (not_any named p none))
+    says p h ∙ ap (λ w. has_bit w bit) (one_word_stays VMOLR words offset x named names p (not_any named p none))
 
-pub mask_follows : (bit old new : ℕ) (words : List ℕ) (offset x : ℕ) (named : Option ℕ) → NamesPool offset named → (pool : ℕ) → named ≡ Some pool → (has : Bool) → has ≡ has_bit (slice_index (words_after flag_row words offset x) pool) bit → ((p : ℕ) → p < 64 → has_bit new p ≡ (if eqb pool p then has else has_bit old p)) → IsFlagMask bit old words → IsFlagMask bit new (words_after flag_row words offset x)
+pub mask_follows : (bit old new : ℕ) (words : List ℕ) (offset x : ℕ) (named : Option ℕ) → NamesPool offset named → (pool : ℕ) → named ≡ Some pool → (has : Bool) → has ≡ has_bit (slice_index (words_after VMOLR words offset x) pool) bit → ((p : ℕ) → p < 64 → has_bit new p ≡ (if eqb pool p then has else has_bit old p)) → IsFlagMask bit old words → IsFlagMask bit new (words_after VMOLR words offset x)
 mask_follows bit old new words offset x named names pool is has tested changed says p h = changed p h ∙ go (eqb pool p) refl
   where
-    go : (b : Bool) → eqb pool p ≡ b → (if eqb pool p then has else has_bit old p) ≡ has_bit (slice_index (words_after flag_row words offset x) p) bit
-    go true here = rw here (tested ∙ ap (λ q. has_bit (slice_index (words_after flag_row words offset x) q) bit) (eqb-true pool p here))
-    go false there = rw there (says p h ∙ ap (λ w. has_bit w bit) (one_word_stays flag_row words offset x named names p (not_other named pool p is (λ same. eqb-false pool p there (sym same)))))
+    go : (b : Bool) → eqb pool p ≡ b → (if eqb pool p then has else has_bit old p) ≡ has_bit (slice_index (words_after VMOLR words offset x) p) bit
+    go true here = rw here (tested ∙ ap (λ q. has_bit (slice_index (words_after VMOLR words offset x) q) bit) (eqb-true pool p here))
+    go false there = rw there (says p h ∙ ap (λ w. has_bit w bit) (one_word_stays VMOLR words offset x named names p (not_other named pool p is (λ same. eqb-false pool p there (sym same)))))
 
 pub no_pool : (bit : ℕ) → IsFlagMask bit 0 (replicate 64 0)
 no_pool bit p h = has_bit_zero p ∙ sym (no_bit_at 64 p bit)

@@ -6,9 +6,12 @@ use Rattle.std.proofs.Math.Nat.{div-add-mod}
 use Rattle.std.proofs.lemmas.List.{get_or-set_other}
 use Rattle.wire_frame.specs.declared.row.Row.{Row}
 use Rattle.wire_frame.specs.Row.{is_in, place, word_at, words_after, one_at, one_after, ◌or◌}
-use Rattle.addr_tables.specs.Addresses.{addresses_at, addresses_after, low_row, high_row, pools_row as address_pools_row, hashes_row, control_offset as multicast_control_offset}
-use Rattle.vlan_table.specs.Vlans.{vlans_at, vlans_after, table_row, entries_row, pools_row as vlan_pools_row, control_offset as vlan_control_offset}
-use Rattle.pool_filter.specs.Settings.{Settings, settings_at, settings_after, pools_at, pool_control_after, pool_control_offset, receive_row, port_row, transmit_row, check_row, loopback_offset, flag_row}
+use Rattle.addr_tables.specs.declared.registers.TheConstants.{RAL, RAH, MPSAR, MTA, MCSTCTRL, MCSTCTRL_KEPT}
+use Rattle.vlan_table.specs.declared.registers.TheConstants.{VLNCTRL, VLNCTRL_KEPT, VFTA, VLVF, VLVFB}
+use Rattle.pool_filter.specs.declared.registers.TheConstants.{PF_VT_CTL, PFVFRE, PFVFTE, VMVIR, PFVFSPOOF, PFDTXGSWC, PFDTXGSWC_KEPT, VMOLR}
+use Rattle.addr_tables.specs.Addresses.{addresses_at, addresses_after}
+use Rattle.vlan_table.specs.Vlans.{vlans_at, vlans_after}
+use Rattle.pool_filter.specs.Settings.{Settings, settings_at, settings_after, pools_at, pool_control_after}
 
 -- an offset of the row is its place's number of strides past its first
 offset_of : (row : Row) (offset : ℕ) → is_in row offset ≡ true → offset ≡ row.first + row.stride * place row offset
@@ -41,25 +44,25 @@ one_at-other first mask word offset x other differ = go (eqb offset first) refl 
     go true here false there = rw there refl
     go false here b there = rw here refl
 
-pool_control-other : (word offset x other : ℕ) → other ≢ offset → one_at pool_control_offset (pool_control_after word offset x) other ≡ one_at pool_control_offset word other
+pool_control-other : (word offset x other : ℕ) → other ≢ offset → one_at PF_VT_CTL (pool_control_after word offset x) other ≡ one_at PF_VT_CTL word other
 unfolding one_at pool_control_after
-pool_control-other word offset x other differ = go (eqb offset pool_control_offset) refl (eqb other pool_control_offset) refl
+pool_control-other word offset x other differ = go (eqb offset PF_VT_CTL) refl (eqb other PF_VT_CTL) refl
   where
-    go : (a : Bool) → eqb offset pool_control_offset ≡ a → (b : Bool) → eqb other pool_control_offset ≡ b → one_at pool_control_offset (pool_control_after word offset x) other ≡ one_at pool_control_offset word other
-    go true here true there = absurd (differ (eqb-true other pool_control_offset there ∙ sym (eqb-true offset pool_control_offset here)))
+    go : (a : Bool) → eqb offset PF_VT_CTL ≡ a → (b : Bool) → eqb other PF_VT_CTL ≡ b → one_at PF_VT_CTL (pool_control_after word offset x) other ≡ one_at PF_VT_CTL word other
+    go true here true there = absurd (differ (eqb-true other PF_VT_CTL there ∙ sym (eqb-true offset PF_VT_CTL here)))
     go true here false there = rw there refl
     go false here b there = rw here refl
 
 pub settings_at-other : (s : Settings) (offset x other : ℕ) → other ≢ offset → settings_at (settings_after s offset x) other ≡ settings_at s other
 unfolding settings_at settings_after pools_at addresses_at addresses_after vlans_at vlans_after
 settings_at-other s offset x other differ = λ i. unwrap_or (
-    (word low_row s.addresses.low i or word high_row s.addresses.high i or word address_pools_row s.addresses.pools i
-    or word hashes_row s.addresses.hashes i or one multicast_control_offset 7 s.addresses.control i)
-    or (one vlan_control_offset 0x40000000 s.vlans.control i or word table_row s.vlans.table i
-    or word entries_row s.vlans.entries i or word vlan_pools_row s.vlans.pools i)
-    or (pool_control-other s.pool_control offset x other differ i or word receive_row s.receive_enable i
-    or word transmit_row s.transmit_enable i or word port_row s.port_vlans i or word check_row s.sender_checks i
-    or one loopback_offset 1 s.loopback i or word flag_row s.pool_flags i)) 0
+    (word RAL s.addresses.low i or word RAH s.addresses.high i or word MPSAR s.addresses.pools i
+    or word MTA s.addresses.hashes i or one MCSTCTRL MCSTCTRL_KEPT s.addresses.control i)
+    or (one VLNCTRL VLNCTRL_KEPT s.vlans.control i or word VFTA s.vlans.table i
+    or word VLVF s.vlans.entries i or word VLVFB s.vlans.pools i)
+    or (pool_control-other s.pool_control offset x other differ i or word PFVFRE s.receive_enable i
+    or word PFVFTE s.transmit_enable i or word VMVIR s.port_vlans i or word PFVFSPOOF s.sender_checks i
+    or one PFDTXGSWC PFDTXGSWC_KEPT s.loopback i or word VMOLR s.pool_flags i)) 0
   where
     word : (row : Row) (words : List ℕ) → word_at row (words_after row words offset x) other ≡ word_at row words other
     word row words = word_at-other row words offset x other differ

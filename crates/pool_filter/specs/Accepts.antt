@@ -8,6 +8,7 @@ use Rattle.wire_frame.specs.Bits.{has_bit, has_bit_in, field}
 use Rattle.wire_frame.specs.Frame.{destination, is_tagged, vlan_id}
 use Rattle.addr_tables.specs.Addresses.{has_address, multicast_hit}
 use Rattle.vlan_table.specs.Vlans.{is_filtering, has_vlan}
+use Rattle.pool_filter.specs.declared.registers.TheConstants.{AUPE, ROMPE, BAM, MPE, DEFAULT_POOL, DEFAULT_POOL_OFF, LOOPBACK}
 use Rattle.pool_filter.specs.Settings.{Settings}
 
 -- ---- the flags of a pool
@@ -17,19 +18,19 @@ flags_of s pool = slice_index s.pool_flags pool
 
 -- AUPE: untagged frames
 abbrev pub takes_untagged : Settings → ℕ → Bool
-takes_untagged s pool = has_bit (flags_of s pool) 24
+takes_untagged s pool = has_bit (flags_of s pool) AUPE
 
 -- ROMPE: multicast frames by the multicast table
 abbrev pub takes_hashed : Settings → ℕ → Bool
-takes_hashed s pool = has_bit (flags_of s pool) 25
+takes_hashed s pool = has_bit (flags_of s pool) ROMPE
 
 -- BAM: broadcast frames
 abbrev pub takes_broadcast : Settings → ℕ → Bool
-takes_broadcast s pool = has_bit (flags_of s pool) 27
+takes_broadcast s pool = has_bit (flags_of s pool) BAM
 
 -- MPE: all multicast frames
 abbrev pub takes_multicast : Settings → ℕ → Bool
-takes_multicast s pool = has_bit (flags_of s pool) 28
+takes_multicast s pool = has_bit (flags_of s pool) MPE
 
 -- ---- the filters
 
@@ -57,11 +58,11 @@ accepts s pool frame =
 
 -- the pool that takes frames from the wire which no pool accepts, if there is one
 abbrev pub default_pool : Settings → Option ℕ
-default_pool s = if has_bit s.pool_control 29 then None else Some (field s.pool_control 7 6)
+default_pool s = if has_bit s.pool_control DEFAULT_POOL_OFF then None else Some (field s.pool_control DEFAULT_POOL 6)
 
 -- frames go from pool to pool
 abbrev pub loops_back : Settings → Bool
-loops_back s = has_bit s.loopback 0
+loops_back s = has_bit s.loopback LOOPBACK
 
 abbrev pub may_receive : Settings → ℕ → Bool
 may_receive s pool = has_bit_in s.receive_enable pool

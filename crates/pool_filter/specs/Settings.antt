@@ -1,8 +1,8 @@
 -- The registers of the physical function: their words by offset.
 use Rattle.std.specs.Prelude.{ℕ, ◌==◌, List, Option, replicate, bit_or, bit_and, if◌then◌else◌}
 use Rattle.std.specs.Option.{unwrap_or}
-use Rattle.wire_frame.specs.declared.row.Row.{Row}
 use Rattle.wire_frame.specs.Row.{◌or◌, word_at, words_after, one_at, one_after}
+use Rattle.pool_filter.specs.declared.registers.TheConstants.{PF_VT_CTL, PF_VT_CTL_INITIAL, PF_VT_CTL_KEPT, PF_VT_CTL_SET, PFVFRE, PFVFTE, VMVIR, PFVFSPOOF, PFDTXGSWC, PFDTXGSWC_KEPT, VMOLR}
 use Rattle.addr_tables.specs.Addresses.{Addresses, initial_addresses, addresses_at, addresses_after}
 use Rattle.vlan_table.specs.Vlans.{Vlans, initial_vlans, vlans_at, vlans_after}
 
@@ -24,7 +24,7 @@ unfoldable pub initial_settings : Settings
 initial_settings = record {
   addresses = initial_addresses;
   vlans = initial_vlans;
-  pool_control = 0x60000001;
+  pool_control = PF_VT_CTL_INITIAL;
   receive_enable = replicate 2 0;
   transmit_enable = replicate 2 0;
   port_vlans = replicate 64 0;
@@ -35,45 +35,24 @@ initial_settings = record {
 
 -- ---- the words by their offsets
 
-abbrev pub pool_control_offset : ℕ
-pool_control_offset = 0x51B0
-
-abbrev pub receive_row : Row
-receive_row = record { first = 0x51E0; count = 2; stride = 4; mask = 0xFFFFFFFF }
-
-abbrev pub port_row : Row
-port_row = record { first = 0x8000; count = 64; stride = 4; mask = 0xC000FFFF }
-
-abbrev pub transmit_row : Row
-transmit_row = record { first = 0x8110; count = 2; stride = 4; mask = 0xFFFFFFFF }
-
-abbrev pub check_row : Row
-check_row = record { first = 0x8200; count = 8; stride = 4; mask = 0xFFFF }
-
-abbrev pub loopback_offset : ℕ
-loopback_offset = 0x8220
-
-abbrev pub flag_row : Row
-flag_row = record { first = 0xF000; count = 64; stride = 4; mask = 0x1B000000 }
-
 -- what a read of the offset gives, if it names a word of the pools' registers
 unfoldable pub pools_at : Settings → ℕ → Option ℕ
 pools_at s offset =
-    one_at pool_control_offset s.pool_control offset
-    or word_at receive_row s.receive_enable offset
-    or word_at transmit_row s.transmit_enable offset
-    or word_at port_row s.port_vlans offset
-    or word_at check_row s.sender_checks offset
-    or one_at loopback_offset s.loopback offset
-    or word_at flag_row s.pool_flags offset
+    one_at PF_VT_CTL s.pool_control offset
+    or word_at PFVFRE s.receive_enable offset
+    or word_at PFVFTE s.transmit_enable offset
+    or word_at VMVIR s.port_vlans offset
+    or word_at PFVFSPOOF s.sender_checks offset
+    or one_at PFDTXGSWC s.loopback offset
+    or word_at VMOLR s.pool_flags offset
 
 -- what a read of the offset gives: 0 where no register stands
 unfoldable pub settings_at : Settings → ℕ → ℕ
 settings_at s offset = unwrap_or (addresses_at s.addresses offset or vlans_at s.vlans offset or pools_at s offset) 0
 
--- PF_VT_CTL after a write: bits 0 and 30 are always 1
+-- PF_VT_CTL after a write: some bits are always 1
 unfoldable pub pool_control_after : ℕ → ℕ → ℕ → ℕ
-pool_control_after word offset x = if offset == pool_control_offset then bit_or (bit_and x 0x20001F80) 0x40000001 else word
+pool_control_after word offset x = if offset == PF_VT_CTL then bit_or (bit_and x PF_VT_CTL_KEPT) PF_VT_CTL_SET else word
 
 -- the words after a write of x
 unfoldable pub settings_after : Settings → ℕ → ℕ → Settings
@@ -81,10 +60,10 @@ settings_after s offset x = record {
   addresses = addresses_after s.addresses offset x;
   vlans = vlans_after s.vlans offset x;
   pool_control = pool_control_after s.pool_control offset x;
-  receive_enable = words_after receive_row s.receive_enable offset x;
-  transmit_enable = words_after transmit_row s.transmit_enable offset x;
-  port_vlans = words_after port_row s.port_vlans offset x;
-  sender_checks = words_after check_row s.sender_checks offset x;
-  loopback = one_after loopback_offset 1 s.loopback offset x;
-  pool_flags = words_after flag_row s.pool_flags offset x;
+  receive_enable = words_after PFVFRE s.receive_enable offset x;
+  transmit_enable = words_after PFVFTE s.transmit_enable offset x;
+  port_vlans = words_after VMVIR s.port_vlans offset x;
+  sender_checks = words_after PFVFSPOOF s.sender_checks offset x;
+  loopback = one_after PFDTXGSWC PFDTXGSWC_KEPT s.loopback offset x;
+  pool_flags = words_after VMOLR s.pool_flags offset x;
 }

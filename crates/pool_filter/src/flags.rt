@@ -1,6 +1,8 @@
 //! The flags of a pool.
-ghost use Rattle.std.specs.Prelude.{⊤, [], ◌∷◌, codes};
+ghost use Rattle.std.specs.Prelude.{⊤, ◌^◌, [], ◌∷◌, codes};
+ghost use Rattle.pool_filter.specs.declared.registers.TheConstants.{AUPE, ROMPE, BAM, MPE};
 
+use crate::registers;
 use bitflags::{Flag, Flags, bitflag_items};
 
 /// What a pool accepts beside its own addresses and VLAN ids, as its word of VMOLR holds it (82599 datasheet, VMOLR).
@@ -14,10 +16,10 @@ pub struct PoolFlags(pub u32);
 
 bitflag_items! {
     impl PoolFlags: u32 {
-        const AUPE = 0x0100_0000;
-        const ROMPE = 0x0200_0000;
-        const BAM = 0x0800_0000;
-        const MPE = 0x1000_0000;
+        const AUPE = 1 << registers::AUPE;
+        const ROMPE = 1 << registers::ROMPE;
+        const BAM = 1 << registers::BAM;
+        const MPE = 1 << registers::MPE;
     }
 }
 
@@ -26,7 +28,8 @@ impl Flags for PoolFlags {
 
     ghost exact = { ⊤ };
 
-    ghost table = { (codes "AUPE", 0x1000000) ∷ (codes "ROMPE", 0x2000000) ∷ (codes "BAM", 0x8000000) ∷ (codes "MPE", 0x10000000) ∷ [] };
+    ghost table = { (codes "AUPE", 2 ^ AUPE) ∷ (codes "ROMPE", 2 ^ ROMPE)
+        ∷ (codes "BAM", 2 ^ BAM) ∷ (codes "MPE", 2 ^ MPE) ∷ [] };
 
     ghost set_of = { λ f. f.0 };
 

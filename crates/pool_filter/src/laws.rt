@@ -10,9 +10,12 @@ ghost use Rattle.pool_filter.specs.Map.{rows_at};
 /// A pool's own addresses and VLAN ids are lists that strictly rise, of exactly those that the pool has: an address where
 /// some valid entry holds it and has the pool's bit; an id where moreover the VLAN table has it.
 pub fn own_sets()
-    ensures addresses { (s : Settings) (pool address : ℕ) → contains (own s pool).addresses address ≡ has_address s.addresses pool address }
-    ensures vlan_ids { (s : Settings) (pool id : ℕ) → contains (own s pool).vlan_ids id ≡ has_vlan s.vlans pool id }
-    ensures addresses_rise { (s : Settings) (pool : ℕ) → IsStrictlyIncreasing (own s pool).addresses }
+    ensures addresses { (s : Settings) (pool address : ℕ)
+        → contains (own s pool).addresses address ≡ has_address s.addresses pool address }
+    ensures vlan_ids { (s : Settings) (pool id : ℕ)
+        → contains (own s pool).vlan_ids id ≡ has_vlan s.vlans pool id }
+    ensures addresses_rise { (s : Settings) (pool : ℕ)
+        → IsStrictlyIncreasing (own s pool).addresses }
     ensures vlan_ids_rise { (s : Settings) (pool : ℕ) → IsStrictlyIncreasing (own s pool).vlan_ids }
 {}
 
@@ -28,7 +31,8 @@ pub fn own_settings_at_first()
 
 /// A write to one offset leaves what every other offset reads.
 pub fn other_words_stay()
-    ensures { (s : Settings) (offset value other : ℕ) → other ≢ offset → settings_at (settings_after s offset value) other ≡ settings_at s other }
+    ensures { (s : Settings) (offset value other : ℕ) → other ≢ offset
+        → settings_at (settings_after s offset value) other ≡ settings_at s other }
 {}
 
 /// No offset lies in two rows of the register map, those of the reset registers among them.

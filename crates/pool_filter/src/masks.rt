@@ -2,7 +2,7 @@
 ghost use Rattle.std.specs.Prelude.{◌≡◌, ℕ, ◌<◌, ◌==◌, true, Some, IfSome, replicate, slice_index, if◌then◌else◌};
 ghost use Rattle.wire_frame.specs.Bits.{has_bit};
 ghost use Rattle.wire_frame.specs.Row.{is_in, place, word_at, words_after};
-ghost use Rattle.pool_filter.specs.Settings.{flag_row};
+ghost use Rattle.pool_filter.specs.declared.registers.TheConstants.{VMOLR};
 
 use crate::flags::PoolFlags;
 use crate::registers::VMOLR;
@@ -29,7 +29,8 @@ impl Model for FlagMasks {
 
     ghost view = { λ m. m.words };
 
-    ghost invariant = { λ m. IsFlagMask 24 m.untagged m.words × IsFlagMask 25 m.hashed m.words × IsFlagMask 27 m.broadcast m.words × IsFlagMask 28 m.multicast m.words };
+    ghost invariant = { λ m. IsFlagMask 24 m.untagged m.words × IsFlagMask 25 m.hashed m.words
+        × IsFlagMask 27 m.broadcast m.words × IsFlagMask 28 m.multicast m.words };
 }
 
 /// The words by their offsets.
@@ -50,14 +51,14 @@ impl FlagMasks {
     /// The word at an offset; `None` where the offset names no word of VMOLR.
     #[inline]
     pub(crate) fn read(&self, offset: u32) -> Option<u32>
-        ensures { result ≡ word_at flag_row self.now offset }
+        ensures { result ≡ word_at VMOLR self.now offset }
     {
         read_word(&self.words, VMOLR, offset)
     }
 
     /// Writes the word at an offset, of which it keeps the flags. Where the offset names no word of VMOLR, nothing changes.
     pub(crate) fn write(&mut self, offset: u32, value: u32)
-        ensures { self.new ≡ words_after flag_row self.old offset value }
+        ensures { self.new ≡ words_after VMOLR self.old offset value }
     {
         write_word(&mut self.words, VMOLR, offset, value);
         if let Some(pool) = pool_of(offset) {
@@ -116,7 +117,7 @@ impl FlagMasks {
 // The pool of which the offset names the word.
 #[inline]
 fn pool_of(offset: u32) -> Option<usize>
-    ensures named { is_in flag_row offset ≡ true → result ≡ Some (place flag_row offset) }
+    ensures named { is_in VMOLR offset ≡ true → result ≡ Some (place VMOLR offset) }
     ensures below { IfSome result (λ p. p < 64) }
 {
     if offset < VMOLR.first || offset >= VMOLR.first + 256 {
@@ -130,7 +131,8 @@ fn pool_of(offset: u32) -> Option<usize>
 #[tactic(auto, using(crate::proofs::FlagLemmas::pool_put, crate::proofs::FlagLemmas::pool_taken))]
 fn set_pool(pools: &mut u64, pool: usize, has: bool)
     requires { pool < 64 }
-    ensures { (p : ℕ) → p < 64 → has_bit pools.new p ≡ (if pool == p then has else has_bit pools.old p) }
+    ensures { (p : ℕ) → p < 64
+        → has_bit pools.new p ≡ (if pool == p then has else has_bit pools.old p) }
 {
     if has {
         *pools |= 1 << pool;

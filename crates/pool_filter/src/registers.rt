@@ -47,9 +47,33 @@ pub const VMOLR: Row = Row {
     first: 0xF000,
     count: 64,
     stride: 4,
-    mask: 0x1B00_0000,
+    mask: (1 << AUPE) | (1 << ROMPE) | (1 << BAM) | (1 << MPE),
 };
+/// Bit AUPE of VMOLR: the pool takes untagged frames.
+pub const AUPE: u32 = 24;
+/// Bit ROMPE of VMOLR: the pool takes multicast frames by the multicast table.
+pub const ROMPE: u32 = 25;
+/// Bit BAM of VMOLR: the pool takes broadcast frames.
+pub const BAM: u32 = 27;
+/// Bit MPE of VMOLR: the pool takes all multicast frames.
+pub const MPE: u32 = 28;
+/// The lowest bit of VMVIR's rule, bits 31:30.
+pub const PORT_VLAN_RULE: u32 = 30;
+/// The rule of VMVIR that always inserts its tag.
+pub const ALWAYS: u32 = 1;
+/// The rule of VMVIR that inserts none.
+pub const NEVER: u32 = 2;
+/// The lowest bit of DEF_PL of PF_VT_CTL, bits 12:7: the default pool.
+pub const DEFAULT_POOL: u32 = 7;
 /// Bit DIS_DEF_POOL of PF_VT_CTL: there is no default pool.
 pub const DEFAULT_POOL_OFF: u32 = 29;
 /// Bit LBE of PFDTXGSWC: frames go from pool to pool.
 pub const LOOPBACK: u32 = 0;
+/// PFVFLRE, which functions were reset: its word of functions 0 to 31.
+pub const PFVFLRE_LOW: u32 = 0x600;
+/// PFVFLRE, its word of functions 32 to 63.
+pub const PFVFLRE_HIGH: u32 = 0x1C0;
+/// PFVFLREC, which clears PFVFLRE: its word of functions 0 to 31.
+pub const PFVFLREC_LOW: u32 = 0x700;
+/// PFVFLREC, its word of functions 32 to 63.
+pub const PFVFLREC_HIGH: u32 = 0x704;

@@ -12,8 +12,8 @@ use crate::flags::PoolFlags;
 use crate::masks::FlagMasks;
 use crate::own::{Own, port_vlan_of, put_addresses, put_vlan_ids};
 use crate::registers::{
-    DEFAULT_POOL_OFF, LOOPBACK, PF_VT_CTL, PF_VT_CTL_INITIAL, PF_VT_CTL_KEPT, PF_VT_CTL_SET,
-    PFDTXGSWC, PFDTXGSWC_KEPT, PFVFRE, PFVFSPOOF, PFVFTE, VMVIR,
+    DEFAULT_POOL, DEFAULT_POOL_OFF, LOOPBACK, PF_VT_CTL, PF_VT_CTL_INITIAL, PF_VT_CTL_KEPT,
+    PF_VT_CTL_SET, PFDTXGSWC, PFDTXGSWC_KEPT, PFVFRE, PFVFSPOOF, PFVFTE, VMVIR,
 };
 use addr_tables::AddrTables;
 use bitflags::Flags;
@@ -122,7 +122,9 @@ impl Tables {
     #[inline]
     #[tactic(auto, unfolding(crate::specs::Settings::pool_control_after))]
     fn write_pool_control(&mut self, offset: u32, value: u32)
-        ensures { self.new ≡ record self.old { pool_control = pool_control_after self.old.pool_control offset value } }
+        ensures { self.new ≡ record self.old {
+          pool_control = pool_control_after self.old.pool_control offset value;
+        } }
     {
         if offset == PF_VT_CTL {
             self.pool_control = value & PF_VT_CTL_KEPT | PF_VT_CTL_SET;
@@ -152,7 +154,8 @@ impl Tables {
     /// The pools that have an address, as a mask with bit p for pool p.
     #[inline]
     pub fn pools_of(&self, address: Mac) -> u64
-        ensures { (p : ℕ) → p < 64 → has_bit result p ≡ has_address self.now.addresses p (little_number 6 address.0) }
+        ensures { (p : ℕ) → p < 64
+            → has_bit result p ≡ has_address self.now.addresses p (little_number 6 address.0) }
     {
         self.addresses.pools_of(address)
     }
@@ -232,7 +235,7 @@ impl Tables {
         if has_bit(u64::from(self.pool_control), DEFAULT_POOL_OFF) {
             return None;
         }
-        PoolId::new((self.pool_control / 128 % 64) as u8)
+        PoolId::new(((self.pool_control >> DEFAULT_POOL) % 64) as u8)
     }
 
     /// Whether frames go from pool to pool (82599 datasheet, PFDTXGSWC).

@@ -45,10 +45,11 @@ all_higher ks key middle d r h above k e l m = ⊎_elim (λ before. absurd (omeg
     here : k ≡ middle → key < (get_or ks k e).key
     here same = rw (same, same_default ks middle e d h) above
 
--- what is left after a comparison is below half of the power that bounded it
+-- a power of two is twice the one before it
 power_halves : (digits n : ℕ) → n < digits → 2 ^ (digits - n) ≡ 2 ^ (digits - (n + 1)) * 2
 power_halves digits n h = let one_more : digits - n ≡ suc (digits - (n + 1)) = omega arith in ap (λ k. 2 ^ k) one_more ∙ pow-suc 2 (digits - (n + 1))
 
+-- while anything is left to compare, fewer comparisons were made than the number has digits
 pub some_left : (digits n width : ℕ) → n ≤ digits → 0 < width → width < 2 ^ (digits - n) → n < digits
 some_left digits n width h some fits = ⊎_elim (λ below. below) (λ above. absurd (none (omega (arith, above, h)))) (cases_lt n digits)
   where
@@ -58,6 +59,7 @@ some_left digits n width h some fits = ⊎_elim (λ below. below) (λ above. abs
         let bound : width < 1 = (rw nothing_more at fits) in
         omega (arith, bound, some)
 
+-- a width below 2 ^ k that is halved is below 2 ^ (k - 1)
 pub halved_more : (digits n width half : ℕ) → n < digits → width < 2 ^ (digits - n) → half ≤ width / 2 → half < 2 ^ (digits - (n + 1))
 halved_more digits n width half h fits less = let power = power_halves digits n h in omega (arith, power, fits, less)
 

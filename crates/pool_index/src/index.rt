@@ -60,7 +60,8 @@ impl<const N: usize> PoolIndex<N> {
     /// takes one of the `N` places.
     pub fn put(&mut self, key: u64, pools: u64)
         requires { kept_pools self.old key ≡ None → length self.old < N }
-        ensures kept { (k : ℕ) → kept_pools self.new k ≡ (if key == k then Some pools else kept_pools self.old k) }
+        ensures kept { (k : ℕ)
+            → kept_pools self.new k ≡ (if key == k then Some pools else kept_pools self.old k) }
         ensures rises { Rises 0 self.new }
         ensures more { length self.new ≤ length self.old + 1 }
     {
@@ -72,7 +73,8 @@ impl<const N: usize> PoolIndex<N> {
 
     /// Takes the key out, where it is kept. Every other key stays as it is.
     pub fn take_out(&mut self, key: u64)
-        ensures kept { (k : ℕ) → kept_pools self.new k ≡ (if key == k then None else kept_pools self.old k) }
+        ensures kept { (k : ℕ)
+            → kept_pools self.new k ≡ (if key == k then None else kept_pools self.old k) }
         ensures rises { Rises 0 self.new }
         ensures fewer { length self.new ≤ length self.old }
     {
@@ -84,7 +86,8 @@ impl<const N: usize> PoolIndex<N> {
     /// Makes what is kept of the key what was found of it: these pools, or nothing. Every other key stays as it is.
     pub fn set(&mut self, key: u64, found: Option<u64>)
         requires { is_some found ≡ true → kept_pools self.old key ≡ None → length self.old < N }
-        ensures kept { (k : ℕ) → kept_pools self.new k ≡ (if key == k then found else kept_pools self.old k) }
+        ensures kept { (k : ℕ)
+            → kept_pools self.new k ≡ (if key == k then found else kept_pools self.old k) }
         ensures rises { Rises 0 self.new }
         ensures more { length self.new ≤ length self.old + 1 }
     {

@@ -1,5 +1,6 @@
 -- A descriptor ring: which descriptors the device owns, when it may be on, and what its registers do.
 use Rattle.std.specs.Prelude.{ℕ, zero, suc, ◌+◌, ◌-◌, ◌*◌, ◌/◌, ◌%◌, ◌^◌, ◌<◌, ◌≤◌, List, [], ◌∷◌, Bool, false, nat_lt, nat_le, not, ◌&&◌, ◌||◌, ◌==◌, if◌then◌else◌, IsTrue, bit_and, Option, Some, None}
+use Rattle.rings.specs.declared.ring.TheConstants.{BASE_LOW_KEPT, LENGTH_KEPT}
 use Rattle.rings.specs.declared.ring.RingRegister.{RingRegister}
 use Rattle.rings.specs.declared.ring.RingRegister.TheVariants.{BaseLow, BaseHigh, Length, Head, Tail}
 
@@ -67,8 +68,8 @@ abbrev pub enabled_in : ℕ → RingState → RingState
 enabled_in n r = record r { enabled = r.enabled || can_enable n r }
 
 -- the ring turned on or off; one that is off goes on only where it may, and can be
-abbrev pub switched : Bool → Bool → ℕ → RingState → RingState
-switched on may n r = record r { enabled = on && (r.enabled || (may && can_enable n r)) }
+abbrev pub turned : Bool → Bool → ℕ → RingState → RingState
+turned on may n r = record r { enabled = on && (r.enabled || (may && can_enable n r)) }
 
 -- ---- registers
 
@@ -86,8 +87,8 @@ tail_written r x = if r.enabled && not (nat_lt (x % 2 ^ 16) r.count) then r else
 
 -- a register, written: while the ring is on, all but the tail stay
 unfoldable pub ring_written : RingState → RingRegister → ℕ → RingState
-ring_written r BaseLow x = if r.enabled then r else record r { base = r.base / 2 ^ 32 * 2 ^ 32 + bit_and x 0xFFFFFF80 }
+ring_written r BaseLow x = if r.enabled then r else record r { base = r.base / 2 ^ 32 * 2 ^ 32 + bit_and x BASE_LOW_KEPT }
 ring_written r BaseHigh x = if r.enabled then r else record r { base = x * 2 ^ 32 + r.base % 2 ^ 32 }
-ring_written r Length x = if r.enabled then r else record r { count = bit_and x 0x000FFF80 / 16 }
+ring_written r Length x = if r.enabled then r else record r { count = bit_and x LENGTH_KEPT / 16 }
 ring_written r Head x = if r.enabled then r else record r { head = x % 2 ^ 16 }
 ring_written r Tail x = tail_written r x

@@ -7,8 +7,12 @@ ghost use Rattle.rings.specs.Ring.{RingState, IsValidRing, owned};
 /// owns none, and it never owns all. Of a ring that is off it owns none.
 pub fn owned_from_head_to_tail()
     ensures none { (r : RingState) → r.enabled ≡ false → owned r ≡ [] }
-    ensures count { (r : RingState) → IsValidRing r → r.enabled ≡ true → length (owned r) ≡ (r.tail + r.count - r.head) % r.count }
-    ensures places { (r : RingState) (i : ℕ) → IsValidRing r → i < length (owned r) → slice_index (owned r) i ≡ (r.head + i) % r.count }
-    ensures before { (r : RingState) (i : ℕ) → IsValidRing r → i < length (owned r) → slice_index (owned r) i ≢ r.tail }
-    ensures tail { (r : RingState) → IsValidRing r → r.enabled ≡ true → (r.head + length (owned r)) % r.count ≡ r.tail }
+    ensures count { (r : RingState) → IsValidRing r → r.enabled ≡ true
+        → length (owned r) ≡ (r.tail + r.count - r.head) % r.count }
+    ensures places { (r : RingState) (i : ℕ) → IsValidRing r → i < length (owned r)
+        → slice_index (owned r) i ≡ (r.head + i) % r.count }
+    ensures before { (r : RingState) (i : ℕ) → IsValidRing r → i < length (owned r)
+        → slice_index (owned r) i ≢ r.tail }
+    ensures tail { (r : RingState) → IsValidRing r → r.enabled ≡ true
+        → (r.head + length (owned r)) % r.count ≡ r.tail }
 {}

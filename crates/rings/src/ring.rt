@@ -1,6 +1,6 @@
 //! The ring and its registers.
 ghost use Rattle.std.specs.Prelude.{◌≡◌, ℕ, ◌+◌, ◌*◌, ◌%◌, ◌^◌, ◌<◌, ◌≤◌, true, false, length, slice_index, IfSome, IfNone};
-ghost use Rattle.rings.specs.Ring.{no_ring, owned, head_slot, head_after, enabled_in, switched, ring_word, tail_written, ring_written, IsRing, LiesInside};
+ghost use Rattle.rings.specs.Ring.{no_ring, owned, head_slot, head_after, enabled_in, turned, ring_word, tail_written, ring_written, IsRing, LiesInside};
 
 use std::marker::Model;
 
@@ -39,9 +39,22 @@ impl Model for Ring {
 
     ghost Value = { RingState };
 
-    ghost view = { λ r. record { base = r.base; count = r.count; head = r.head; tail = r.tail; enabled = r.enabled } };
+    ghost view = { λ r. record {
+      base = r.base;
+      count = r.count;
+      head = r.head;
+      tail = r.tail;
+      enabled = r.enabled;
+    } };
 
-    ghost invariant = { λ r. IsRing (record { base = r.base; count = r.count; head = r.head; tail = r.tail; enabled = r.enabled }) };
+    ghost invariant = { λ r. IsRing
+        (record {
+          base = r.base;
+          count = r.count;
+          head = r.head;
+          tail = r.tail;
+          enabled = r.enabled;
+        }) };
 }
 
 impl Default for Ring {
@@ -110,7 +123,8 @@ impl Ring {
         ensures fits { IfSome result (λ a. a + 16 < 2 ^ 64) }
         ensures on { IfSome result (λ a. self.now.enabled ≡ true) }
         ensures owned { IfSome result (λ a. 1 ≤ length (owned self.now)) }
-        ensures first { IfSome result (λ a. a ≡ self.now.base + 16 * slice_index (owned self.now) 0) }
+        ensures first { IfSome result
+            (λ a. a ≡ self.now.base + 16 * slice_index (owned self.now) 0) }
         ensures none { IfNone result (length (owned self.now) ≡ 0) }
     {
         if !self.enabled || self.head == self.tail {
@@ -156,7 +170,7 @@ impl Ring {
     /// Turns the ring on or off. One that is off goes on only where it `may`, and can be on in a memory of
     /// `memory_size` bytes.
     pub fn switch(&mut self, on: bool, may: bool, memory_size: u64)
-        ensures value { self.new ≡ switched on may memory_size self.old }
+        ensures value { self.new ≡ turned on may memory_size self.old }
         ensures inside { LiesInside memory_size self.old → LiesInside memory_size self.new }
     {
         if !on {

@@ -3,6 +3,7 @@ use Rattle.std.specs.Prelude.{ℕ, zero, suc, ◌+◌, ◌-◌, ◌*◌, ◌/◌
 use Rattle.wire_frame.specs.Frame.{is_tagged, tag_of, untagged}
 use Rattle.guest_memory.specs.Memory.{Write, write_all, word_at, two_words}
 use Rattle.rings.specs.Ring.{RingState, owned, head_after}
+use Rattle.rx_desc.specs.declared.placing.TheConstants.{DONE, END_OF_PACKET, VLAN_PACKET, LOOPBACK, LENGTH, TAG}
 use Rattle.rx_desc.specs.declared.placing.RxConfig.{RxConfig}
 use Rattle.rx_desc.specs.declared.placing.Placed.{Placed}
 use Rattle.rx_desc.specs.declared.placing.Placed.TheVariants.{Put, NoRoom, Faulted}
@@ -47,15 +48,15 @@ unfoldable pub passes_end : ℕ → List Write → Bool
 passes_end n [] = false
 passes_end n (w ∷ ws) = nat_lt n (w.at + length w.bytes) || passes_end n ws
 
--- what a stripped tag adds to the last status: the flag (bit 3), and the tag control
+-- what a stripped tag adds to the last status: the flag, and the tag control
 abbrev pub tag_bits : Option ℕ → ℕ
 tag_bits None = 0
-tag_bits (Some tag) = 8 + 2 ^ 48 * tag
+tag_bits (Some tag) = VLAN_PACKET + TAG * tag
 
--- the second word of a descriptor that holds a piece of n bytes: done (bit 0), the length, on the last one the end of the
--- frame (bit 1) and the stripped tag, and for a frame of another pool loopback (bit 18)
+-- the second word of a descriptor that holds a piece of n bytes: done, the length, on the last one the end of the frame
+-- and the stripped tag, and for a frame of another pool loopback
 unfoldable pub status : Bool → Option ℕ → Bool → ℕ → ℕ
-status loopback tag last n = 1 + (if last then 2 + tag_bits tag else 0) + (if loopback then 2 ^ 18 else 0) + 2 ^ 32 * n
+status loopback tag last n = DONE + (if last then END_OF_PACKET + tag_bits tag else 0) + (if loopback then LOOPBACK else 0) + LENGTH * n
 
 abbrev pub is_nil : List (List ℕ) → Bool
 is_nil [] = true

@@ -56,7 +56,8 @@ impl<'a> Parts<'a> {
 pub(crate) fn write_parts<M: GuestMem>(memory: &mut M, at: u64, source: Parts)
     requires inside { at + length (text_of source) ≤ length (M.bytes memory.old) }
     requires fits { at + length (text_of source) < 2 ^ 64 }
-    ensures written { M.bytes memory.new ≡ overwrite at (text_of source.entry) (M.bytes memory.old) }
+    ensures written { M.bytes memory.new
+        ≡ overwrite at (text_of source.entry) (M.bytes memory.old) }
     ensures size { length (M.bytes memory.new) ≡ length (M.bytes memory.old) }
 {
     if source.front.is_empty() {
@@ -71,7 +72,8 @@ pub(crate) fn write_parts<M: GuestMem>(memory: &mut M, at: u64, source: Parts)
 fn write_both<M: GuestMem>(memory: &mut M, at: u64, source: Parts)
     requires inside { at + length (text_of source) ≤ length (M.bytes memory.old) }
     requires fits { at + length (text_of source) < 2 ^ 64 }
-    ensures written { M.bytes memory.new ≡ overwrite at (text_of source.entry) (M.bytes memory.old) }
+    ensures written { M.bytes memory.new
+        ≡ overwrite at (text_of source.entry) (M.bytes memory.old) }
     ensures size { length (M.bytes memory.new) ≡ length (M.bytes memory.old) }
 {
     write_bytes(memory, at, source.front);

@@ -58,9 +58,12 @@ pub fn place<M: GuestMem>(
     requires least { IsTrue ring.old.enabled → 1024 ≤ config.now.buffer_size }
     requires most { IsTrue ring.old.enabled → config.now.buffer_size ≤ 16384 }
     requires inside { LiesInside (length (M.bytes memory.old)) ring.old }
-    ensures placed { result ≡ (deliver config.now loopback frame.now (M.bytes memory.old) ring.old).placed }
-    ensures written { M.bytes memory.new ≡ (deliver config.now loopback frame.now (M.bytes memory.old) ring.old).memory }
-    ensures ring { ring.new ≡ (deliver config.now loopback frame.now (M.bytes memory.old) ring.old).ring }
+    ensures placed { result
+        ≡ (deliver config.now loopback frame.now (M.bytes memory.old) ring.old).placed }
+    ensures written { M.bytes memory.new
+        ≡ (deliver config.now loopback frame.now (M.bytes memory.old) ring.old).memory }
+    ensures ring { ring.new
+        ≡ (deliver config.now loopback frame.now (M.bytes memory.old) ring.old).ring }
     ensures size { length (M.bytes memory.new) ≡ length (M.bytes memory.old) }
     ensures inside { LiesInside (length (M.bytes memory.new)) ring.new }
     ensures on { IsTrue ring.new.enabled → IsTrue ring.old.enabled }
@@ -84,9 +87,12 @@ pub fn place_within<M: GuestMem>(
     requires least { IsTrue ring.old.enabled → 1024 ≤ config.now.buffer_size }
     requires most { IsTrue ring.old.enabled → config.now.buffer_size ≤ 16384 }
     requires inside { LiesInside (length (M.bytes memory.old)) ring.old }
-    ensures placed { result ≡ (deliver config.now loopback frame.now (M.bytes memory.old) ring.old).placed }
-    ensures written { M.bytes memory.new ≡ (deliver config.now loopback frame.now (M.bytes memory.old) ring.old).memory }
-    ensures ring { ring.new ≡ (deliver config.now loopback frame.now (M.bytes memory.old) ring.old).ring }
+    ensures placed { result
+        ≡ (deliver config.now loopback frame.now (M.bytes memory.old) ring.old).placed }
+    ensures written { M.bytes memory.new
+        ≡ (deliver config.now loopback frame.now (M.bytes memory.old) ring.old).memory }
+    ensures ring { ring.new
+        ≡ (deliver config.now loopback frame.now (M.bytes memory.old) ring.old).ring }
     ensures size { length (M.bytes memory.new) ≡ length (M.bytes memory.old) }
     ensures inside { LiesInside (length (M.bytes memory.new)) ring.new }
     ensures on { IsTrue ring.new.enabled → IsTrue ring.old.enabled }
@@ -148,9 +154,15 @@ fn place_data<M: GuestMem>(
     requires some { 1 ≤ length (text_of source) }
     requires short { length (text_of source) ≤ 9018 }
     requires inside { LiesInside (length (M.bytes memory.old)) ring.old }
-    ensures placed { result ≡ (deliver_pieces loopback tag (pieces size (text_of source.entry)) (M.bytes memory.old) ring.old).placed }
-    ensures written { M.bytes memory.new ≡ (deliver_pieces loopback tag (pieces size (text_of source.entry)) (M.bytes memory.old) ring.old).memory }
-    ensures ring { ring.new ≡ (deliver_pieces loopback tag (pieces size (text_of source.entry)) (M.bytes memory.old) ring.old).ring }
+    ensures placed { result
+        ≡ (deliver_pieces loopback tag (pieces size (text_of source.entry))
+        (M.bytes memory.old) ring.old).placed }
+    ensures written { M.bytes memory.new
+        ≡ (deliver_pieces loopback tag (pieces size (text_of source.entry))
+        (M.bytes memory.old) ring.old).memory }
+    ensures ring { ring.new
+        ≡ (deliver_pieces loopback tag (pieces size (text_of source.entry))
+        (M.bytes memory.old) ring.old).ring }
     ensures size { length (M.bytes memory.new) ≡ length (M.bytes memory.old) }
     ensures inside { LiesInside (length (M.bytes memory.new)) ring.new }
     ensures on { IsTrue ring.new.enabled → IsTrue ring.old.enabled }
@@ -187,9 +199,15 @@ fn place_one<M: GuestMem>(
     requires known { memory_size ≡ length (M.bytes memory.old) }
     requires short { length (text_of source) ≤ 9018 }
     requires inside { LiesInside (length (M.bytes memory.old)) ring.old }
-    ensures placed { result ≡ (deliver_pieces loopback tag (text_of source.entry ∷ []) (M.bytes memory.old) ring.old).placed }
-    ensures written { M.bytes memory.new ≡ (deliver_pieces loopback tag (text_of source.entry ∷ []) (M.bytes memory.old) ring.old).memory }
-    ensures ring { ring.new ≡ (deliver_pieces loopback tag (text_of source.entry ∷ []) (M.bytes memory.old) ring.old).ring }
+    ensures placed { result
+        ≡ (deliver_pieces loopback tag (text_of source.entry ∷ [])
+        (M.bytes memory.old) ring.old).placed }
+    ensures written { M.bytes memory.new
+        ≡ (deliver_pieces loopback tag (text_of source.entry ∷ [])
+        (M.bytes memory.old) ring.old).memory }
+    ensures ring { ring.new
+        ≡ (deliver_pieces loopback tag (text_of source.entry ∷ [])
+        (M.bytes memory.old) ring.old).ring }
     ensures size { length (M.bytes memory.new) ≡ length (M.bytes memory.old) }
     ensures inside { LiesInside (length (M.bytes memory.new)) ring.new }
     ensures on { IsTrue ring.new.enabled → IsTrue ring.old.enabled }
@@ -226,9 +244,15 @@ fn place_many<M: GuestMem>(
     requires short { length (text_of source) ≤ 9018 }
     requires room { count ≤ length (owned ring.old) }
     requires inside { LiesInside (length (M.bytes memory.old)) ring.old }
-    ensures placed { result ≡ (deliver_pieces loopback tag (cut size count (text_of source.entry)) (M.bytes memory.old) ring.old).placed }
-    ensures written { M.bytes memory.new ≡ (deliver_pieces loopback tag (cut size count (text_of source.entry)) (M.bytes memory.old) ring.old).memory }
-    ensures ring { ring.new ≡ (deliver_pieces loopback tag (cut size count (text_of source.entry)) (M.bytes memory.old) ring.old).ring }
+    ensures placed { result
+        ≡ (deliver_pieces loopback tag (cut size count (text_of source.entry))
+        (M.bytes memory.old) ring.old).placed }
+    ensures written { M.bytes memory.new
+        ≡ (deliver_pieces loopback tag (cut size count (text_of source.entry))
+        (M.bytes memory.old) ring.old).memory }
+    ensures ring { ring.new
+        ≡ (deliver_pieces loopback tag (cut size count (text_of source.entry))
+        (M.bytes memory.old) ring.old).ring }
     ensures size { length (M.bytes memory.new) ≡ length (M.bytes memory.old) }
     ensures inside { LiesInside (length (M.bytes memory.new)) ring.new }
     ensures on { IsTrue ring.new.enabled → IsTrue ring.old.enabled }
@@ -257,8 +281,14 @@ fn buffers<M: GuestMem>(
     requires room { count ≤ length (owned ring.now) }
     requires inside { LiesInside (length (M.bytes memory.now)) ring.now }
     ensures small { length (M.bytes memory.now) < 2 ^ 64 }
-    ensures variant { is_none result ≡ passes_end (length (M.bytes memory.now)) (data_writes (slots ring.now) (cut size count (text_of source.entry)) (M.bytes memory.now)) }
-    ensures value { IfSome result (λ xs. zip_writes xs (cut size count (text_of source.entry)) ≡ data_writes (slots ring.now) (cut size count (text_of source.entry)) (M.bytes memory.now)) }
+    ensures variant { is_none result
+        ≡ passes_end (length (M.bytes memory.now))
+        (data_writes (slots ring.now) (cut size count (text_of source.entry))
+        (M.bytes memory.now)) }
+    ensures value { IfSome result
+        (λ xs. zip_writes xs (cut size count (text_of source.entry))
+        ≡ data_writes (slots ring.now) (cut size count (text_of source.entry))
+        (M.bytes memory.now)) }
 {
     let mut addresses = [0u64; MOST_PIECES];
     let mut rest = source;
@@ -285,8 +315,11 @@ fn write_pieces<M: GuestMem>(
 )
     requires nine { count ≤ 9 }
     requires small { length (M.bytes memory.old) < 2 ^ 64 }
-    requires fits { passes_end (length (M.bytes memory.old)) (zip_writes addresses.now (cut size count (text_of source))) ≡ false }
-    ensures written { M.bytes memory.new ≡ write_all (zip_writes addresses.now (cut size count (text_of source.entry))) (M.bytes memory.old) }
+    requires fits { passes_end (length (M.bytes memory.old))
+        (zip_writes addresses.now (cut size count (text_of source))) ≡ false }
+    ensures written { M.bytes memory.new
+        ≡ write_all (zip_writes addresses.now (cut size count (text_of source.entry)))
+        (M.bytes memory.old) }
     ensures size { length (M.bytes memory.new) ≡ length (M.bytes memory.old) }
 {
     let mut rest = source;
@@ -311,7 +344,10 @@ fn write_back<M: GuestMem>(
     requires inside { LiesInside (length (M.bytes memory.old)) ring.now }
     requires short { length (text_of source) ≤ 9018 }
     requires nine { count ≤ 9 }
-    ensures written { M.bytes memory.new ≡ write_all (back_writes loopback tag (slots ring.now) (cut size count (text_of source.entry))) (M.bytes memory.old) }
+    ensures written { M.bytes memory.new
+        ≡ write_all
+        (back_writes loopback tag (slots ring.now) (cut size count (text_of source.entry)))
+        (M.bytes memory.old) }
     ensures size { length (M.bytes memory.new) ≡ length (M.bytes memory.old) }
 {
     let mut rest = source;

@@ -65,7 +65,8 @@ impl Events {
         room: &mut Room,
     ) -> Result<(), Refusal>
         ensures ok { OnOk result (Says (event_by limit kind words.entry) self.old self.new) }
-        ensures bad { IfErr result (λ e. e ≡ Refusal.BadLine → event_by limit kind words.entry ≡ None) }
+        ensures bad { IfErr result
+            (λ e. e ≡ Refusal.BadLine → event_by limit kind words.entry ≡ None) }
         ensures err { OnErr result (self.new ≡ self.old) }
     {
         let record = Record::of_line(kind, words, limit, &mut self.store, room)?;

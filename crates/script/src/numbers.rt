@@ -73,16 +73,16 @@ pub fn first_number(text: &[u8]) -> Option<(u64, &[u8])>
     ensures { IfSome result (λ r. Begins text.now r.0 r.1.now) }
 {
     if is_marked(text) {
-        first_digits(16, &text[2..])
+        first_number_to(16, &text[2..])
     } else {
-        first_digits(10, text)
+        first_number_to(10, text)
     }
 }
 
-// The same of digits to a base.
+// The number to a base that the digits begin with, and what comes after it.
 #[inline]
 #[tactic(auto, using(crate::proofs::NumberLemmas::digit_more, crate::proofs::NumberLemmas::clear_more))]
-fn first_digits(base: u8, digits: &[u8]) -> Option<(u64, &[u8])>
+fn first_number_to(base: u8, digits: &[u8]) -> Option<(u64, &[u8])>
     requires { base ≤ 16 }
     ensures { IfSome result (λ r. BeginsTo base digits.now r.0 r.1.now) }
 {

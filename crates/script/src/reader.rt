@@ -47,7 +47,8 @@ impl Model for Reader {
       events = r.events;
     } };
 
-    ghost invariant = { λ r. (r.lines ≤ 100000) × IfSome r.go (λ before. before ≤ length r.events) };
+    ghost invariant = { λ r. (r.lines ≤ 100000)
+        × IfSome r.go (λ before. before ≤ length r.events) };
 }
 
 impl Reader {
@@ -116,8 +117,10 @@ impl Reader {
     pub fn lines(&mut self, text: &[u8], room: &mut Room) -> Result<usize, Fault>
         ensures left { IfOk result (λ left. left ≤ length text.now) }
         ensures short { IfOk result (λ left. left ≤ 40000) }
-        ensures clear { IfOk result (λ left. IsWithout 10 (drop (length text.now - left) text.now)) }
-        ensures ok { IfOk result (λ left. (more : List ℕ) → read_on (lines_of (text.now ++ more)) self.old
+        ensures clear { IfOk result
+            (λ left. IsWithout 10 (drop (length text.now - left) text.now)) }
+        ensures ok { IfOk result
+            (λ left. (more : List ℕ) → read_on (lines_of (text.now ++ more)) self.old
             ≡ read_on (lines_of (drop (length text.now - left) text.now ++ more)) self.new) }
         ensures bad { IfErr result (λ e. (n : ℕ) → e ≡ Fault.BadScript n
             → (more : List ℕ) → read_on (lines_of (text.now ++ more)) self.old ≡ Err n) }

@@ -58,8 +58,10 @@ impl Record {
         store: &mut Store,
         room: &mut Room,
     ) -> Result<Record, Refusal>
-        ensures event { IfOk result (λ made. event_by limit kind words.entry ≡ Some (event_at store.new made)) }
-        ensures bad { IfErr result (λ e. e ≡ Refusal.BadLine → event_by limit kind words.entry ≡ None) }
+        ensures event { IfOk result
+            (λ made. event_by limit kind words.entry ≡ Some (event_at store.new made)) }
+        ensures bad { IfErr result
+            (λ e. e ≡ Refusal.BadLine → event_by limit kind words.entry ≡ None) }
         ensures fits { IfOk result (λ made. Fits store.new made) }
         ensures grown { Grows store.old store.new }
     {
@@ -109,8 +111,10 @@ impl Record {
         store: &mut Store,
         room: &mut Room,
     ) -> Result<Record, Refusal>
-        ensures event { IfOk result (λ made. event_by limit Wire (hex.now ∷ []) ≡ Some (event_at store.new made)) }
-        ensures bad { IfErr result (λ e. e ≡ Refusal.BadLine → event_by limit Wire (hex.now ∷ []) ≡ None) }
+        ensures event { IfOk result
+            (λ made. event_by limit Wire (hex.now ∷ []) ≡ Some (event_at store.new made)) }
+        ensures bad { IfErr result
+            (λ e. e ≡ Refusal.BadLine → event_by limit Wire (hex.now ∷ []) ≡ None) }
         ensures fits { IfOk result (λ made. Fits store.new made) }
         ensures grown { Grows store.old store.new }
     {
@@ -126,7 +130,8 @@ impl Record {
 #[inline]
 fn read<'a>(word: &[u8], most: u16, room: &'a mut [u8; MOST_BYTES]) -> Result<&'a [u8], Refusal>
     requires { most ≤ 9018 }
-    ensures { MatchResult result (λ bytes. (bytes_of word.now ≡ Some bytes.now) × (length bytes.now ≤ most))
+    ensures { MatchResult result
+        (λ bytes. (bytes_of word.now ≡ Some bytes.now) × (length bytes.now ≤ most))
         (λ e. (e ≡ Refusal.BadLine) × (option_and_then (few most) (bytes_of word.now) ≡ None)) }
 {
     let part = &mut room[..usize::from(most)];

@@ -46,7 +46,8 @@ impl Script {
     /// and a growth of memory that was refused [`Fault::NoMemory`].
     pub fn read<R: Read>(alloc: Global, reader: &mut R) -> Result<Script, Fault>
         // where the bytes of the reader are known, their text says this script
-        ensures ok { IfOk result (λ script. IfSome (R.remaining reader.old) (λ text. script_of text ≡ Ok script)) }
+        ensures ok { IfOk result
+            (λ script. IfSome (R.remaining reader.old) (λ text. script_of text ≡ Ok script)) }
         // or that line of it is its first bad one
         ensures bad { IfErr result (λ e. (n : ℕ) → e ≡ Fault.BadScript n
             → IfSome (R.remaining reader.old) (λ text. script_of text ≡ Err n)) }
@@ -129,7 +130,8 @@ fn take_lines(
     requires { end ≤ length block.old }
     ensures short { IfOk result (λ left. left ≤ 40000) }
     ensures clear { IfOk result (λ left. IsWithout 10 (take left block.new)) }
-    ensures ok { IfOk result (λ left. (more : List ℕ) → read_on (lines_of (take end block.old ++ more)) lines.old
+    ensures ok { IfOk result
+        (λ left. (more : List ℕ) → read_on (lines_of (take end block.old ++ more)) lines.old
         ≡ read_on (lines_of (take left block.new ++ more)) lines.new) }
     ensures bad { IfErr result (λ e. (n : ℕ) → e ≡ Fault.BadScript n
         → (more : List ℕ) → read_on (lines_of (take end block.old ++ more)) lines.old ≡ Err n) }
@@ -146,7 +148,8 @@ fn fill<R: Read>(reader: &mut R, block: &mut [u8], filled: usize) -> Result<usiz
     ensures count { IfOk result (λ count. filled + count ≤ length block.new) }
     ensures len { length block.new ≡ length block.old }
     ensures front { take filled block.new ≡ take filled block.old }
-    ensures bytes { ReadConsumes (R.remaining reader.old) (R.remaining reader.new) result (drop filled block.new) }
+    ensures bytes { ReadConsumes (R.remaining reader.old) (R.remaining reader.new) result
+        (drop filled block.new) }
     ensures err { IfErr result (λ e. e ≡ Fault.Io) }
 {
     read_some(reader, &mut block[filled..])

@@ -116,7 +116,8 @@ impl<'a> Words<'a> {
     #[inline]
     #[tactic(auto, using(crate::proofs::NumberLemmas::one_first, crate::proofs::NumberLemmas::one_more, crate::proofs::NumberLemmas::one_read))]
     pub fn one_number(mut self) -> Result<u64, Refusal>
-        ensures { MatchResult result (λ n. One self.entry n) (λ e. (e ≡ Refusal.BadLine) × NotOne self.entry) }
+        ensures { MatchResult result (λ n. One self.entry n)
+            (λ e. (e ≡ Refusal.BadLine) × NotOne self.entry) }
     {
         let Some(number) = self.number() else {
             return Err(Refusal::BadLine);
@@ -129,7 +130,8 @@ impl<'a> Words<'a> {
     #[inline]
     #[tactic(auto, using(crate::proofs::NumberLemmas::two_first, crate::proofs::NumberLemmas::two_more, crate::proofs::NumberLemmas::two_read))]
     pub fn two_numbers(mut self) -> Result<(u64, u64), Refusal>
-        ensures { MatchResult result (λ ns. Two self.entry ns.0 ns.1) (λ e. (e ≡ Refusal.BadLine) × NotTwo self.entry) }
+        ensures { MatchResult result (λ ns. Two self.entry ns.0 ns.1)
+            (λ e. (e ≡ Refusal.BadLine) × NotTwo self.entry) }
     {
         let Some(first) = self.number() else {
             return Err(Refusal::BadLine);
@@ -176,7 +178,8 @@ impl<'a> Words<'a> {
     /// The two or three words that are left.
     pub fn two_or_three(mut self) -> Result<(&'a [u8], &'a [u8], Option<&'a [u8]>), Refusal>
         ensures { MatchResult result
-            (λ words. two_or_three_of self.entry ≡ Some (words.0.now, (words.1.now, option_copied words.2)))
+            (λ words. two_or_three_of self.entry
+            ≡ Some (words.0.now, (words.1.now, option_copied words.2)))
             (λ e. (e ≡ Refusal.BadLine) × (two_or_three_of self.entry ≡ None)) }
     {
         let (Some(first), Some(second)) = (self.next(), self.next()) else {

@@ -4,6 +4,7 @@ use script::{Fault, Room, Script};
 use std::alloc::{AllocError, Global};
 use std::process::Abort;
 use std::test::Fail;
+use test_support::assert_equal;
 
 mod bad_lines;
 mod breaking;
@@ -79,7 +80,7 @@ fn said(alloc: Global, text: &[u8]) -> Result<Result<String, Fault>, AllocError>
 // A text that says this.
 fn check_said<R: Abort + AllocGlobal>(rt: &R, text: &[u8], wanted: &str) -> Result<(), Fail> {
     let said = said(rt.alloc(), text)??;
-    assert_eq!(rt; said.as_str(), wanted);
+    assert_equal(rt, said.as_str(), wanted);
     Ok(())
 }
 
@@ -89,7 +90,7 @@ fn check_unread<R: Abort + AllocGlobal>(rt: &R, text: &[u8], fault: Fault) -> Re
     match Script::read(rt.alloc(), &mut reader) {
         Ok(_) => Err(Fail::from("a bad script is read")),
         Err(other) => {
-            assert_eq!(rt; other, fault);
+            assert_equal(rt, other, fault);
             Ok(())
         }
     }

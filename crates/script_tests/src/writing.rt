@@ -1,7 +1,8 @@
 //! Values from outside: worked scripts with their outputs, replies by hand, and writers and heaps that give out.
 use device::{Device, MemSlice, Queue, Request};
 use guest_memory::{FlatMem, GuestMem};
-use lone::{Lone, Room, Watch, follow};
+use lone::follow::follow;
+use lone::{Lone, Room, Watch};
 use std::alloc::{AllocError, Global};
 use std::io::Write;
 use std::test::Fail;

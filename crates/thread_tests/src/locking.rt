@@ -14,6 +14,7 @@ use std::sync::ledger::{Blank, Ledger};
 use std::test::Fail;
 use std::thread;
 use std::thread::Threads;
+use test_support::{assert_equal, assert_equal_at};
 use wire_frame::{Fault, FrameBuf};
 
 mod callers;
@@ -115,12 +116,12 @@ fn assert_scripted<R: Abort>(rt: &R, index: usize, answer: &Answer) {
     match &answer.reply {
         Reply::Done => assert!(rt; index < 15, "at {index}"),
         Reply::Bytes(bytes) => {
-            assert_eq!(rt; index, 15);
-            assert_eq!(rt; bytes.bytes(), WRITTEN_BACK.as_slice());
+            assert_equal(rt, index, 15);
+            assert_equal(rt, bytes.bytes(), WRITTEN_BACK.as_slice());
         }
         Reply::Value(value) => {
             assert!(rt; index == 16 || index == 17, "at {index}");
-            assert_eq!(rt; *value, 1, "at {index}");
+            assert_equal_at(rt, *value, 1, index);
         }
         _ => assert!(rt; false, "at {index}"),
     }
@@ -215,6 +216,6 @@ fn left<R: Abort, L: Ledger>(
 ) -> Result<Vec<Share<L>>, Fail> {
     let mut all = Vec::new(alloc);
     shares.put_back(&mut all)?;
-    assert_eq!(rt; all.len(), count);
+    assert_equal(rt, all.len(), count);
     Ok(all)
 }

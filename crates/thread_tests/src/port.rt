@@ -8,6 +8,7 @@ use std::alloc::Global;
 use std::process::Abort;
 use std::test::Fail;
 use std::thread;
+use test_support::assert_equal;
 use wire_frame::Fault;
 
 mod calls;
@@ -39,14 +40,14 @@ fn line_with_port(alloc: Global) -> Result<(DeviceSeat, IrqPort, EndNote), Fail>
 
 // The port of pool 3 has no message yet, and then takes its own alone.
 fn assert_takes_its_own<R: Abort>(rt: &R, device: &mut DeviceSeat, port: &mut IrqPort) {
-    assert_eq!(rt; port.peek_irqs(), 0);
-    assert_eq!(rt; port.take_irqs(), 0);
+    assert_equal(rt, port.peek_irqs(), 0);
+    assert_equal(rt, port.take_irqs(), 0);
     device.raise(3, 4);
     device.raise(2, 1);
-    assert_eq!(rt; port.peek_irqs(), 4);
+    assert_equal(rt, port.peek_irqs(), 4);
     assert_eq!(rt; port.peek_irqs(), 4, "a peek takes nothing");
-    assert_eq!(rt; port.take_irqs(), 4);
-    assert_eq!(rt; port.take_irqs(), 0);
+    assert_equal(rt, port.take_irqs(), 4);
+    assert_equal(rt, port.take_irqs(), 0);
 }
 
 // A message that was raised before the port was made belongs to an earlier guest.
@@ -63,12 +64,12 @@ fn a_port_sees_no_earlier_message(rt: HostRuntime) -> Result<(), Fail> {
 #[test]
 fn a_port_has_its_pool_and_is_open_until_it_ends(rt: HostRuntime) -> Result<(), Fail> {
     let (mut device, mut port, _note) = line_with_port(rt.alloc())?;
-    assert_eq!(rt; port.pool(), 3);
+    assert_equal(&rt, port.pool(), 3);
     assert!(rt; port.is_open());
     device.raise(3, 1);
     port.end();
     assert!(rt; !port.is_open());
-    assert_eq!(rt; port.pool(), 3);
+    assert_equal(&rt, port.pool(), 3);
     assert_eq!(rt;
         port.take_irqs(),
         1,

@@ -8,6 +8,7 @@ use std::process::Abort;
 use std::sync::Wait;
 use std::test::Fail;
 use std::thread;
+use test_support::assert_equal;
 use wire_frame::{Fault, FrameBuf};
 use wire_pump::{Door, FeedEnd, FrameReceiver, FrameSender, PumpEnd, channel, feed, pump};
 
@@ -85,10 +86,10 @@ fn frames_and_last_come_in_order(rt: HostRuntime) -> Result<(), Fail> {
     let alloc = rt.alloc();
     let (mut sender, mut receiver) = channel(alloc)?;
     let frames = frames_of(alloc, 5).ok_or("no frames")?;
-    assert_eq!(rt; feed(&mut sender, &rt, &frames), FeedEnd::All);
+    assert_equal(&rt, feed(&mut sender, &rt, &frames), FeedEnd::All);
     let mut shelf = shelf_for(alloc, 9);
     assert_last(&rt, pump(&mut receiver, &rt, &mut shelf));
-    assert_eq!(rt; shelf.frames.len(), 5);
+    assert_equal(&rt, shelf.frames.len(), 5);
     assert_frames(&rt, &shelf.frames, 0);
     Ok(())
 }
@@ -103,11 +104,11 @@ fn nothing_is_sent_after_last(rt: HostRuntime) -> Result<(), Fail> {
     assert!(rt; sender.last(&rt));
     assert!(rt; !sender.frame(&rt, &frame));
     assert!(rt; !sender.last(&rt));
-    assert_eq!(rt; feed(&mut sender, &rt, &frames), FeedEnd::Gone(0));
+    assert_equal(&rt, feed(&mut sender, &rt, &frames), FeedEnd::Gone(0));
     let mut shelf = shelf_for(alloc, 9);
     assert_last(&rt, pump(&mut receiver, &rt, &mut shelf));
     drop(sender);
-    assert_eq!(rt; shelf.frames.len(), 1);
+    assert_equal(&rt, shelf.frames.len(), 1);
     Ok(())
 }
 
@@ -117,15 +118,15 @@ fn a_frame_that_is_not_taken_is_handed_back(rt: HostRuntime) -> Result<(), Fail>
     let alloc = rt.alloc();
     let (mut sender, mut receiver) = channel(alloc)?;
     let frames = frames_of(alloc, 5).ok_or("no frames")?;
-    assert_eq!(rt; feed(&mut sender, &rt, &frames), FeedEnd::All);
+    assert_equal(&rt, feed(&mut sender, &rt, &frames), FeedEnd::All);
     let mut shelf = shelf_for(alloc, 3);
     assert_full(&rt, pump(&mut receiver, &rt, &mut shelf), 3);
-    assert_eq!(rt; shelf.frames.len(), 3);
+    assert_equal(&rt, shelf.frames.len(), 3);
     assert_frames(&rt, &shelf.frames, 0);
     let mut receiver = sender.beside(receiver);
     let mut other = shelf_for(alloc, 3);
     assert_last(&rt, pump(&mut receiver, &rt, &mut other));
-    assert_eq!(rt; other.frames.len(), 1);
+    assert_equal(&rt, other.frames.len(), 1);
     assert_frames(&rt, &other.frames, 4);
     Ok(())
 }
@@ -141,7 +142,7 @@ fn a_pump_may_go_on_after_it_was_full(rt: HostRuntime) -> Result<(), Fail> {
         assert!(rt; sender.frame(&rt, &frame));
         assert_full(&rt, pump(&mut receiver, &rt, &mut shelf), number);
     }
-    assert_eq!(rt; shelf.frames.len(), 0);
+    assert_equal(&rt, shelf.frames.len(), 0);
     Ok(())
 }
 
@@ -151,11 +152,11 @@ fn a_sender_is_told_that_the_receiver_is_gone(rt: HostRuntime) -> Result<(), Fai
     let (mut sender, receiver) = channel(alloc)?;
     let frames = frames_of(alloc, 2).ok_or("no frames")?;
     drop(receiver);
-    assert_eq!(rt; feed(&mut sender, &rt, &frames), FeedEnd::Gone(0));
+    assert_equal(&rt, feed(&mut sender, &rt, &frames), FeedEnd::Gone(0));
     let frame = frame_of(0).ok_or("no frame")?;
     assert!(rt; !sender.frame(&rt, &frame));
     assert!(rt; !sender.last(&rt));
-    assert_eq!(rt; feed(&mut sender, &rt, &[]), FeedEnd::Gone(0));
+    assert_equal(&rt, feed(&mut sender, &rt, &[]), FeedEnd::Gone(0));
     Ok(())
 }
 
@@ -172,7 +173,7 @@ fn a_pump_is_told_that_the_sender_is_gone(rt: HostRuntime) -> Result<(), Fail> {
     let mut shelf = shelf_for(alloc, 9);
     let end = pump(&mut receiver, &rt, &mut shelf);
     assert!(rt; matches!(&end, PumpEnd::Gone), "{end:?}");
-    assert_eq!(rt; shelf.frames.len(), 2);
+    assert_equal(&rt, shelf.frames.len(), 2);
     assert_frames(&rt, &shelf.frames, 0);
     Ok(())
 }

@@ -3,20 +3,21 @@ use irq_line::{DeviceSeat, GuestSeat, make};
 use std::process::Abort;
 use std::test::Fail;
 use std::thread;
+use test_support::{assert_equal, assert_equal_at};
 
 mod making;
 
 // Two vectors are raised for pool 3, one of them twice.
 fn assert_stands_until_taken<R: Abort>(rt: &R, device: &mut DeviceSeat, guest: &mut GuestSeat) {
-    assert_eq!(rt; guest.take(), 0);
-    assert_eq!(rt; guest.peek(), 0);
+    assert_equal(rt, guest.take(), 0);
+    assert_equal(rt, guest.peek(), 0);
     device.raise(3, 1);
     device.raise(3, 4);
     device.raise(3, 1);
-    assert_eq!(rt; guest.peek(), 5);
+    assert_equal(rt, guest.peek(), 5);
     assert_eq!(rt; guest.peek(), 5, "a peek takes nothing");
-    assert_eq!(rt; guest.take(), 5);
-    assert_eq!(rt; guest.take(), 0);
+    assert_equal(rt, guest.take(), 5);
+    assert_equal(rt, guest.take(), 0);
     device.raise(3, 1);
     assert_eq!(rt;
         guest.take(),
@@ -28,7 +29,7 @@ fn assert_stands_until_taken<R: Abort>(rt: &R, device: &mut DeviceSeat, guest: &
 #[test]
 fn messages_stand_until_they_are_taken(rt: HostRuntime) -> Result<(), Fail> {
     let (mut device, mut guests) = make(rt.alloc())?;
-    assert_eq!(rt; guests.len(), 64);
+    assert_equal(&rt, guests.len(), 64);
     assert_stands_until_taken(&rt, &mut device, &mut guests[3]);
     Ok(())
 }
@@ -42,8 +43,8 @@ fn a_pool_sees_its_own_messages_alone(rt: HostRuntime) -> Result<(), Fail> {
         device.raise(pool, mask);
         for guest in &mut guests {
             let want = if guest.pool() == pool { mask } else { 0 };
-            assert_eq!(rt; guest.peek(), want, "raised for {pool}");
-            assert_eq!(rt; guest.take(), want, "raised for {pool}");
+            assert_equal_at(&rt, guest.peek(), want, pool);
+            assert_equal_at(&rt, guest.take(), want, pool);
         }
     }
     Ok(())
@@ -86,7 +87,7 @@ fn takes_of_vector_0(guest: &mut GuestSeat, takes: u32) -> u32 {
 #[test]
 fn one_thread_raises_while_another_takes(rt: HostRuntime) -> Result<(), Fail> {
     let (mut device, mut guests) = make(rt.alloc())?;
-    assert_eq!(rt; guests.len(), 64);
+    assert_equal(&rt, guests.len(), 64);
     let raiser = thread::spawn(&rt, move || {
         raise_often(&mut device);
         device
@@ -96,7 +97,7 @@ fn one_thread_raises_while_another_takes(rt: HostRuntime) -> Result<(), Fail> {
     let last = takes_of_vector_0(&mut guests[0], 1);
     let answered = during.wrapping_add(last);
     assert!(rt; 1 <= answered && answered <= RAISES, "{answered}");
-    assert_eq!(rt; guests[0].take(), 0);
+    assert_equal(&rt, guests[0].take(), 0);
     assert_stands_until_taken(&rt, &mut device, &mut guests[3]);
     Ok(())
 }

@@ -25,7 +25,8 @@ impl Model for Count {
 
     ghost view = { λ c. c.number };
 
-    ghost invariant = { λ c. (c.first < 20) × (drop c.first (take 20 c.digits) ≡ decimal c.number) };
+    ghost invariant = { λ c. (c.first < 20)
+        × (drop c.first (take 20 c.digits) ≡ decimal c.number) };
 }
 
 impl Count {

@@ -77,8 +77,12 @@ impl Output {
         taken: &Taken<'_>,
         writer: &mut W,
     ) -> Result<(), Fault>
-        ensures ok { OnOk result (Sent (W.contents writer.old) (W.contents writer.new) (self.old ++ line number (answer_in device.now taken.now)) self.new) }
-        ensures err { OnErr result (Began (W.contents writer.old) (W.contents writer.new) (self.old ++ line number (answer_in device.now taken.now))) }
+        ensures ok { OnOk result
+            (Sent (W.contents writer.old) (W.contents writer.new)
+            (self.old ++ line number (answer_in device.now taken.now)) self.new) }
+        ensures err { OnErr result
+            (Began (W.contents writer.old) (W.contents writer.new)
+            (self.old ++ line number (answer_in device.now taken.now))) }
         ensures io { IfErr result (λ e. e ≡ Fault.Io) }
     {
         self.relieve(writer)?;
@@ -88,8 +92,12 @@ impl Output {
 
     /// The line of a frame that went to the wire.
     pub fn frame<W: Write>(&mut self, bytes: &[u8], writer: &mut W) -> Result<(), Fault>
-        ensures ok { OnOk result (Sent (W.contents writer.old) (W.contents writer.new) (self.old ++ frame_line bytes.now) self.new) }
-        ensures err { OnErr result (Began (W.contents writer.old) (W.contents writer.new) (self.old ++ frame_line bytes.now)) }
+        ensures ok { OnOk result
+            (Sent (W.contents writer.old) (W.contents writer.new)
+            (self.old ++ frame_line bytes.now) self.new) }
+        ensures err { OnErr result
+            (Began (W.contents writer.old) (W.contents writer.new)
+            (self.old ++ frame_line bytes.now)) }
         ensures io { IfErr result (λ e. e ≡ Fault.Io) }
     {
         self.piece(b"out ", writer)?;
@@ -104,8 +112,12 @@ impl Output {
         given: Given<'_>,
         writer: &mut W,
     ) -> Result<(), Fault>
-        ensures ok { OnOk result (Sent (W.contents writer.old) (W.contents writer.new) (self.old ++ item_line number (item_of given.entry)) self.new) }
-        ensures err { OnErr result (Began (W.contents writer.old) (W.contents writer.new) (self.old ++ item_line number (item_of given.entry))) }
+        ensures ok { OnOk result
+            (Sent (W.contents writer.old) (W.contents writer.new)
+            (self.old ++ item_line number (item_of given.entry)) self.new) }
+        ensures err { OnErr result
+            (Began (W.contents writer.old) (W.contents writer.new)
+            (self.old ++ item_line number (item_of given.entry))) }
         ensures io { IfErr result (λ e. e ≡ Fault.Io) }
     {
         self.relieve(writer)?;
@@ -123,8 +135,12 @@ impl Output {
         seen: Seen,
         writer: &mut W,
     ) -> Result<(), Fault>
-        ensures ok { OnOk result (Sent (W.contents writer.old) (W.contents writer.new) (self.old ++ seen_line pool number (observation_of lone.now.function seen)) self.new) }
-        ensures err { OnErr result (Began (W.contents writer.old) (W.contents writer.new) (self.old ++ seen_line pool number (observation_of lone.now.function seen))) }
+        ensures ok { OnOk result
+            (Sent (W.contents writer.old) (W.contents writer.new)
+            (self.old ++ seen_line pool number (observation_of lone.now.function seen)) self.new) }
+        ensures err { OnErr result
+            (Began (W.contents writer.old) (W.contents writer.new)
+            (self.old ++ seen_line pool number (observation_of lone.now.function seen))) }
         ensures io { IfErr result (λ e. e ≡ Fault.Io) }
     {
         self.relieve(writer)?;
@@ -177,9 +193,11 @@ impl Output {
     // Hands over what is held where it is much.
     #[inline]
     fn relieve<W: Write>(&mut self, writer: &mut W) -> Result<(), Fault>
-        ensures ok { OnOk result (Sent (W.contents writer.old) (W.contents writer.new) self.old self.new) }
+        ensures ok { OnOk result
+            (Sent (W.contents writer.old) (W.contents writer.new) self.old self.new) }
         ensures few { OnOk result (length self.new ≤ HELD) }
-        ensures err { OnErr result (Began (W.contents writer.old) (W.contents writer.new) self.old) }
+        ensures err { OnErr result
+            (Began (W.contents writer.old) (W.contents writer.new) self.old) }
         ensures io { IfErr result (λ e. e ≡ Fault.Io) }
     {
         if self.end <= HELD {
@@ -191,9 +209,11 @@ impl Output {
     // Hands over what is held.
     #[inline(never)]
     fn hand_over<W: Write>(&mut self, writer: &mut W) -> Result<(), Fault>
-        ensures ok { OnOk result (Appends (W.contents writer.old) (W.contents writer.new) self.old) }
+        ensures ok { OnOk result
+            (Appends (W.contents writer.old) (W.contents writer.new) self.old) }
         ensures empty { OnOk result (self.new ≡ []) }
-        ensures err { OnErr result (Began (W.contents writer.old) (W.contents writer.new) self.old) }
+        ensures err { OnErr result
+            (Began (W.contents writer.old) (W.contents writer.new) self.old) }
         ensures io { IfErr result (λ e. e ≡ Fault.Io) }
     {
         send(writer, &self.room[..self.end])?;

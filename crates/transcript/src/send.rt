@@ -22,7 +22,8 @@ pub fn send<W: Write>(writer: &mut W, bytes: &[u8]) -> Result<(), Fault>
 // turns are counted.
 fn taken<W: Write>(writer: &mut W, bytes: &[u8]) -> (usize, bool)
     ensures bound { result.0 ≤ length bytes.now }
-    ensures taken { Appends (W.contents writer.old) (W.contents writer.new) (take result.0 bytes.now) }
+    ensures taken { Appends (W.contents writer.old) (W.contents writer.new)
+        (take result.0 bytes.now) }
     ensures all { result.1 ≡ true → result.0 ≡ length bytes.now }
 {
     let mut sent = 0;

@@ -6,6 +6,7 @@ use Rattle.wire_frame.specs.declared.vlan.PortVlan.{PortVlan}
 use Rattle.wire_frame.specs.declared.vlan.PortVlan.TheVariants.{Descriptor, Always, Never}
 use Rattle.guest_memory.specs.Memory.{overwrite, word_at, word_bytes}
 use Rattle.rings.specs.Ring.{RingState, head_slot, head_after}
+use Rattle.tx_desc.specs.declared.descriptor.TheConstants.{DTYP, DTYP_CONTEXT, DTYP_DATA, EOP, RS, DEXT, VLE, TSE, DD, VLAN}
 use Rattle.tx_desc.specs.declared.descriptor.Kind.{Kind}
 use Rattle.tx_desc.specs.declared.descriptor.Kind.TheVariants.{Context, Unusable, Data}
 use Rattle.tx_desc.specs.declared.descriptor.TxDescriptor.{TxDescriptor}
@@ -18,43 +19,43 @@ use Rattle.tx_desc.specs.declared.outcome.Fetched.TheVariants.{Idle, More, Frame
 abbrev pub length_of : ℕ → ℕ
 length_of word = word % 2 ^ 16
 
--- bits 23:20, DTYP: the type of an advanced descriptor, 2 for context and 3 for data
+-- DTYP: the type of an advanced descriptor
 abbrev pub type_of : ℕ → ℕ
-type_of word = field word 20 4
+type_of word = field word DTYP 4
 
--- bit 24, EOP: it is the last one of its frame
+-- EOP: it is the last one of its frame
 abbrev pub ends_frame : ℕ → Bool
-ends_frame word = has_bit word 24
+ends_frame word = has_bit word EOP
 
--- bit 27, RS: it is to be written back
+-- RS: it is to be written back
 abbrev pub wants_report : ℕ → Bool
-wants_report word = has_bit word 27
+wants_report word = has_bit word RS
 
--- bit 29, DEXT: it is advanced, else it is legacy
+-- DEXT: it is advanced, else it is legacy
 abbrev pub is_advanced : ℕ → Bool
-is_advanced word = has_bit word 29
+is_advanced word = has_bit word DEXT
 
--- bit 30, VLE: a tag is to be inserted
+-- VLE: a tag is to be inserted
 abbrev pub wants_tag : ℕ → Bool
-wants_tag word = has_bit word 30
+wants_tag word = has_bit word VLE
 
--- bit 31, TSE: the frame is to be cut into segments
+-- TSE: the frame is to be cut into segments
 abbrev pub wants_segments : ℕ → Bool
-wants_segments word = has_bit word 31
+wants_segments word = has_bit word TSE
 
--- bits 63:48 of a legacy descriptor: the tag control
+-- of a legacy descriptor: the tag control
 abbrev pub own_tag : ℕ → ℕ
-own_tag word = field word 48 16
+own_tag word = field word VLAN 16
 
--- the word as it is written back: bit 32, DD, is 1, and every other bit stays
+-- the word as it is written back: DD is 1, and every other bit stays
 abbrev pub done_word : ℕ → ℕ
-done_word word = with_bit word 32
+done_word word = with_bit word DD
 
 -- what the device makes of a descriptor in a memory of that size: the first line that fits decides
 unfoldable pub kind_of : ℕ → TxDescriptor → Kind
 kind_of size d =
-    if is_advanced d.word && (type_of d.word == 2) then Context
-    else if is_advanced d.word && not (type_of d.word == 3) then Unusable
+    if is_advanced d.word && (type_of d.word == DTYP_CONTEXT) then Context
+    else if is_advanced d.word && not (type_of d.word == DTYP_DATA) then Unusable
     else if is_advanced d.word && (wants_segments d.word || wants_tag d.word) then Unusable
     else if nat_lt size (d.buffer + length_of d.word) then Unusable
     else Data
@@ -96,7 +97,7 @@ ended limit rule word (Gathered bytes) = if refuses rule bytes then Dropped else
 -- ---- one descriptor
 
 -- what comes of it, whether it was written back, and what is left
-pub record Service : Type 0 where
+pub record Fetching : Type 0 where
   pub outcome : Fetched
   pub reported : Bool
   pub memory : List ℕ
@@ -109,7 +110,7 @@ next ring = record ring { head = head_after 1 ring }
 
 -- the descriptor taken, by its kind: a context is passed over; one that cannot be used turns the ring off, and the pending
 -- frame is dropped; the bytes of any other join that frame
-abbrev pub taken : Kind → ℕ → PortVlan → List ℕ → RingState → Gathering → TxDescriptor → Service
+abbrev pub taken : Kind → ℕ → PortVlan → List ℕ → RingState → Gathering → TxDescriptor → Fetching
 taken Context limit rule memory ring pending d =
     record { outcome = More; reported = false; memory = memory; ring = next ring; pending = pending }
 taken Unusable limit rule memory ring pending d =
@@ -129,16 +130,16 @@ abbrev pub descriptor_at : ℕ → List ℕ → TxDescriptor
 descriptor_at address memory = record { at = address; buffer = word_at address memory; word = word_at (address + 8) memory }
 
 -- the descriptor taken as its kind says
-abbrev pub fetch_at : ℕ → PortVlan → List ℕ → RingState → Gathering → TxDescriptor → Service
+abbrev pub fetch_at : ℕ → PortVlan → List ℕ → RingState → Gathering → TxDescriptor → Fetching
 fetch_at limit rule memory ring pending d = taken (kind_of (length memory) d) limit rule memory ring pending d
 
 -- no descriptor, where nothing changes, or the one at the address
-abbrev pub fetch_next : ℕ → PortVlan → List ℕ → RingState → Gathering → Option ℕ → Service
+abbrev pub fetch_next : ℕ → PortVlan → List ℕ → RingState → Gathering → Option ℕ → Fetching
 fetch_next limit rule memory ring pending None =
     record { outcome = Idle; reported = false; memory = memory; ring = ring; pending = pending }
 fetch_next limit rule memory ring pending (Some address) =
     fetch_at limit rule memory ring pending (descriptor_at address memory)
 
 -- the one descriptor at the head of the ring taken, if there is one, under the limit on frames and the port's VLAN rule
-unfoldable pub fetch : ℕ → PortVlan → List ℕ → RingState → Gathering → Service
+unfoldable pub fetch : ℕ → PortVlan → List ℕ → RingState → Gathering → Fetching
 fetch limit rule memory ring pending = fetch_next limit rule memory ring pending (head_slot ring)

@@ -24,8 +24,10 @@ const DEXT: u32 = 29;
 const VLE: u32 = 30;
 /// Segmentation enable, of an advanced descriptor.
 const TSE: u32 = 31;
-/// Descriptor done, as a mask: bit 32.
-const DD: u64 = 1 << 32;
+/// Descriptor done.
+const DD: u32 = 32;
+/// What a word that is written back has beside its own bits.
+const REPORTED: u64 = 1 << DD;
 /// The lowest bit of the tag control of a legacy descriptor, bits 63:48.
 const VLAN: u32 = 48;
 /// The number of tag controls.
@@ -115,7 +117,7 @@ impl TxDescriptor {
     pub fn done_word(self) -> u64
         ensures { result ≡ done_word self.word }
     {
-        self.word | DD
+        self.word | REPORTED
     }
 
     /// The tag control to insert into the frame that ends with this descriptor, if any.

@@ -3,7 +3,7 @@ ghost use Rattle.std.specs.Prelude.{◌≡◌, ◌+◌, ◌^◌, ◌<◌, ◌≤
 ghost use Rattle.rings.specs.Ring.{LiesInside, no_ring, owned};
 ghost use Rattle.tx_desc.specs.Transmit.{fetch, taken, length_of, joined, ended, Gathered};
 ghost use Rattle.tx_desc.specs.declared.outcome.Fetched.TheVariants.{Frame};
-ghost use Rattle.tx_desc.specs.Lent.{told, lent_after};
+ghost use Rattle.tx_desc.specs.Lent.{fetched_in, lent_after};
 
 use crate::Pending;
 use crate::descriptor::{Kind, TxDescriptor};
@@ -27,10 +27,11 @@ pub fn fetch_into<M: GuestMem>(
     limit: FrameLimit,
 ) -> Served
     requires inside { LiesInside (length (M.bytes memory.old)) ring.old }
-    ensures outcome { told result.outcome frame.new
+    ensures outcome { fetched_in result.outcome frame.new
         ≡ (fetch limit rule (M.bytes memory.old) ring.old pending.old).outcome }
     ensures frame { frame.new
-        ≡ lent_after (fetch limit rule (M.bytes memory.old) ring.old pending.old).outcome frame.old }
+        ≡ lent_after
+        (fetch limit rule (M.bytes memory.old) ring.old pending.old).outcome frame.old }
     ensures reported { result.reported
         ≡ (fetch limit rule (M.bytes memory.old) ring.old pending.old).reported }
     ensures memory { M.bytes memory.new
@@ -59,10 +60,11 @@ pub fn fetch_within<M: GuestMem>(
 ) -> Served
     requires known { memory_size ≡ length (M.bytes memory.old) }
     requires inside { LiesInside (length (M.bytes memory.old)) ring.old }
-    ensures outcome { told result.outcome frame.new
+    ensures outcome { fetched_in result.outcome frame.new
         ≡ (fetch limit rule (M.bytes memory.old) ring.old pending.old).outcome }
     ensures frame { frame.new
-        ≡ lent_after (fetch limit rule (M.bytes memory.old) ring.old pending.old).outcome frame.old }
+        ≡ lent_after
+        (fetch limit rule (M.bytes memory.old) ring.old pending.old).outcome frame.old }
     ensures reported { result.reported
         ≡ (fetch limit rule (M.bytes memory.old) ring.old pending.old).reported }
     ensures memory { M.bytes memory.new
@@ -107,18 +109,23 @@ fn take_data<M: GuestMem>(
     requires bytes { descriptor.buffer + length_of descriptor.word ≤ length (M.bytes memory.old) }
     requires owned { 1 ≤ length (owned ring.old) }
     requires inside { LiesInside (length (M.bytes memory.old)) ring.old }
-    ensures outcome { told result.outcome frame.new
-        ≡ (taken Kind.Data limit rule (M.bytes memory.old) ring.old pending.old descriptor).outcome }
+    ensures outcome { fetched_in result.outcome frame.new
+        ≡ (taken Kind.Data limit rule
+        (M.bytes memory.old) ring.old pending.old descriptor).outcome }
     ensures frame { frame.new
-        ≡ lent_after (taken Kind.Data limit rule (M.bytes memory.old) ring.old pending.old descriptor).outcome frame.old }
+        ≡ lent_after
+        (taken Kind.Data limit rule
+        (M.bytes memory.old) ring.old pending.old descriptor).outcome frame.old }
     ensures reported { result.reported
-        ≡ (taken Kind.Data limit rule (M.bytes memory.old) ring.old pending.old descriptor).reported }
+        ≡ (taken Kind.Data limit rule
+        (M.bytes memory.old) ring.old pending.old descriptor).reported }
     ensures memory { M.bytes memory.new
         ≡ (taken Kind.Data limit rule (M.bytes memory.old) ring.old pending.old descriptor).memory }
     ensures ring { ring.new
         ≡ (taken Kind.Data limit rule (M.bytes memory.old) ring.old pending.old descriptor).ring }
     ensures pending { pending.new
-        ≡ (taken Kind.Data limit rule (M.bytes memory.old) ring.old pending.old descriptor).pending }
+        ≡ (taken Kind.Data limit rule
+        (M.bytes memory.old) ring.old pending.old descriptor).pending }
     ensures size { length (M.bytes memory.new) ≡ length (M.bytes memory.old) }
     ensures inside { LiesInside (length (M.bytes memory.new)) ring.new }
 {
@@ -142,10 +149,12 @@ fn gather<M: GuestMem>(
     limit: FrameLimit,
 ) -> Progress
     requires { descriptor.buffer + length_of descriptor.word ≤ length (M.bytes memory.now) }
-    ensures outcome { told result frame.new
+    ensures outcome { fetched_in result frame.new
         ≡ (taken Kind.Data limit rule (M.bytes memory.now) no_ring pending.old descriptor).outcome }
     ensures frame { frame.new
-        ≡ lent_after (taken Kind.Data limit rule (M.bytes memory.now) no_ring pending.old descriptor).outcome frame.old }
+        ≡ lent_after
+        (taken Kind.Data limit rule
+        (M.bytes memory.now) no_ring pending.old descriptor).outcome frame.old }
     ensures pending { pending.new
         ≡ (taken Kind.Data limit rule (M.bytes memory.now) no_ring pending.old descriptor).pending }
 {
@@ -188,7 +197,11 @@ fn take_whole<M: GuestMem>(
     limit: FrameLimit,
 ) -> bool
     requires { descriptor.buffer + length_of descriptor.word ≤ length (M.bytes memory.now) }
-    ensures whole { IsTrue result → ended limit rule descriptor.word (joined limit (Gathered []) (slice_range (M.bytes memory.now) descriptor.buffer (descriptor.buffer + length_of descriptor.word))) ≡ Frame frame.new }
+    ensures whole { IsTrue result
+        → ended limit rule descriptor.word
+        (joined limit (Gathered [])
+        (slice_range (M.bytes memory.now) descriptor.buffer
+        (descriptor.buffer + length_of descriptor.word))) ≡ Frame frame.new }
     ensures other { result ≡ false → frame.new ≡ frame.old }
 {
     let len = descriptor.length() as usize;

@@ -70,7 +70,8 @@ impl Pending {
     #[tactic(auto, unfolding(crate::specs::Transmit::joined))]
     pub(crate) fn join<M: GuestMem>(&mut self, memory: &M, at: u64, size: usize, limit: FrameLimit)
         requires { at + size ≤ length (M.bytes memory.now) }
-        ensures { self.new ≡ joined limit self.old (slice_range (M.bytes memory.now) at (at + size)) }
+        ensures { self.new
+            ≡ joined limit self.old (slice_range (M.bytes memory.now) at (at + size)) }
     {
         let most = usize::from(limit.get());
         if self.is_overlong || size > most || self.len > most - size {
@@ -94,7 +95,8 @@ impl Pending {
         rule: PortVlan,
         limit: FrameLimit,
     ) -> bool
-        ensures value { ended limit rule last.word self.now ≡ (if result then Frame frame.new else Dropped) }
+        ensures value { ended limit rule last.word self.now
+            ≡ (if result then Frame frame.new else Dropped) }
         ensures frame { frame.new ≡ lent_after (ended limit rule last.word self.now) frame.old }
     {
         if self.is_overlong {
@@ -117,7 +119,8 @@ impl Pending {
 fn reach(cells: &mut Vec<u8>, len: usize)
     requires longer { length cells.old.items ≤ len }
     requires room { len ≤ vec_capacity cells.old }
-    ensures cells { cells.new.items ≡ cells.old.items ++ replicate (len - length cells.old.items) 0 }
+    ensures cells { cells.new.items
+        ≡ cells.old.items ++ replicate (len - length cells.old.items) 0 }
     ensures len { length cells.new.items ≡ len }
     ensures capacity { vec_capacity cells.old ≤ vec_capacity cells.new }
 {

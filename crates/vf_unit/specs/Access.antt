@@ -1,9 +1,10 @@
 -- What register accesses do to an open virtual function.
 use Rattle.std.specs.Prelude.{ℕ, ◌+◌, ◌/◌, ◌%◌, ◌^◌, Bool, true, ◌&&◌, ◌==◌, nat_le, [], length, bit_and, if◌then◌else◌}
 use Rattle.wire_frame.specs.Bits.{has_bit, with_bit}
-use Rattle.rings.specs.Ring.{RingState, ring_word, ring_written, switched}
+use Rattle.rings.specs.Ring.{RingState, ring_word, ring_written, turned}
 use Rattle.tx_desc.specs.Transmit.{Gathered}
 use Rattle.irq_causes.specs.Causes.{CauseState, all_raised, all_unmasked, masked, auto_clearing, cleared, emptied}
+use Rattle.vf_unit.specs.declared.offsets.TheConstants.{LINK_UP, ENABLE, VME, RST, DESCTYPE, ADVANCED, DROP_EN, SRRCTL_KEPT, VTIVAR_KEPT, VTIVAR_MISC_KEPT}
 use Rattle.vf_unit.specs.declared.queues.ReceiveQueue.{ReceiveQueue}
 use Rattle.vf_unit.specs.declared.queues.TransmitQueue.{TransmitQueue}
 use Rattle.vf_unit.specs.declared.registers.Register.{Register}
@@ -13,21 +14,21 @@ use Rattle.vf_unit.specs.Function.{State, Effect, initial, quiet, with_change, r
 
 -- ---- reads
 
--- bit 25 where the queue is on
+-- ENABLE of RXDCTL or TXDCTL, where the queue is on
 abbrev pub enable_word : RingState → ℕ
-enable_word r = if r.enabled then 2 ^ 25 else 0
+enable_word r = if r.enabled then 2 ^ ENABLE else 0
 
 -- what a register reads
 unfoldable pub word : State → Register → ℕ
-word s Links = 0x70000000
+word s Links = LINK_UP
 word s CauseRead = s.causes.causes
 word s MaskSet = s.causes.enabled
 word s AutoClear = s.causes.auto_clear
 word s QueueVectors = s.queue_vectors
 word s OtherVector = s.other_vector
 word s (Receive q register) = ring_word (receive_of s q).ring register
-word s (ReceiveBuffers q) = with_bit (receive_of s q).buffers 28
-word s (ReceiveControl q) = enable_word (receive_of s q).ring + (if (receive_of s q).strips_tag then 2 ^ 30 else 0)
+word s (ReceiveBuffers q) = with_bit (receive_of s q).buffers DROP_EN
+word s (ReceiveControl q) = enable_word (receive_of s q).ring + (if (receive_of s q).strips_tag then 2 ^ VME else 0)
 word s (Transmit q register) = ring_word (transmit_of s q).ring register
 word s (TransmitControl q) = enable_word (transmit_of s q).ring
 word s FramesReceived = s.frames_received
@@ -49,31 +50,31 @@ after_read s _ = s
 
 -- SRRCTL, written: ignored while the queue is on
 abbrev pub buffers_written : ReceiveQueue → ℕ → ReceiveQueue
-buffers_written queue x = if queue.ring.enabled then queue else record queue { buffers = bit_and x 0x0E00001F }
+buffers_written queue x = if queue.ring.enabled then queue else record queue { buffers = bit_and x SRRCTL_KEPT }
 
 -- buffers of the advanced type, and of 1 to 16 KiB
 abbrev pub may_receive : ℕ → Bool
-may_receive buffers = (buffers / 2 ^ 25 == 1) && (nat_le 1 (buffers % 32) && nat_le (buffers % 32) 16)
+may_receive buffers = (buffers / 2 ^ DESCTYPE == ADVANCED) && (nat_le 1 (buffers % 32) && nat_le (buffers % 32) 16)
 
--- RXDCTL, written, in a memory of n bytes: bit 25 turns the queue on or off, bit 30 is whether tags are stripped
+-- RXDCTL, written, in a memory of n bytes: ENABLE turns the queue on or off, VME is whether tags are stripped
 abbrev pub receive_switched : ℕ → ReceiveQueue → ℕ → ReceiveQueue
 receive_switched n queue x =
-    record { ring = switched (has_bit x 25) (may_receive queue.buffers) n queue.ring; buffers = queue.buffers; strips_tag = has_bit x 30 }
+    record { ring = turned (has_bit x ENABLE) (may_receive queue.buffers) n queue.ring; buffers = queue.buffers; strips_tag = has_bit x VME }
 
 -- TXDCTL, written: a queue that goes off loses its pending frame
 abbrev pub transmit_switched : ℕ → TransmitQueue → ℕ → TransmitQueue
 transmit_switched n queue x =
-    record { ring = switched (has_bit x 25) true n queue.ring; pending = if has_bit x 25 then queue.pending else Gathered [] }
+    record { ring = turned (has_bit x ENABLE) true n queue.ring; pending = if has_bit x ENABLE then queue.pending else Gathered [] }
 
 -- what a write of x to a register does
 unfoldable pub register_written : State → Register → ℕ → Effect
-register_written s Control x = quiet (if has_bit x 26 then initial s.memory else s)
+register_written s Control x = quiet (if has_bit x RST then initial s.memory else s)
 register_written s CauseRead x = quiet (with_causes s (cleared s.causes x))
 register_written s CauseSet x = with_change s (all_raised s.causes x)
 register_written s MaskSet x = with_change s (all_unmasked s.causes x)
 register_written s MaskClear x = quiet (with_causes s (masked s.causes x))
 register_written s AutoClear x = quiet (with_causes s (auto_clearing s.causes x))
-register_written s QueueVectors x = quiet (record s { queue_vectors = bit_and x 0x83838383 })
+register_written s QueueVectors x = quiet (record s { queue_vectors = bit_and x VTIVAR_KEPT })
 register_written s OtherVector x = quiet (record s { other_vector = bit_and x 0x83 })
 register_written s (Receive q register) x =
     quiet (with_receive s q (record (receive_of s q) { ring = ring_written (receive_of s q).ring register x }))

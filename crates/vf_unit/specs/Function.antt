@@ -1,9 +1,9 @@
--- An open virtual function: its state, what a frame that comes does, and what the service of a transmit queue does.
+-- An open virtual function: its state, what a frame that comes does, and what the fetched_from of a transmit queue does.
 use Rattle.std.specs.Prelude.{ℕ, ◌+◌, ◌*◌, ◌%◌, ◌^◌, ◌≤◌, Bool, true, false, List, [], length, IsTrue}
 use Rattle.wire_frame.specs.Bits.{field}
 use Rattle.wire_frame.specs.declared.vlan.PortVlan.{PortVlan}
 use Rattle.rings.specs.Ring.{no_ring, LiesInside}
-use Rattle.tx_desc.specs.Transmit.{Gathered, Service, fetch}
+use Rattle.tx_desc.specs.Transmit.{Gathered, Fetching, fetch}
 use Rattle.rx_desc.specs.declared.placing.Placed.{Placed}
 use Rattle.rx_desc.specs.declared.placing.Placed.TheVariants.{Put, NoRoom, Faulted}
 use Rattle.rx_desc.specs.Receive.{Delivery, deliver}
@@ -126,18 +126,19 @@ transmit_vector vectors Q0 = field vectors 8 8
 transmit_vector vectors Q1 = field vectors 24 8
 
 -- one descriptor taken
-abbrev pub service : ℕ → PortVlan → State → Queue → Service
-service limit rule s q = fetch limit rule s.memory (transmit_of s q).ring (transmit_of s q).pending
+abbrev pub fetched_from : ℕ → PortVlan → State → Queue → Fetching
+fetched_from limit rule s q = fetch limit rule s.memory (transmit_of s q).ring (transmit_of s q).pending
 
--- the state with what the service left
-abbrev pub with_service : State → Queue → Service → State
-with_service s q v = with_transmit (record s { memory = v.memory }) q (record { ring = v.ring; pending = v.pending })
+-- the state with what the descriptor left
+abbrev pub with_fetching : State → Queue → Fetching → State
+with_fetching s q v = with_transmit (record s { memory = v.memory }) q (record { ring = v.ring; pending = v.pending })
 
 -- the queue's cause is raised where the descriptor was written back
 abbrev pub reported : Bool → ℕ → CauseState → Change
 reported true entry c = raised_by c entry
 reported false entry c = silent c
 
-unfoldable pub served : ℕ → PortVlan → State → Queue → Effect
-served limit rule s q =
-    with_change (with_service s q (service limit rule s q)) (reported (service limit rule s q).reported (transmit_vector s.queue_vectors q) s.causes)
+-- the state after a service of the queue, and the messages of its report
+unfoldable pub after_fetching : ℕ → PortVlan → State → Queue → Effect
+after_fetching limit rule s q =
+    with_change (with_fetching s q (fetched_from limit rule s q)) (reported (fetched_from limit rule s q).reported (transmit_vector s.queue_vectors q) s.causes)

@@ -5,7 +5,7 @@ use Rattle.wire_frame.specs.declared.vlan.PortVlan.{PortVlan}
 use Rattle.tx_desc.specs.declared.outcome.Fetched.{Fetched}
 use Rattle.tx_desc.specs.Lent.{lent_after}
 use Rattle.vf_unit.specs.declared.registers.Queue.{Queue}
-use Rattle.vf_unit.specs.Function.{State, Effect, initial, delivered, served, service}
+use Rattle.vf_unit.specs.Function.{State, Effect, initial, delivered, after_fetching, fetched_from}
 use Rattle.vf_unit.specs.Access.{word_at_offset, after_read_at, written_at}
 
 -- closed, with a memory of that size, or open
@@ -67,11 +67,11 @@ given loopback frame f = changed f (λ s. delivered loopback frame s)
 
 -- the service of a transmit queue, and what came of it where the function is open
 abbrev pub serviced : ℕ → PortVlan → Function → Queue → Change
-serviced limit rule f q = changed f (λ s. served limit rule s q)
+serviced limit rule f q = changed f (λ s. after_fetching limit rule s q)
 
 abbrev pub service_outcome : ℕ → PortVlan → Function → Queue → Option Fetched
 service_outcome limit rule (Closed size) q = None
-service_outcome limit rule (Open s) q = Some (service limit rule s q).outcome
+service_outcome limit rule (Open s) q = Some (fetched_from limit rule s q).outcome
 
 -- the frame that the caller lends, afterwards
 abbrev pub lent_to : Option Fetched → List ℕ → List ℕ

@@ -87,7 +87,11 @@ pub const VME: u32 = 30;
 /// What VFLINKS reads: the link is up, at 10 Gb/s.
 pub const LINK_UP: u32 = 0x7000_0000;
 /// The bit of SRRCTL that always reads 1: drop enable.
-pub const DROP_EN: u32 = 0x1000_0000;
+pub const DROP_EN: u32 = 28;
+/// The lowest bit of SRRCTL's descriptor type, bits 27:25.
+pub const DESCTYPE: u32 = 25;
+/// The descriptor type of advanced descriptors with one buffer.
+pub const ADVANCED: u32 = 1;
 /// The bits of SRRCTL that a write keeps: buffer size and descriptor type.
 pub const SRRCTL_KEPT: u32 = 0x0E00_001F;
 /// The bits of VTIVAR that a write keeps: of each byte the vector, and whether it is valid.

@@ -2,8 +2,8 @@
 ghost use Rattle.std.specs.Prelude.{◌≡◌, ℕ, ◌+◌, ◌≤◌, ◌<◌, ◌^◌, ◌%◌, length, slice_range, replicate, IfOk};
 ghost use Rattle.guest_memory.specs.Memory.{overwrite};
 ghost use Rattle.rings.specs.Ring.{ring_written};
-ghost use Rattle.tx_desc.specs.Lent.{told, lent_after};
-ghost use Rattle.vf_unit.specs.Function.{State, initial, receive_of, transmit_of, with_receive, with_transmit, with_service, service, served, delivered};
+ghost use Rattle.tx_desc.specs.Lent.{fetched_in, lent_after};
+ghost use Rattle.vf_unit.specs.Function.{State, initial, receive_of, transmit_of, with_receive, with_transmit, with_fetching, fetched_from, after_fetching, delivered};
 ghost use Rattle.vf_unit.specs.Access.{word, after_read, buffers_written, receive_switched, transmit_switched, register_written, word_at_offset, after_read_at, written_at};
 
 use crate::offsets::{DROP_EN, LINK_UP, RST, VTIVAR_KEPT, VTIVAR_MISC_KEPT};
@@ -17,6 +17,9 @@ use std::alloc::{AllocError, Global};
 use std::marker::Model;
 use tx_desc::{Progress, Served, fetch_within};
 use wire_frame::{FrameBuf, FrameLimit, PortVlan, has_bit};
+
+/// What SRRCTL always reads, beside what is kept of it.
+const DROPS: u32 = 1 << DROP_EN;
 
 /// What a service gave: what came of it, and the messages that it issued.
 #[derive(Clone, Copy, Debug, PartialEq, Eq)]
@@ -50,9 +53,33 @@ impl<M: GuestMem> Model for OpenVf<M> {
 
     ghost Value = { State };
 
-    ghost view = { λ f. record { memory = M.bytes f.memory; receive_0 = f.receive_0; receive_1 = f.receive_1; transmit_0 = f.transmit_0; transmit_1 = f.transmit_1; causes = f.causes; queue_vectors = f.queue_vectors; other_vector = f.other_vector; frames_received = f.frames_received; frames_sent = f.frames_sent } };
+    ghost view = { λ f. record {
+      memory = M.bytes f.memory;
+      receive_0 = f.receive_0;
+      receive_1 = f.receive_1;
+      transmit_0 = f.transmit_0;
+      transmit_1 = f.transmit_1;
+      causes = f.causes;
+      queue_vectors = f.queue_vectors;
+      other_vector = f.other_vector;
+      frames_received = f.frames_received;
+      frames_sent = f.frames_sent;
+    } };
 
-    ghost invariant = { λ f. (f.memory_size ≡ length (M.bytes f.memory)) × IsTied (record { memory = M.bytes f.memory; receive_0 = f.receive_0; receive_1 = f.receive_1; transmit_0 = f.transmit_0; transmit_1 = f.transmit_1; causes = f.causes; queue_vectors = f.queue_vectors; other_vector = f.other_vector; frames_received = f.frames_received; frames_sent = f.frames_sent }) };
+    ghost invariant = { λ f. (f.memory_size ≡ length (M.bytes f.memory))
+        × IsTied
+        (record {
+          memory = M.bytes f.memory;
+          receive_0 = f.receive_0;
+          receive_1 = f.receive_1;
+          transmit_0 = f.transmit_0;
+          transmit_1 = f.transmit_1;
+          causes = f.causes;
+          queue_vectors = f.queue_vectors;
+          other_vector = f.other_vector;
+          frames_received = f.frames_received;
+          frames_sent = f.frames_sent;
+        }) };
 }
 
 impl<M: GuestMem> OpenVf<M> {
@@ -138,8 +165,8 @@ impl<M: GuestMem> OpenVf<M> {
             Register::OtherVector => self.other_vector,
             Register::Receive(Queue::Q0, register) => self.receive_0.ring.read(register),
             Register::Receive(Queue::Q1, register) => self.receive_1.ring.read(register),
-            Register::ReceiveBuffers(Queue::Q0) => self.receive_0.buffers | DROP_EN,
-            Register::ReceiveBuffers(Queue::Q1) => self.receive_1.buffers | DROP_EN,
+            Register::ReceiveBuffers(Queue::Q0) => self.receive_0.buffers | DROPS,
+            Register::ReceiveBuffers(Queue::Q1) => self.receive_1.buffers | DROPS,
             Register::ReceiveControl(Queue::Q0) => self.receive_0.read_control(),
             Register::ReceiveControl(Queue::Q1) => self.receive_1.read_control(),
             Register::Transmit(Queue::Q0, register) => self.transmit_0.ring.read(register),
@@ -186,7 +213,13 @@ impl<M: GuestMem> OpenVf<M> {
 
     // Writes a register of a receive ring.
     fn write_receive(&mut self, queue: Queue, register: RingRegister, x: u32)
-        ensures state { self.new ≡ with_receive self.old queue (record (receive_of self.old queue) { ring = ring_written (receive_of self.old queue).ring register x }) }
+        ensures state { self.new
+            ≡ with_receive self.old queue
+            (record
+            (receive_of self.old queue) {
+              ring = ring_written
+                  (receive_of self.old queue).ring register x;
+            }) }
         ensures size { length self.new.memory ≡ length self.old.memory }
     {
         match queue {
@@ -197,7 +230,8 @@ impl<M: GuestMem> OpenVf<M> {
 
     // Writes SRRCTL.
     fn write_receive_buffers(&mut self, queue: Queue, x: u32)
-        ensures state { self.new ≡ with_receive self.old queue (buffers_written (receive_of self.old queue) x) }
+        ensures state { self.new
+            ≡ with_receive self.old queue (buffers_written (receive_of self.old queue) x) }
         ensures size { length self.new.memory ≡ length self.old.memory }
     {
         match queue {
@@ -208,7 +242,9 @@ impl<M: GuestMem> OpenVf<M> {
 
     // Writes RXDCTL.
     fn write_receive_control(&mut self, queue: Queue, x: u32)
-        ensures state { self.new ≡ with_receive self.old queue (receive_switched (length self.old.memory) (receive_of self.old queue) x) }
+        ensures state { self.new
+            ≡ with_receive self.old queue
+            (receive_switched (length self.old.memory) (receive_of self.old queue) x) }
         ensures size { length self.new.memory ≡ length self.old.memory }
     {
         let memory_size = self.memory_size;
@@ -220,7 +256,13 @@ impl<M: GuestMem> OpenVf<M> {
 
     // Writes a register of a transmit ring.
     fn write_transmit(&mut self, queue: Queue, register: RingRegister, x: u32)
-        ensures state { self.new ≡ with_transmit self.old queue (record (transmit_of self.old queue) { ring = ring_written (transmit_of self.old queue).ring register x }) }
+        ensures state { self.new
+            ≡ with_transmit self.old queue
+            (record
+            (transmit_of self.old queue) {
+              ring = ring_written
+                  (transmit_of self.old queue).ring register x;
+            }) }
         ensures size { length self.new.memory ≡ length self.old.memory }
     {
         match queue {
@@ -231,7 +273,9 @@ impl<M: GuestMem> OpenVf<M> {
 
     // Writes TXDCTL.
     fn write_transmit_control(&mut self, queue: Queue, x: u32)
-        ensures state { self.new ≡ with_transmit self.old queue (transmit_switched (length self.old.memory) (transmit_of self.old queue) x) }
+        ensures state { self.new
+            ≡ with_transmit self.old queue
+            (transmit_switched (length self.old.memory) (transmit_of self.old queue) x) }
         ensures size { length self.new.memory ≡ length self.old.memory }
     {
         let memory_size = self.memory_size;
@@ -271,7 +315,7 @@ impl<M: GuestMem> OpenVf<M> {
 
     /// Takes the descriptor at the head of a transmit queue. A frame that ends with it is left in `frame`, which else stays
     /// as it was.
-    #[tactic(auto, unfolding(crate::specs::Function::served))]
+    #[tactic(auto, unfolding(crate::specs::Function::after_fetching))]
     pub fn serve(
         &mut self,
         queue: Queue,
@@ -279,10 +323,12 @@ impl<M: GuestMem> OpenVf<M> {
         rule: PortVlan,
         limit: FrameLimit,
     ) -> Service
-        ensures state { self.new ≡ (served limit rule self.old queue).state }
-        ensures messages { result.messages ≡ (served limit rule self.old queue).messages }
-        ensures outcome { told result.outcome frame.new ≡ (service limit rule self.old queue).outcome }
-        ensures frame { frame.new ≡ lent_after (service limit rule self.old queue).outcome frame.old }
+        ensures state { self.new ≡ (after_fetching limit rule self.old queue).state }
+        ensures messages { result.messages ≡ (after_fetching limit rule self.old queue).messages }
+        ensures outcome { fetched_in result.outcome frame.new
+            ≡ (fetched_from limit rule self.old queue).outcome }
+        ensures frame { frame.new
+            ≡ lent_after (fetched_from limit rule self.old queue).outcome frame.old }
         ensures below { result.messages < 8 }
         ensures size { length self.new.memory ≡ length self.old.memory }
     {
@@ -310,10 +356,12 @@ impl<M: GuestMem> OpenVf<M> {
         rule: PortVlan,
         limit: FrameLimit,
     ) -> Served
-        ensures state { self.new ≡ with_service self.old queue (service limit rule self.old queue) }
-        ensures reported { result.reported ≡ (service limit rule self.old queue).reported }
-        ensures outcome { told result.outcome frame.new ≡ (service limit rule self.old queue).outcome }
-        ensures frame { frame.new ≡ lent_after (service limit rule self.old queue).outcome frame.old }
+        ensures state { self.new ≡ with_fetching self.old queue (fetched_from limit rule self.old queue) }
+        ensures reported { result.reported ≡ (fetched_from limit rule self.old queue).reported }
+        ensures outcome { fetched_in result.outcome frame.new
+            ≡ (fetched_from limit rule self.old queue).outcome }
+        ensures frame { frame.new
+            ≡ lent_after (fetched_from limit rule self.old queue).outcome frame.old }
         ensures size { length self.new.memory ≡ length self.old.memory }
     {
         match queue {
@@ -340,7 +388,8 @@ impl<M: GuestMem> OpenVf<M> {
 
     /// Counts one more frame sent, modulo 2^32.
     pub fn sent(&mut self)
-        ensures state { self.new ≡ record self.old { frames_sent = (self.old.frames_sent + 1) % 2 ^ 32 } }
+        ensures state { self.new
+            ≡ record self.old { frames_sent = (self.old.frames_sent + 1) % 2 ^ 32 } }
         ensures size { length self.new.memory ≡ length self.old.memory }
     {
         self.frames_sent = self.frames_sent.wrapping_add(1);
@@ -365,7 +414,8 @@ impl<M: GuestMem> OpenVf<M> {
     /// Writes bytes of the memory.
     pub fn mem_write(&mut self, at: u64, source: &[u8])
         requires { at + length source.now ≤ length self.old.memory }
-        ensures state { self.new ≡ record self.old { memory = overwrite at source.now self.old.memory } }
+        ensures state { self.new
+            ≡ record self.old { memory = overwrite at source.now self.old.memory } }
         ensures size { length self.new.memory ≡ length self.old.memory }
     {
         write_bytes(&mut self.memory, at, source);

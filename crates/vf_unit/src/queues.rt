@@ -1,21 +1,22 @@
 //! A receive and a transmit queue, as their registers see them.
 ghost use Rattle.std.specs.Prelude.{◌≡◌, ℕ, ◌+◌, ◌^◌, IfOk, if◌then◌else◌};
 ghost use Rattle.rings.specs.Ring.{LiesInside, ring_written};
+ghost use Rattle.vf_unit.specs.declared.offsets.TheConstants.{VME};
 ghost use Rattle.vf_unit.specs.Function.{initial_receive, initial_transmit, IsReceiving};
 ghost use Rattle.vf_unit.specs.Access.{enable_word, buffers_written, receive_switched, transmit_switched};
 
-use crate::offsets::{ENABLE, SRRCTL_KEPT, VME};
+use crate::offsets::{ADVANCED, DESCTYPE, ENABLE, SRRCTL_KEPT, VME};
 use rings::{Ring, RingRegister};
 use std::alloc::{AllocError, Global};
 use tx_desc::Pending;
 use wire_frame::has_bit;
 
 /// What RXDCTL and TXDCTL read where the queue is on.
-const ENABLED: u32 = 1 << 25;
+const ENABLED: u32 = 1 << ENABLE;
 /// What RXDCTL reads where tags are stripped.
-const STRIPPING: u32 = 1 << 30;
+const STRIPPING: u32 = 1 << VME;
 /// SRRCTL divided by this is the descriptor type.
-const TYPE: u32 = 1 << 25;
+const TYPE: u32 = 1 << DESCTYPE;
 
 /// A receive queue.
 #[derive(Drop)]
@@ -60,7 +61,7 @@ impl ReceiveQueue {
 
     /// What RXDCTL reads.
     pub fn read_control(&self) -> u32
-        ensures { result ≡ enable_word self.now.ring + (if self.now.strips_tag then 2 ^ 30 else 0) }
+        ensures { result ≡ enable_word self.now.ring + (if self.now.strips_tag then 2 ^ VME else 0) }
     {
         let on = if self.ring.is_enabled() { ENABLED } else { 0 };
         let strips = if self.strips_tag { STRIPPING } else { 0 };
@@ -69,7 +70,8 @@ impl ReceiveQueue {
 
     /// Writes a register of the ring.
     pub fn write_ring(&mut self, register: RingRegister, x: u32)
-        ensures value { self.new ≡ record self.old { ring = ring_written self.old.ring register x } }
+        ensures value { self.new
+            ≡ record self.old { ring = ring_written self.old.ring register x } }
         ensures kept { (n : ℕ) → IsReceiving n self.old → IsReceiving n self.new }
     {
         self.ring.write(register, x);
@@ -92,7 +94,7 @@ impl ReceiveQueue {
         ensures kept { IsReceiving memory_size self.old → IsReceiving memory_size self.new }
     {
         let size = self.buffers % 32;
-        let is_advanced = self.buffers / TYPE == 1;
+        let is_advanced = self.buffers / TYPE == ADVANCED;
         let may = is_advanced && size >= 1 && size <= 16;
         self.ring
             .switch(has_bit(u64::from(x), ENABLE), may, memory_size);
@@ -130,7 +132,8 @@ impl TransmitQueue {
     /// Writes TXDCTL, of a function with a memory of `memory_size` bytes. A queue that goes off loses its pending frame.
     pub fn write_control(&mut self, x: u32, memory_size: u64)
         ensures value { self.new ≡ transmit_switched memory_size self.old x }
-        ensures inside { LiesInside memory_size self.old.ring → LiesInside memory_size self.new.ring }
+        ensures inside { LiesInside memory_size self.old.ring
+            → LiesInside memory_size self.new.ring }
     {
         let on = has_bit(u64::from(x), ENABLE);
         self.ring.switch(on, true, memory_size);

@@ -1,7 +1,7 @@
 //! A virtual function, closed or open.
 ghost use Rattle.std.specs.Prelude.{◌≡◌, ℕ, ◌<◌, length, Some, None, IfOk, IfSome, if◌then◌else◌};
 ghost use Rattle.std.specs.Option.{option_map};
-ghost use Rattle.tx_desc.specs.Lent.{told};
+ghost use Rattle.tx_desc.specs.Lent.{fetched_in};
 ghost use Rattle.vf_unit.specs.Unit.{Function, Closed, Open, size_of, is_open, opened, ended, reset, read_of, after_read_of, written, given, serviced, service_outcome, lent_to, one_more_sent, has_range, bytes_at, memory_written};
 
 use crate::open::{OpenVf, Service};
@@ -99,7 +99,8 @@ impl<M: GuestMem> VfUnit<M> {
     /// Writes the register at an offset; the messages that this issues. A write to an offset outside the map is ignored.
     pub fn reg_write(&mut self, offset: u32, x: u32) -> Option<u8>
         ensures function { self.new ≡ (written self.old offset x).function }
-        ensures messages { result ≡ (if is_open self.old then Some (written self.old offset x).messages else None) }
+        ensures messages { result
+            ≡ (if is_open self.old then Some (written self.old offset x).messages else None) }
         ensures below { IfSome result (λ messages. messages < 8) }
         ensures size { size_of self.new ≡ size_of self.old }
     {
@@ -135,9 +136,12 @@ impl<M: GuestMem> VfUnit<M> {
         limit: FrameLimit,
     ) -> Option<Service>
         ensures function { self.new ≡ (serviced limit rule self.old queue).function }
-        ensures outcome { option_map (λ s. told s.outcome frame.new) result ≡ service_outcome limit rule self.old queue }
+        ensures outcome { option_map (λ s. fetched_in s.outcome frame.new) result
+            ≡ service_outcome limit rule self.old queue }
         ensures frame { frame.new ≡ lent_to (service_outcome limit rule self.old queue) frame.old }
-        ensures messages { option_map (λ s. s.messages) result ≡ (if is_open self.old then Some (serviced limit rule self.old queue).messages else None) }
+        ensures messages { option_map (λ s. s.messages) result
+            ≡ (if is_open self.old then Some (serviced limit rule self.old queue).messages
+            else None) }
         ensures below { IfSome result (λ s. s.messages < 8) }
         ensures size { size_of self.new ≡ size_of self.old }
     {

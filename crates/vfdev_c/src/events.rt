@@ -20,7 +20,8 @@ pub const POOLS: usize = 64;
 pub extern "C" fn vfdev_open(alloc: Global, handle: &mut Vfdev, function: u8) -> VfdevReply
     ensures held { handle.new.owner.held ≡ after handle.old.owner.held (Ok (Event.Open function)) }
     ensures reply { result ≡ reply_to handle.old.owner.held (Ok (Event.Open function)) }
-    ensures isolated { Isolated handle.old.owner.held (Ok (Event.Open function)) handle.new.owner.held }
+    ensures isolated { Isolated handle.old.owner.held
+        (Ok (Event.Open function)) handle.new.owner.held }
 {
     handle.give(alloc, Request::Open(function)).0
 }
@@ -30,7 +31,8 @@ pub extern "C" fn vfdev_open(alloc: Global, handle: &mut Vfdev, function: u8) ->
 pub extern "C" fn vfdev_end(alloc: Global, handle: &mut Vfdev, function: u8) -> VfdevReply
     ensures held { handle.new.owner.held ≡ after handle.old.owner.held (Ok (Event.End function)) }
     ensures reply { result ≡ reply_to handle.old.owner.held (Ok (Event.End function)) }
-    ensures isolated { Isolated handle.old.owner.held (Ok (Event.End function)) handle.new.owner.held }
+    ensures isolated { Isolated handle.old.owner.held
+        (Ok (Event.End function)) handle.new.owner.held }
 {
     handle.give(alloc, Request::End(function)).0
 }
@@ -40,7 +42,8 @@ pub extern "C" fn vfdev_end(alloc: Global, handle: &mut Vfdev, function: u8) -> 
 pub extern "C" fn vfdev_flr(alloc: Global, handle: &mut Vfdev, function: u8) -> VfdevReply
     ensures held { handle.new.owner.held ≡ after handle.old.owner.held (Ok (Event.Flr function)) }
     ensures reply { result ≡ reply_to handle.old.owner.held (Ok (Event.Flr function)) }
-    ensures isolated { Isolated handle.old.owner.held (Ok (Event.Flr function)) handle.new.owner.held }
+    ensures isolated { Isolated handle.old.owner.held
+        (Ok (Event.Flr function)) handle.new.owner.held }
 {
     handle.give(alloc, Request::Flr(function)).0
 }
@@ -53,9 +56,11 @@ pub extern "C" fn vfdev_vf_read(
     function: u8,
     offset: u32,
 ) -> VfdevReply
-    ensures held { handle.new.owner.held ≡ after handle.old.owner.held (Ok (Event.VfRead function offset)) }
+    ensures held { handle.new.owner.held
+        ≡ after handle.old.owner.held (Ok (Event.VfRead function offset)) }
     ensures reply { result ≡ reply_to handle.old.owner.held (Ok (Event.VfRead function offset)) }
-    ensures isolated { Isolated handle.old.owner.held (Ok (Event.VfRead function offset)) handle.new.owner.held }
+    ensures isolated { Isolated handle.old.owner.held
+        (Ok (Event.VfRead function offset)) handle.new.owner.held }
 {
     handle.give(alloc, Request::VfRead(function, offset)).0
 }
@@ -71,10 +76,17 @@ pub extern "C" fn vfdev_vf_write(
     value: u32,
     messages: &mut [u8],
 ) -> VfdevReply
-    ensures held { handle.new.owner.held ≡ after handle.old.owner.held (where_room messages.old (Ok (Event.VfWrite function offset value))) }
-    ensures reply { result ≡ reply_to handle.old.owner.held (where_room messages.old (Ok (Event.VfWrite function offset value))) }
-    ensures messages { messages.new ≡ messages_in (raised_by handle.old.owner.held (Ok (Event.VfWrite function offset value))) messages.old }
-    ensures isolated { Isolated handle.old.owner.held (where_room messages.old (Ok (Event.VfWrite function offset value))) handle.new.owner.held }
+    ensures held { handle.new.owner.held
+        ≡ after handle.old.owner.held
+        (where_room messages.old (Ok (Event.VfWrite function offset value))) }
+    ensures reply { result
+        ≡ reply_to handle.old.owner.held
+        (where_room messages.old (Ok (Event.VfWrite function offset value))) }
+    ensures messages { messages.new
+        ≡ messages_in
+        (raised_by handle.old.owner.held (Ok (Event.VfWrite function offset value))) messages.old }
+    ensures isolated { Isolated handle.old.owner.held
+        (where_room messages.old (Ok (Event.VfWrite function offset value))) handle.new.owner.held }
 {
     if messages.len() < POOLS {
         return VfdevReply::no_room();
@@ -93,10 +105,14 @@ pub extern "C" fn vfdev_mem_read(
     at: u64,
     out: &mut [u8],
 ) -> VfdevReply
-    ensures held { handle.new.owner.held ≡ after handle.old.owner.held (Ok (Event.MemRead function at (length out.old))) }
-    ensures reply { result ≡ reply_to handle.old.owner.held (Ok (Event.MemRead function at (length out.old))) }
-    ensures bytes { out.new ≡ bytes_in handle.old.owner.held (Event.MemRead function at (length out.old)) out.old }
-    ensures isolated { Isolated handle.old.owner.held (Ok (Event.MemRead function at (length out.old))) handle.new.owner.held }
+    ensures held { handle.new.owner.held
+        ≡ after handle.old.owner.held (Ok (Event.MemRead function at (length out.old))) }
+    ensures reply { result
+        ≡ reply_to handle.old.owner.held (Ok (Event.MemRead function at (length out.old))) }
+    ensures bytes { out.new
+        ≡ bytes_in handle.old.owner.held (Event.MemRead function at (length out.old)) out.old }
+    ensures isolated { Isolated handle.old.owner.held
+        (Ok (Event.MemRead function at (length out.old))) handle.new.owner.held }
 {
     handle.mem_read(alloc, function, at, out)
 }
@@ -110,9 +126,11 @@ pub extern "C" fn vfdev_mem_write(
     at: u64,
     bytes: &[u8],
 ) -> VfdevReply
-    ensures held { handle.new.owner.held ≡ after handle.old.owner.held (write_asked function at bytes.now) }
+    ensures held { handle.new.owner.held
+        ≡ after handle.old.owner.held (write_asked function at bytes.now) }
     ensures reply { result ≡ reply_to handle.old.owner.held (write_asked function at bytes.now) }
-    ensures isolated { Isolated handle.old.owner.held (write_asked function at bytes.now) handle.new.owner.held }
+    ensures isolated { Isolated handle.old.owner.held
+        (write_asked function at bytes.now) handle.new.owner.held }
 {
     match MemSlice::new(bytes) {
         Ok(written) => handle
@@ -127,7 +145,8 @@ pub extern "C" fn vfdev_mem_write(
 pub extern "C" fn vfdev_pf_read(alloc: Global, handle: &mut Vfdev, offset: u32) -> VfdevReply
     ensures held { handle.new.owner.held ≡ after handle.old.owner.held (Ok (Event.PfRead offset)) }
     ensures reply { result ≡ reply_to handle.old.owner.held (Ok (Event.PfRead offset)) }
-    ensures isolated { Isolated handle.old.owner.held (Ok (Event.PfRead offset)) handle.new.owner.held }
+    ensures isolated { Isolated handle.old.owner.held
+        (Ok (Event.PfRead offset)) handle.new.owner.held }
 {
     handle.give(alloc, Request::PfRead(offset)).0
 }
@@ -140,9 +159,11 @@ pub extern "C" fn vfdev_pf_write(
     offset: u32,
     value: u32,
 ) -> VfdevReply
-    ensures held { handle.new.owner.held ≡ after handle.old.owner.held (Ok (Event.PfWrite offset value)) }
+    ensures held { handle.new.owner.held
+        ≡ after handle.old.owner.held (Ok (Event.PfWrite offset value)) }
     ensures reply { result ≡ reply_to handle.old.owner.held (Ok (Event.PfWrite offset value)) }
-    ensures isolated { Isolated handle.old.owner.held (Ok (Event.PfWrite offset value)) handle.new.owner.held }
+    ensures isolated { Isolated handle.old.owner.held
+        (Ok (Event.PfWrite offset value)) handle.new.owner.held }
 {
     handle.give(alloc, Request::PfWrite(offset, value)).0
 }
@@ -166,10 +187,14 @@ pub extern "C" fn vfdev_wire(
     bytes: &[u8],
     messages: &mut [u8],
 ) -> VfdevReply
-    ensures held { handle.new.owner.held ≡ after handle.old.owner.held (where_room messages.old (wire_asked bytes.now)) }
-    ensures reply { result ≡ reply_to handle.old.owner.held (where_room messages.old (wire_asked bytes.now)) }
-    ensures messages { messages.new ≡ messages_in (raised_by handle.old.owner.held (wire_asked bytes.now)) messages.old }
-    ensures isolated { Isolated handle.old.owner.held (where_room messages.old (wire_asked bytes.now)) handle.new.owner.held }
+    ensures held { handle.new.owner.held
+        ≡ after handle.old.owner.held (where_room messages.old (wire_asked bytes.now)) }
+    ensures reply { result
+        ≡ reply_to handle.old.owner.held (where_room messages.old (wire_asked bytes.now)) }
+    ensures messages { messages.new
+        ≡ messages_in (raised_by handle.old.owner.held (wire_asked bytes.now)) messages.old }
+    ensures isolated { Isolated handle.old.owner.held
+        (where_room messages.old (wire_asked bytes.now)) handle.new.owner.held }
 {
     if messages.len() < POOLS {
         return VfdevReply::no_room();

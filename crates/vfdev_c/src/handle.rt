@@ -42,7 +42,8 @@ impl Vfdev {
     // Takes out what it leads to.
     #[inline]
     pub(crate) fn take(&mut self, alloc: Global) -> Option<Box<Stage>>
-        ensures value { MatchOption result (self.old.owner.held ≡ None) (λ b. self.old.owner.held ≡ Some b.value) }
+        ensures value { MatchOption result (self.old.owner.held ≡ None)
+            (λ b. self.old.owner.held ≡ Some b.value) }
         ensures left { self.new.owner.held ≡ None }
     {
         let Vfdev { live, owner } = replace(self, Vfdev::none());
@@ -68,10 +69,12 @@ impl Vfdev {
     #[inline(always)]
     pub(crate) fn give(&mut self, alloc: Global, request: Request<'_>) -> (VfdevReply, Messages)
         requires { kept_as (event_of request) ≡ event_of request }
-        ensures held { self.new.owner.held ≡ after self.old.owner.held (Ok (event_of request.entry)) }
+        ensures held { self.new.owner.held
+            ≡ after self.old.owner.held (Ok (event_of request.entry)) }
         ensures reply { result.0 ≡ reply_to self.old.owner.held (Ok (event_of request.entry)) }
         ensures messages { result.1 ≡ raised_by self.old.owner.held (Ok (event_of request.entry)) }
-        ensures isolated { Isolated self.old.owner.held (Ok (event_of request.entry)) self.new.owner.held }
+        ensures isolated { Isolated self.old.owner.held
+            (Ok (event_of request.entry)) self.new.owner.held }
     {
         let Some(mut stage) = self.take(alloc) else {
             return (VfdevReply::no_device(), Messages::none());
@@ -96,7 +99,8 @@ impl Vfdev {
         ensures held { self.new.owner.held ≡ after self.old.owner.held (Ok (Event.Wire bytes.now)) }
         ensures reply { result.0 ≡ reply_to self.old.owner.held (Ok (Event.Wire bytes.now)) }
         ensures messages { result.1 ≡ raised_by self.old.owner.held (Ok (Event.Wire bytes.now)) }
-        ensures isolated { Isolated self.old.owner.held (Ok (Event.Wire bytes.now)) self.new.owner.held }
+        ensures isolated { Isolated self.old.owner.held
+            (Ok (Event.Wire bytes.now)) self.new.owner.held }
     {
         let Some(mut stage) = self.take(alloc) else {
             return (VfdevReply::no_device(), Messages::none());
@@ -122,10 +126,14 @@ impl Vfdev {
         at: u64,
         out: &mut [u8],
     ) -> VfdevReply
-        ensures held { self.new.owner.held ≡ after self.old.owner.held (Ok (Event.MemRead function at (length out.old))) }
-        ensures reply { result ≡ reply_to self.old.owner.held (Ok (Event.MemRead function at (length out.old))) }
-        ensures bytes { out.new ≡ bytes_in self.old.owner.held (Event.MemRead function at (length out.old)) out.old }
-        ensures isolated { Isolated self.old.owner.held (Ok (Event.MemRead function at (length out.old))) self.new.owner.held }
+        ensures held { self.new.owner.held
+            ≡ after self.old.owner.held (Ok (Event.MemRead function at (length out.old))) }
+        ensures reply { result
+            ≡ reply_to self.old.owner.held (Ok (Event.MemRead function at (length out.old))) }
+        ensures bytes { out.new
+            ≡ bytes_in self.old.owner.held (Event.MemRead function at (length out.old)) out.old }
+        ensures isolated { Isolated self.old.owner.held
+            (Ok (Event.MemRead function at (length out.old))) self.new.owner.held }
     {
         let Some(mut stage) = self.take(alloc) else {
             return VfdevReply::no_device();
@@ -150,12 +158,17 @@ impl Vfdev {
         left: &mut usize,
     ) -> (VfdevReply, Messages)
         requires { 9018 ≤ length out.old }
-        ensures held { self.new.owner.held ≡ after self.old.owner.held (Ok (Event.Serve function queue)) }
+        ensures held { self.new.owner.held
+            ≡ after self.old.owner.held (Ok (Event.Serve function queue)) }
         ensures reply { result.0 ≡ reply_to self.old.owner.held (Ok (Event.Serve function queue)) }
-        ensures messages { result.1 ≡ raised_by self.old.owner.held (Ok (Event.Serve function queue)) }
-        ensures frame { out.new ≡ frame_in (left_of self.old.owner.held (Ok (Event.Serve function queue))) out.old }
-        ensures left { left.new ≡ length_in (left_of self.old.owner.held (Ok (Event.Serve function queue))) }
-        ensures isolated { Isolated self.old.owner.held (Ok (Event.Serve function queue)) self.new.owner.held }
+        ensures messages { result.1
+            ≡ raised_by self.old.owner.held (Ok (Event.Serve function queue)) }
+        ensures frame { out.new
+            ≡ frame_in (left_of self.old.owner.held (Ok (Event.Serve function queue))) out.old }
+        ensures left { left.new
+            ≡ length_in (left_of self.old.owner.held (Ok (Event.Serve function queue))) }
+        ensures isolated { Isolated self.old.owner.held
+            (Ok (Event.Serve function queue)) self.new.owner.held }
     {
         *left = 0;
         let Some(mut stage) = self.take(alloc) else {

@@ -9,5 +9,6 @@ ghost use Rattle.vfdev_c.specs.Handle.{is_silent};
 /// from the wire.
 #[tactic(auto, using(crate::proofs::Silence::silent_step))]
 pub fn silence()
-    ensures { (w : World) (e : Event) → is_silent e ≡ true → (step w e).answer.raised ≡ no_messages }
+    ensures { (w : World) (e : Event) → is_silent e ≡ true
+        → (step w e).answer.raised ≡ no_messages }
 {}

@@ -19,10 +19,15 @@ use wire_frame::{Fault, FrameLimit};
 /// or the number of a fault, or 11 where the handle leads to a device already.
 #[unsafe(no_mangle)]
 pub extern "C" fn vfdev_lend(alloc: Global, handle: &mut Vfdev, block: Block) -> u32
-    ensures lent { handle.new.owner.held ≡ (if nat_eq result 0 then Some (Stage.Lending (lent_in handle.old.owner.held ++ block.bytes ∷ [])) else handle.old.owner.held) }
+    ensures lent { handle.new.owner.held
+        ≡ (if nat_eq result 0
+        then Some (Stage.Lending (lent_in handle.old.owner.held ++ block.bytes ∷ []))
+        else handle.old.owner.held) }
     ensures taken { is_made handle.old.owner.held ≡ true → result ≡ 11 }
-    ensures bad_make { is_made handle.old.owner.held ≡ false → can_lend handle.old.owner.held block.bytes ≡ false → result ≡ 10 }
-    ensures no_memory { is_made handle.old.owner.held ≡ false → can_lend handle.old.owner.held block.bytes ≡ true → nat_eq result 0 ≡ false → result ≡ 9 }
+    ensures bad_make { is_made handle.old.owner.held ≡ false
+        → can_lend handle.old.owner.held block.bytes ≡ false → result ≡ 10 }
+    ensures no_memory { is_made handle.old.owner.held ≡ false
+        → can_lend handle.old.owner.held block.bytes ≡ true → nat_eq result 0 ≡ false → result ≡ 9 }
 {
     let cells = block.into_cells();
     let Some(mut stage) = handle.take(alloc) else {
@@ -39,7 +44,8 @@ pub extern "C" fn vfdev_lend(alloc: Global, handle: &mut Vfdev, block: Block) ->
 // Lends the first block.
 fn lend_first(alloc: Global, handle: &mut Vfdev, cells: &'static mut [u8]) -> u32
     requires { handle.old.owner.held ≡ None }
-    ensures lent { handle.new.owner.held ≡ (if nat_eq result 0 then Some (Stage.Lending (cells.old ∷ [])) else None) }
+    ensures lent { handle.new.owner.held
+        ≡ (if nat_eq result 0 then Some (Stage.Lending (cells.old ∷ [])) else None) }
     ensures bad_make { can_lend None cells.old ≡ false → result ≡ 10 }
     ensures no_memory { can_lend None cells.old ≡ true → nat_eq result 0 ≡ false → result ≡ 9 }
 {
@@ -59,7 +65,8 @@ fn lend_first(alloc: Global, handle: &mut Vfdev, cells: &'static mut [u8]) -> u3
 
 // Lends one more block.
 fn lend_next(blocks: &mut LentBlocks, cells: &'static mut [u8]) -> u32
-    ensures lent { blocks.new ≡ (if nat_eq result 0 then blocks.old ++ cells.old ∷ [] else blocks.old) }
+    ensures lent { blocks.new
+        ≡ (if nat_eq result 0 then blocks.old ++ cells.old ∷ [] else blocks.old) }
     ensures bad_make { can_lend (Some (Stage.Lending blocks.old)) cells.old ≡ false → result ≡ 10 }
     ensures made { can_lend (Some (Stage.Lending blocks.old)) cells.old ≡ true → result ≡ 0 }
 {
@@ -76,13 +83,22 @@ fn lend_next(blocks: &mut LentBlocks, cells: &'static mut [u8]) -> u32
 #[unsafe(no_mangle)]
 #[tactic(auto, using(crate::proofs::HandleLemmas::none_makeable))]
 pub extern "C" fn vfdev_make_lent(alloc: Global, handle: &mut Vfdev, limit: u16) -> u32
-    ensures made { nat_eq result 0 ≡ true → handle.new.owner.held ≡ Some (Stage.Made (fresh limit (map length (lent_in handle.old.owner.held)))) }
+    ensures made { nat_eq result 0 ≡ true
+        → handle.new.owner.held
+        ≡ Some (Stage.Made (fresh limit (map length (lent_in handle.old.owner.held)))) }
     ensures taken { is_made handle.old.owner.held ≡ true → result ≡ 11 }
-    ensures bad_make { is_made handle.old.owner.held ≡ false → (is_frame_limit limit && is_makeable (map length (lent_in handle.old.owner.held))) ≡ false → result ≡ 10 }
-    ensures no_memory { is_made handle.old.owner.held ≡ false → (is_frame_limit limit && is_makeable (map length (lent_in handle.old.owner.held))) ≡ true → nat_eq result 0 ≡ false → result ≡ 9 }
-    ensures refused { is_made handle.old.owner.held ≡ true → handle.new.owner.held ≡ handle.old.owner.held }
-    ensures bad_limit { is_frame_limit limit ≡ false → handle.new.owner.held ≡ handle.old.owner.held }
-    ensures given_back { is_made handle.old.owner.held ≡ false → is_frame_limit limit ≡ true → nat_eq result 0 ≡ false → handle.new.owner.held ≡ None }
+    ensures bad_make { is_made handle.old.owner.held ≡ false
+        → (is_frame_limit limit && is_makeable (map length (lent_in handle.old.owner.held))) ≡ false
+        → result ≡ 10 }
+    ensures no_memory { is_made handle.old.owner.held ≡ false
+        → (is_frame_limit limit && is_makeable (map length (lent_in handle.old.owner.held))) ≡ true
+        → nat_eq result 0 ≡ false → result ≡ 9 }
+    ensures refused { is_made handle.old.owner.held ≡ true
+        → handle.new.owner.held ≡ handle.old.owner.held }
+    ensures bad_limit { is_frame_limit limit ≡ false
+        → handle.new.owner.held ≡ handle.old.owner.held }
+    ensures given_back { is_made handle.old.owner.held ≡ false → is_frame_limit limit ≡ true
+        → nat_eq result 0 ≡ false → handle.new.owner.held ≡ None }
 {
     let Some(stage) = handle.take(alloc) else {
         return u32::from(Fault::BadMake.number());
@@ -115,9 +131,16 @@ pub(crate) fn boxed_over(
     memories: Vec<HostMem<'static>>,
     limit: u16,
 ) -> Result<Box<Stage>, Fault>
-    ensures ok { IfOk result (λ b. b.value ≡ Stage.Made (fresh limit (map (λ m. length (bytes_of m)) memories.entry.items))) }
-    ensures bad_make { (is_frame_limit limit && is_makeable (map (λ m. length (bytes_of m)) memories.entry.items)) ≡ false → result ≡ Err Fault.BadMake }
-    ensures no_memory { IfErr result (λ e. (is_frame_limit limit && is_makeable (map (λ m. length (bytes_of m)) memories.entry.items)) ≡ true → e ≡ Fault.NoMemory) }
+    ensures ok { IfOk result
+        (λ b. b.value
+        ≡ Stage.Made (fresh limit (map (λ m. length (bytes_of m)) memories.entry.items))) }
+    ensures bad_make { (is_frame_limit limit && is_makeable
+        (map (λ m. length (bytes_of m)) memories.entry.items)) ≡ false
+        → result ≡ Err Fault.BadMake }
+    ensures no_memory { IfErr result
+        (λ e.
+        (is_frame_limit limit && is_makeable (map (λ m. length (bytes_of m)) memories.entry.items))
+        ≡ true → e ≡ Fault.NoMemory) }
 {
     let device = match Device::with_limit(alloc, memories, limit) {
         Ok(device) => device,

@@ -28,10 +28,14 @@ pub extern "C" fn vfdev_make(
     size: u64,
     limit: u16,
 ) -> u32
-    ensures made { handle.new.owner.held ≡ (if nat_eq result 0 then Some (Stage.Made (fresh limit (replicate functions size))) else handle.old.owner.held) }
+    ensures made { handle.new.owner.held
+        ≡ (if nat_eq result 0 then Some (Stage.Made (fresh limit (replicate functions size)))
+        else handle.old.owner.held) }
     ensures taken { is_some handle.old.owner.held ≡ true → result ≡ 11 }
-    ensures bad_make { is_some handle.old.owner.held ≡ false → can_make functions size limit ≡ false → result ≡ 10 }
-    ensures no_memory { is_some handle.old.owner.held ≡ false → can_make functions size limit ≡ true → nat_eq result 0 ≡ false → result ≡ 9 }
+    ensures bad_make { is_some handle.old.owner.held ≡ false → can_make functions size limit ≡ false
+        → result ≡ 10 }
+    ensures no_memory { is_some handle.old.owner.held ≡ false → can_make functions size limit ≡ true
+        → nat_eq result 0 ≡ false → result ≡ 9 }
 {
     if handle.live {
         return HELD;
@@ -59,7 +63,8 @@ pub extern "C" fn vfdev_free(alloc: Global, handle: &mut Vfdev)
 fn boxed(alloc: Global, functions: u32, size: u64, limit: u16) -> Result<Box<Stage>, Fault>
     ensures ok { IfOk result (λ b. b.value ≡ Stage.Made (fresh limit (replicate functions size))) }
     ensures bad_make { can_make functions size limit ≡ false → result ≡ Err Fault.BadMake }
-    ensures no_memory { IfErr result (λ e. can_make functions size limit ≡ true → e ≡ Fault.NoMemory) }
+    ensures no_memory { IfErr result
+        (λ e. can_make functions size limit ≡ true → e ≡ Fault.NoMemory) }
 {
     if !can_make(functions, size, limit) {
         return Err(Fault::BadMake);
@@ -85,7 +90,8 @@ pub(crate) fn memories(
     size: u64,
 ) -> Result<Vec<HostMem<'static>>, Fault>
     requires { is_memory_size size ≡ true }
-    ensures sizes { IfOk result (λ all. map (λ m. length (bytes_of m)) all.items ≡ replicate functions size) }
+    ensures sizes { IfOk result
+        (λ all. map (λ m. length (bytes_of m)) all.items ≡ replicate functions size) }
     ensures no_memory { IfErr result (λ e. e ≡ Fault.NoMemory) }
 {
     let mut all = Vec::new(alloc);

@@ -25,12 +25,25 @@ pub extern "C" fn vfdev_serve(
     left: &mut usize,
     messages: &mut [u8],
 ) -> VfdevReply
-    ensures held { handle.new.owner.held ≡ after handle.old.owner.held (where_room messages.old (serve_asked function queue out.old)) }
-    ensures reply { result ≡ reply_to handle.old.owner.held (where_room messages.old (serve_asked function queue out.old)) }
-    ensures messages { messages.new ≡ messages_in (raised_by handle.old.owner.held (serve_asked function queue out.old)) messages.old }
-    ensures frame { out.new ≡ frame_in (left_of handle.old.owner.held (where_room messages.old (serve_asked function queue out.old))) out.old }
-    ensures left { left.new ≡ length_in (left_of handle.old.owner.held (where_room messages.old (serve_asked function queue out.old))) }
-    ensures isolated { Isolated handle.old.owner.held (where_room messages.old (serve_asked function queue out.old)) handle.new.owner.held }
+    ensures held { handle.new.owner.held
+        ≡ after handle.old.owner.held
+        (where_room messages.old (serve_asked function queue out.old)) }
+    ensures reply { result
+        ≡ reply_to handle.old.owner.held
+        (where_room messages.old (serve_asked function queue out.old)) }
+    ensures messages { messages.new
+        ≡ messages_in
+        (raised_by handle.old.owner.held (serve_asked function queue out.old)) messages.old }
+    ensures frame { out.new
+        ≡ frame_in
+        (left_of handle.old.owner.held
+        (where_room messages.old (serve_asked function queue out.old))) out.old }
+    ensures left { left.new
+        ≡ length_in
+        (left_of handle.old.owner.held
+        (where_room messages.old (serve_asked function queue out.old))) }
+    ensures isolated { Isolated handle.old.owner.held
+        (where_room messages.old (serve_asked function queue out.old)) handle.new.owner.held }
 {
     *left = 0;
     if messages.len() < POOLS {

@@ -64,7 +64,8 @@ impl Running {
     /// Takes it through the calls of a history, and tells whether it gave their answers.
     pub fn replays(&mut self, history: &History) -> bool
         ensures world { self.new ≡ world_after self.old (events history.now.entries) }
-        ensures same { IsTrue result ↔ (answers self.old (events history.now.entries) ≡ given history.now.entries) }
+        ensures same { IsTrue result
+            ↔ (answers self.old (events history.now.entries) ≡ given history.now.entries) }
     {
         gives_all(&mut self.device, history)
     }
@@ -81,18 +82,20 @@ impl Running {
         isolates(&self.device);
         // By name: what a request is, is known where this is inlined, and a register is read with no more than the read.
         match request {
-            Request::VfRead(function, offset) => valued(self.device.vf_read(function, offset)),
+            Request::VfRead(function, offset) => value_or_refused(
+                self.device.vf_read(function, offset),
+            ),
             Request::VfWrite(function, offset, value) => issued(
                 self.device.vf_write(function, offset, value),
             ),
-            Request::MemWrite(function, at, written) => done(
+            Request::MemWrite(function, at, written) => done_or_refused(
                 self.device.mem_write(function, at, written),
             ),
-            Request::PfRead(offset) => valued(self.device.pf_read(offset)),
-            Request::PfWrite(offset, value) => done(self.device.pf_write(offset, value)),
-            Request::Open(function) => done(self.device.open(function)),
-            Request::End(function) => done(self.device.end(function)),
-            Request::Flr(function) => done(self.device.flr(function)),
+            Request::PfRead(offset) => value_or_refused(self.device.pf_read(offset)),
+            Request::PfWrite(offset, value) => done_or_refused(self.device.pf_write(offset, value)),
+            Request::Open(function) => done_or_refused(self.device.open(function)),
+            Request::End(function) => done_or_refused(self.device.end(function)),
+            Request::Flr(function) => done_or_refused(self.device.flr(function)),
             _ => self.take_any(request),
         }
     }
@@ -126,10 +129,15 @@ impl Running {
     #[inline]
     #[tactic(auto, using(crate::proofs::HandleLemmas::isolated_at))]
     pub fn mem_read(&self, function: u8, at: u64, out: &mut [u8]) -> VfdevReply
-        ensures world { self.now ≡ (step self.now (Event.MemRead function at (length out.old))).world }
-        ensures reply { result ≡ shown (step self.now (Event.MemRead function at (length out.old))).answer.reply }
-        ensures bytes { out.new ≡ bytes_shown (step self.now (Event.MemRead function at (length out.old))).answer.reply out.old }
-        ensures isolated { IsolatedStep self.now (Event.MemRead function at (length out.old)) self.now }
+        ensures world { self.now
+            ≡ (step self.now (Event.MemRead function at (length out.old))).world }
+        ensures reply { result
+            ≡ shown (step self.now (Event.MemRead function at (length out.old))).answer.reply }
+        ensures bytes { out.new
+            ≡ bytes_shown
+            (step self.now (Event.MemRead function at (length out.old))).answer.reply out.old }
+        ensures isolated { IsolatedStep self.now
+            (Event.MemRead function at (length out.old)) self.now }
     {
         isolates(&self.device);
         match self.device.mem_read(function, at, out) {
@@ -177,7 +185,7 @@ pub(crate) fn isolates(device: &Device<HostMem<'static>>)
 
 // What was done, or refused.
 #[inline]
-fn done(done: Result<(), Fault>) -> (VfdevReply, Messages)
+fn done_or_refused(done: Result<(), Fault>) -> (VfdevReply, Messages)
     ensures reply { result.0 ≡ shown (done_or_refused done) }
     ensures messages { result.1 ≡ no_messages }
 {
@@ -189,7 +197,7 @@ fn done(done: Result<(), Fault>) -> (VfdevReply, Messages)
 
 // A value, or a refusal.
 #[inline]
-fn valued(value: Result<u32, Fault>) -> (VfdevReply, Messages)
+fn value_or_refused(value: Result<u32, Fault>) -> (VfdevReply, Messages)
     ensures reply { result.0 ≡ shown (value_or_refused value) }
     ensures messages { result.1 ≡ no_messages }
 {

@@ -10,8 +10,16 @@ use crate::reply::VfdevReply;
 use crate::service::vfdev_serve;
 use crate::version::vfdev_version;
 use std::alloc::Global;
+use std::fmt::Debug;
+use std::process::Abort;
 
 mod recorded;
+
+// Fails a test where what it got is not what is due. It promises nothing, so a test's next lines are checked without what was
+// compared so far.
+fn assert_equal<T: PartialEq + Debug + Drop>(rt: &impl Abort, got: T, due: T) {
+    assert_eq!(rt; got, due);
+}
 
 // A reply of a kind, without a value.
 fn plain(kind: u32) -> VfdevReply {
@@ -83,22 +91,22 @@ fn set_up(alloc: Global, handle: &mut Vfdev) {
 fn a_handle_is_made_once_and_freed_for_good(rt: HostRuntime) {
     let alloc = rt.alloc();
     let mut handle = Vfdev::none();
-    assert_eq!(rt; vfdev_version(), 1);
-    assert_eq!(rt; vfdev_open(alloc, &mut handle, 0), plain(9));
-    assert_eq!(rt; vfdev_make(alloc, &mut handle, 65, 65536, 1518), 10);
-    assert_eq!(rt; vfdev_make(alloc, &mut handle, 2, 65536, 1517), 10);
-    assert_eq!(rt; vfdev_make_lent(alloc, &mut handle, 1518), 10);
-    assert_eq!(rt; vfdev_make(alloc, &mut handle, 2, 65536, 1518), 0);
-    assert_eq!(rt; vfdev_make(alloc, &mut handle, 2, 65536, 1518), 11);
-    assert_eq!(rt; vfdev_make_lent(alloc, &mut handle, 1518), 11);
-    assert_eq!(rt; vfdev_open(alloc, &mut handle, 0), plain(0));
+    assert_equal(&rt, vfdev_version(), 1);
+    assert_equal(&rt, vfdev_open(alloc, &mut handle, 0), plain(9));
+    assert_equal(&rt, vfdev_make(alloc, &mut handle, 65, 65536, 1518), 10);
+    assert_equal(&rt, vfdev_make(alloc, &mut handle, 2, 65536, 1517), 10);
+    assert_equal(&rt, vfdev_make_lent(alloc, &mut handle, 1518), 10);
+    assert_equal(&rt, vfdev_make(alloc, &mut handle, 2, 65536, 1518), 0);
+    assert_equal(&rt, vfdev_make(alloc, &mut handle, 2, 65536, 1518), 11);
+    assert_equal(&rt, vfdev_make_lent(alloc, &mut handle, 1518), 11);
+    assert_equal(&rt, vfdev_open(alloc, &mut handle, 0), plain(0));
     let mut handle = handle_is_send(handle);
-    assert_eq!(rt; vfdev_open(alloc, &mut handle, 0), refusal(7));
+    assert_equal(&rt, vfdev_open(alloc, &mut handle, 0), refusal(7));
     vfdev_free(alloc, &mut handle);
-    assert_eq!(rt; vfdev_open(alloc, &mut handle, 0), plain(9));
+    assert_equal(&rt, vfdev_open(alloc, &mut handle, 0), plain(9));
     vfdev_free(alloc, &mut handle);
-    assert_eq!(rt; vfdev_make(alloc, &mut handle, 1, 4096, 9018), 0);
-    assert_eq!(rt; vfdev_open(alloc, &mut handle, 1), refusal(1));
+    assert_equal(&rt, vfdev_make(alloc, &mut handle, 1, 4096, 9018), 0);
+    assert_equal(&rt, vfdev_open(alloc, &mut handle, 1), refusal(1));
     vfdev_free(alloc, &mut handle);
 }
 
@@ -110,48 +118,57 @@ fn arguments_are_refused_by_name(rt: HostRuntime) {
     let mut short = [9u8; 63];
     let mut out = [5u8; 128];
     let mut left = 7;
-    assert_eq!(rt; vfdev_make(alloc, &mut handle, 1, 4096, 1518), 0);
-    assert_eq!(rt; vfdev_open(alloc, &mut handle, 0), plain(0));
-    assert_eq!(rt;
+    assert_equal(&rt, vfdev_make(alloc, &mut handle, 1, 4096, 1518), 0);
+    assert_equal(&rt, vfdev_open(alloc, &mut handle, 0), plain(0));
+    assert_equal(
+        &rt,
         vfdev_wire(alloc, &mut handle, &frame(0, 9), &mut short),
-        plain(10)
+        plain(10),
     );
-    assert_eq!(rt; short[0], 9);
-    assert_eq!(rt;
+    assert_equal(&rt, short[0], 9);
+    assert_equal(
+        &rt,
         vfdev_wire(alloc, &mut handle, &frame(0, 9)[..13], &mut messages),
-        refusal(6)
+        refusal(6),
     );
-    assert_eq!(rt; messages[0], 0);
-    assert_eq!(rt;
+    assert_equal(&rt, messages[0], 0);
+    assert_equal(
+        &rt,
         vfdev_vf_write(alloc, &mut handle, 0, 0x1000, 128, &mut short),
-        plain(10)
+        plain(10),
     );
-    assert_eq!(rt;
+    assert_equal(
+        &rt,
         vfdev_vf_read(alloc, &mut handle, 0, 0x1000),
-        VfdevReply { kind: 1, value: 0 }
+        VfdevReply { kind: 1, value: 0 },
     );
-    assert_eq!(rt;
+    assert_equal(
+        &rt,
         vfdev_mem_write(alloc, &mut handle, 0, 0, &[1u8; 2049]),
-        refusal(5)
+        refusal(5),
     );
-    assert_eq!(rt;
+    assert_equal(
+        &rt,
         vfdev_mem_read(alloc, &mut handle, 0, 4000, &mut out),
-        refusal(4)
+        refusal(4),
     );
-    assert_eq!(rt; out[0], 5);
-    assert_eq!(rt;
+    assert_equal(&rt, out[0], 5);
+    assert_equal(
+        &rt,
         vfdev_mem_read(alloc, &mut handle, 0, 0, &mut out),
-        plain(2)
+        plain(2),
     );
-    assert_eq!(rt; out[127], 0);
-    assert_eq!(rt;
+    assert_equal(&rt, out[127], 0);
+    assert_equal(
+        &rt,
         vfdev_serve(alloc, &mut handle, 0, 2, &mut out, &mut left, &mut messages),
-        plain(11)
+        plain(11),
     );
-    assert_eq!(rt; left, 0);
-    assert_eq!(rt;
+    assert_equal(&rt, left, 0);
+    assert_equal(
+        &rt,
         vfdev_serve(alloc, &mut handle, 0, 0, &mut out, &mut left, &mut messages),
-        plain(10)
+        plain(10),
     );
     vfdev_free(alloc, &mut handle);
 }
@@ -163,42 +180,47 @@ fn frames_come_and_leave_with_their_messages(rt: HostRuntime) {
     let mut messages = [0u8; 66];
     let mut out = [0u8; 9018];
     let mut left = 0;
-    assert_eq!(rt; vfdev_make(alloc, &mut handle, 2, 65536, 1518), 0);
+    assert_equal(&rt, vfdev_make(alloc, &mut handle, 2, 65536, 1518), 0);
     set_up(alloc, &mut handle);
     messages[64] = 8;
-    assert_eq!(rt;
+    assert_equal(
+        &rt,
         vfdev_wire(alloc, &mut handle, &frame(0, 9), &mut messages),
-        plain(0)
+        plain(0),
     );
-    assert_eq!(rt; messages[0], 1);
-    assert_eq!(rt; messages[1], 0);
-    assert_eq!(rt; messages[64], 8);
+    assert_equal(&rt, messages[0], 1);
+    assert_equal(&rt, messages[1], 0);
+    assert_equal(&rt, messages[64], 8);
     let mut bytes = [0u8; 12];
-    assert_eq!(rt;
+    assert_equal(
+        &rt,
         vfdev_mem_read(alloc, &mut handle, 0, 0x4000, &mut bytes),
-        plain(2)
+        plain(2),
     );
-    assert_eq!(rt; bytes, [2, 0, 0, 0, 0, 0, 2, 0, 0, 0, 0, 9]);
+    assert_equal(&rt, bytes, [2, 0, 0, 0, 0, 0, 2, 0, 0, 0, 0, 9]);
     // the frame to another station leaves, and the one to function 0 stays
-    assert_eq!(rt;
+    assert_equal(
+        &rt,
         vfdev_serve(alloc, &mut handle, 1, 0, &mut out, &mut left, &mut messages),
-        plain(5)
+        plain(5),
     );
-    assert_eq!(rt; left, 60);
-    assert_eq!(rt; out[5], 0x77);
-    assert_eq!(rt; out[11], 1);
-    assert_eq!(rt; messages[0], 0);
-    assert_eq!(rt;
+    assert_equal(&rt, left, 60);
+    assert_equal(&rt, out[5], 0x77);
+    assert_equal(&rt, out[11], 1);
+    assert_equal(&rt, messages[0], 0);
+    assert_equal(
+        &rt,
         vfdev_serve(alloc, &mut handle, 1, 0, &mut out, &mut left, &mut messages),
-        plain(5)
+        plain(5),
     );
-    assert_eq!(rt; left, 0);
-    assert_eq!(rt; out[5], 0x77);
-    assert_eq!(rt; messages[0], 1);
-    assert_eq!(rt;
+    assert_equal(&rt, left, 0);
+    assert_equal(&rt, out[5], 0x77);
+    assert_equal(&rt, messages[0], 1);
+    assert_equal(
+        &rt,
         vfdev_serve(alloc, &mut handle, 1, 0, &mut out, &mut left, &mut messages),
-        plain(3)
+        plain(3),
     );
-    assert_eq!(rt; messages[0], 0);
+    assert_equal(&rt, messages[0], 0);
     vfdev_free(alloc, &mut handle);
 }

@@ -5,20 +5,21 @@ use Rattle.wire_frame.specs.Bits.{has_bit, has_bit_in, two_words}
 use Rattle.pool_index.specs.Entries.{IsIndexOf}
 use Rattle.pool_index.proofs.EntryLemmas.{SaySame, nothing_held}
 use Rattle.pool_index.proofs.WordLemmas.{one_word_stays, two_words_stay, no_bit_at}
-use Rattle.vlan_table.specs.Vlans.{Vlans, initial_vlans, vlans_after, entries_row, pools_row, vlan_entries}
+use Rattle.vlan_table.specs.declared.registers.TheConstants.{VLVF, VLVFB}
+use Rattle.vlan_table.specs.Vlans.{Vlans, initial_vlans, vlans_after, vlan_entries}
 
 -- no word of another entry than this stands at the offset
 abbrev pub NamesEntry : ℕ → Option ℕ → Type 0
 NamesEntry offset named =
-    (is_in entries_row offset ≡ true → named ≡ Some (place entries_row offset))
-    × (is_in pools_row offset ≡ true → named ≡ Some (place pools_row offset / 2))
+    (is_in VLVF offset ≡ true → named ≡ Some (place VLVF offset))
+    × (is_in VLVFB offset ≡ true → named ≡ Some (place VLVFB offset / 2))
 
 -- an entry that the offset does not name says what it said
 pub entry_stays : (v : Vlans) (offset x : ℕ) (named : Option ℕ) → NamesEntry offset named → (e : ℕ) → named ≢ Some e → SaySame (vlan_entries v) (vlan_entries (vlans_after v offset x)) e
 unfolding vlans_after
 entry_stays v offset x named names e other =
-    let word : slice_index v.entries e ≡ slice_index (words_after entries_row v.entries offset x) e = one_word_stays entries_row v.entries offset x named names.0 e other in
-    let pools : two_words v.pools e ≡ two_words (words_after pools_row v.pools offset x) e = two_words_stay pools_row v.pools offset x named names.1 e other in
+    let word : slice_index v.entries e ≡ slice_index (words_after VLVF v.entries offset x) e = one_word_stays VLVF v.entries offset x named names.0 e other in
+    let pools : two_words v.pools e ≡ two_words (words_after VLVFB v.pools offset x) e = two_words_stay VLVFB v.pools offset x named names.1 e other in
     record {
       valid = ap (λ w. has_bit w 31) word;
       keys = ap (λ w. w % 4096) word;

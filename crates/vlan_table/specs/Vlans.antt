@@ -1,7 +1,7 @@
 -- VLAN entries and the VLAN table: their words by offset, and which pools have an id.
 use Rattle.std.specs.Prelude.{ℕ, ◌%◌, Bool, ◌&&◌, ◌==◌, List, Option, replicate, slice_index}
 use Rattle.std.specs.List.{list_any, range_with_len}
-use Rattle.wire_frame.specs.declared.row.Row.{Row}
+use Rattle.vlan_table.specs.declared.registers.TheConstants.{VLNCTRL, VLNCTRL_KEPT, VFE, VFTA, VLVF, VLVFB, VALID}
 use Rattle.wire_frame.specs.Row.{◌or◌, word_at, words_after, one_at, one_after}
 use Rattle.wire_frame.specs.Bits.{has_bit, has_bit_in, two_words}
 use Rattle.pool_index.specs.Entries.{Entries}
@@ -18,40 +18,28 @@ initial_vlans = record { control = 0; table = replicate 128 0; entries = replica
 
 -- ---- the words by their offsets
 
-abbrev pub control_offset : ℕ
-control_offset = 0x5088
-
-abbrev pub table_row : Row
-table_row = record { first = 0xA000; count = 128; stride = 4; mask = 0xFFFFFFFF }
-
-abbrev pub entries_row : Row
-entries_row = record { first = 0xF100; count = 64; stride = 4; mask = 0x80000FFF }
-
-abbrev pub pools_row : Row
-pools_row = record { first = 0xF200; count = 128; stride = 4; mask = 0xFFFFFFFF }
-
 -- what a read of the offset gives, if it names one of these words
 unfoldable pub vlans_at : Vlans → ℕ → Option ℕ
 vlans_at v offset =
-    one_at control_offset v.control offset
-    or word_at table_row v.table offset
-    or word_at entries_row v.entries offset
-    or word_at pools_row v.pools offset
+    one_at VLNCTRL v.control offset
+    or word_at VFTA v.table offset
+    or word_at VLVF v.entries offset
+    or word_at VLVFB v.pools offset
 
 -- the words after a write of x
 unfoldable pub vlans_after : Vlans → ℕ → ℕ → Vlans
 vlans_after v offset x = record {
-  control = one_after control_offset 0x40000000 v.control offset x;
-  table = words_after table_row v.table offset x;
-  entries = words_after entries_row v.entries offset x;
-  pools = words_after pools_row v.pools offset x;
+  control = one_after VLNCTRL VLNCTRL_KEPT v.control offset x;
+  table = words_after VFTA v.table offset x;
+  entries = words_after VLVF v.entries offset x;
+  pools = words_after VLVFB v.pools offset x;
 }
 
 -- ---- what they say
 
 -- VLANs are filtered
 unfoldable pub is_filtering : Vlans → Bool
-is_filtering v = has_bit v.control 30
+is_filtering v = has_bit v.control VFE
 
 -- the id of entry e
 abbrev pub entry_id : Vlans → ℕ → ℕ
@@ -59,7 +47,7 @@ entry_id v e = slice_index v.entries e % 4096
 
 -- entry e is valid and has the pool's bit
 abbrev pub entry_has_pool : Vlans → ℕ → ℕ → Bool
-entry_has_pool v pool e = has_bit (slice_index v.entries e) 31 && has_bit_in (two_words v.pools e) pool
+entry_has_pool v pool e = has_bit (slice_index v.entries e) VALID && has_bit_in (two_words v.pools e) pool
 
 -- entry e gives the pool the id
 abbrev pub entry_gives : Vlans → ℕ → ℕ → ℕ → Bool
@@ -75,4 +63,4 @@ has_vlan v pool id = has_bit_in v.table id && is_in_entries v pool id
 
 -- the entries as they are kept in an index: by their ids
 abbrev pub vlan_entries : Vlans → Entries
-vlan_entries v = record { is_valid = λ e. has_bit (slice_index v.entries e) 31; key = entry_id v; has_pool = entry_has_pool v }
+vlan_entries v = record { is_valid = λ e. has_bit (slice_index v.entries e) VALID; key = entry_id v; has_pool = entry_has_pool v }

@@ -89,7 +89,9 @@ impl VlanTable {
     #[inline]
     pub fn id_for(&self, pool: PoolId, e: usize) -> Option<Vid>
         requires { e < 64 }
-        ensures { result ≡ (if entry_has_pool self.now pool e && has_bit_in self.now.table (entry_id self.now e) then Some (entry_id self.now e) else None) }
+        ensures { result
+            ≡ (if entry_has_pool self.now pool e && has_bit_in self.now.table (entry_id self.now e)
+            then Some (entry_id self.now e) else None) }
     {
         self.words.id_for(pool, e)
     }

@@ -3,7 +3,8 @@ ghost use Rattle.std.specs.Prelude.{◌≡◌, ℕ, ◌/◌, ◌<◌, ◌==◌, 
 ghost use Rattle.wire_frame.specs.Bits.{has_bit, has_bit_in, two_words};
 ghost use Rattle.wire_frame.specs.Row.{is_in, place};
 ghost use Rattle.pool_index.specs.Entries.{IsAnswer};
-ghost use Rattle.vlan_table.specs.Vlans.{initial_vlans, vlans_at, vlans_after, entries_row, pools_row, is_filtering, entry_id, entry_has_pool, vlan_entries};
+ghost use Rattle.vlan_table.specs.declared.registers.TheConstants.{VLVF, VLVFB};
+ghost use Rattle.vlan_table.specs.Vlans.{initial_vlans, vlans_at, vlans_after, is_filtering, entry_id, entry_has_pool, vlan_entries};
 
 use crate::registers::{VALID, VFE, VFTA, VLNCTRL, VLNCTRL_KEPT, VLVF, VLVFB};
 use std::marker::Model;
@@ -24,7 +25,12 @@ impl Model for Words {
 
     ghost Value = { Vlans };
 
-    ghost view = { λ w. record { control = w.control; table = w.table; entries = w.entries; pools = w.pools } };
+    ghost view = { λ w. record {
+      control = w.control;
+      table = w.table;
+      entries = w.entries;
+      pools = w.pools;
+    } };
 }
 
 /// The words by their offsets.
@@ -112,7 +118,8 @@ impl Words {
     #[inline]
     pub(crate) fn holds(&self, e: usize, id: u64) -> bool
         requires { e < 64 }
-        ensures { result ≡ (has_bit (slice_index self.now.entries e) 31 && (entry_id self.now e == id)) }
+        ensures { result
+            ≡ (has_bit (slice_index self.now.entries e) 31 && (entry_id self.now e == id)) }
     {
         self.is_valid(e) && self.entry_id(e) == id
     }
@@ -131,7 +138,9 @@ impl Words {
     #[inline]
     pub(crate) fn id_for(&self, pool: PoolId, e: usize) -> Option<Vid>
         requires { e < 64 }
-        ensures { result ≡ (if entry_has_pool self.now pool e && has_bit_in self.now.table (entry_id self.now e) then Some (entry_id self.now e) else None) }
+        ensures { result
+            ≡ (if entry_has_pool self.now pool e && has_bit_in self.now.table (entry_id self.now e)
+            then Some (entry_id self.now e) else None) }
     {
         let id = Vid::of_tag((self.entries[e] % 4096) as u16);
         if self.is_valid(e)
@@ -165,8 +174,8 @@ impl Words {
 /// of VLVFB in 8.
 #[inline]
 pub(crate) fn entry_of(offset: u32) -> Option<usize>
-    ensures entries { is_in entries_row offset ≡ true → result ≡ Some (place entries_row offset) }
-    ensures pools { is_in pools_row offset ≡ true → result ≡ Some (place pools_row offset / 2) }
+    ensures entries { is_in VLVF offset ≡ true → result ≡ Some (place VLVF offset) }
+    ensures pools { is_in VLVFB offset ≡ true → result ≡ Some (place VLVFB offset / 2) }
     ensures below { IfSome result (λ e. e < 64) }
 {
     if offset < VLVF.first || offset >= VLVFB.first + 512 {

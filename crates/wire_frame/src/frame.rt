@@ -191,7 +191,8 @@ impl FrameBuf {
     /// The tag control, and the bytes without the tag, where the frame is tagged.
     pub fn stripped(&self) -> Option<(u16, FrameBytes)>
         ensures variant { is_some result ≡ is_tagged self.now }
-        ensures value { IfSome result (λ p. (p.0 ≡ tag_control self.now) × (p.1.items ≡ untagged self.now)) }
+        ensures value { IfSome result
+            (λ p. (p.0 ≡ tag_control self.now) × (p.1.items ≡ untagged self.now)) }
     {
         let tag = self.tag()?;
         let bytes = self.bytes();
@@ -301,7 +302,8 @@ fn extend(kept: &mut FrameBytes, more: &[u8])
 fn overlay(kept: &mut FrameBytes, at: usize, more: &[u8])
     requires within { at ≤ length kept.old.items }
     requires room { at + length more.now ≤ 9018 }
-    ensures front { take (at + length more.now) kept.new.items ≡ take at kept.old.items ++ more.now }
+    ensures front { take (at + length more.now) kept.new.items
+        ≡ take at kept.old.items ++ more.now }
     ensures len { length kept.new.items ≡ max (at + length more.now) (length kept.old.items) }
 {
     let inside = (kept.len() - at).min(more.len());

@@ -65,7 +65,10 @@ impl Model for FrameReceiver {
     ghost use Rattle.wire_pump.specs.Pump.{receiver};
     ghost use Rattle.wire_pump.specs.Ends.{channel_of, hand_of};
 
-    ghost view = { λ r. record { channel = channel_of r.pass; received = (hand_of r.pass).received } };
+    ghost view = { λ r. record {
+      channel = channel_of r.pass;
+      received = (hand_of r.pass).received;
+    } };
 
     ghost invariant = { λ r. IsSeatAt (receives_on r.end) r.pass
         × (hand_of r.pass ≡ receiver (hand_of r.pass).received) };
@@ -112,7 +115,8 @@ impl FrameSender {
         requires one { receiver.channel ≡ self.old.channel }
         ensures sender { self.new ≡ self.old }
         ensures receiver { result ≡ receiver }
-        ensures beginning { (under_way : List WireMsg) × (self.new.sent ≡ result.received ++ under_way) }
+        ensures beginning { (under_way : List WireMsg)
+            × (self.new.sent ≡ result.received ++ under_way) }
         ensures whole { is_ended result.received ≡ true → self.new.sent ≡ result.received }
     {
         let FrameReceiver { end, pass, back } = receiver;
@@ -192,7 +196,8 @@ fn receive<R: Wait>(
     requires receiver { hand_of pass.old ≡ receiver (hand_of pass.old).received }
     ensures seated { IsSeatAt (receives_on end.now) pass.new }
     ensures channel { channel_of pass.new ≡ channel_of pass.old }
-    ensures some { IfSome result (λ message. IsReceived (hand_of pass.old) message (hand_of pass.new)) }
+    ensures some { IfSome result
+        (λ message. IsReceived (hand_of pass.old) message (hand_of pass.new)) }
     ensures none { IfNone result (hand_of pass.new ≡ hand_of pass.old) }
 {
     end.recv_as::<Receives, R>(rt, pass).ok()

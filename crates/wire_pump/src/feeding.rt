@@ -17,7 +17,8 @@ pub enum FeedEnd {
 
 /// Sends the frames in order, and then `Last`. It waits while 64 messages are under way.
 pub fn feed<R: Wait>(sender: &mut FrameSender, rt: &R, frames: &[FrameBuf]) -> FeedEnd
-    ensures sent { sender.new ≡ record sender.old { sent = sender.old.sent ++ fed frames.now result } }
+    ensures sent { sender.new
+        ≡ record sender.old { sent = sender.old.sent ++ fed frames.now result } }
     ensures count { IsCounted (length frames.now) result }
 {
     for (sent, frame) in frames.iter().enumerate() {

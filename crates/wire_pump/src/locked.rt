@@ -64,8 +64,10 @@ impl<M: GuestMem, L: Ledger> Door for LockedDoor<M, L> {
 
     /// Gives the frame to the device, as one call of the pump. It is not taken where the kept history is full.
     fn act<R: Wait>(&mut self, rt: &R, frame: &FrameBuf) -> bool
-        ensures taken { self.new.asked ≡ (if result then self.old.asked ++ Wire frame.now ∷ [] else self.old.asked) }
-        ensures counted { self.new ≡ (if result then having_asked (Wire frame.now) self.old else self.old) }
+        ensures taken { self.new.asked
+            ≡ (if result then self.old.asked ++ Wire frame.now ∷ [] else self.old.asked) }
+        ensures counted { self.new
+            ≡ (if result then having_asked (Wire frame.now) self.old else self.old) }
     {
         let request = Request::Wire(frame);
         self.device

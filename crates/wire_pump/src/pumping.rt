@@ -16,7 +16,8 @@ pub trait Door {
     /// Takes a frame, as the event that it comes from the wire, and tells whether it did. It did not where there is no room;
     /// then nothing changed. It may wait.
     fn act<R: Wait>(&mut self, rt: &R, frame: &FrameBuf) -> bool
-        ensures { taken self.new ≡ (if result then taken self.old ++ Wire frame.now ∷ [] else taken self.old) };
+        ensures { taken self.new
+            ≡ (if result then taken self.old ++ Wire frame.now ∷ [] else taken self.old) };
 }
 
 /// How a pump ended.
@@ -36,7 +37,8 @@ pub enum PumpEnd {
 pub fn pump<D: Door, R: Wait>(receiver: &mut FrameReceiver, rt: &R, door: &mut D) -> PumpEnd
     ensures in_order { (frames : List (List ℕ))
         × (D.taken door.new ≡ D.taken door.old ++ map Wire frames)
-        × (receiver.new ≡ record receiver.old { received = receiver.old.received ++ pumped frames result }) }
+        × (receiver.new
+        ≡ record receiver.old { received = receiver.old.received ++ pumped frames result }) }
     ensures whole { IsAll receiver.new.received result }
 {
     for _ in rt.forever() {

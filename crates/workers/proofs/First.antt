@@ -18,17 +18,17 @@ unfolding first_events
 first_more c es e = filter-append (λ x. caller_before x == c) es (e ∷ [])
 
 -- a caller's events, and then one more of them
-asked_more : (c : ℕ) (es : List Event) (e : Event) (old mid new : Mine) → mid ≡ having_asked_all (first_events c es) old → new ≡ having_asked_all (first_events c (e ∷ [])) mid
+first_asked_more : (c : ℕ) (es : List Event) (e : Event) (old mid new : Mine) → mid ≡ having_asked_all (first_events c es) old → new ≡ having_asked_all (first_events c (e ∷ [])) mid
     → new ≡ having_asked_all (first_events c (es ++ e ∷ [])) old
-asked_more c es e old mid new before more =
+first_asked_more c es e old mid new before more =
     more ∙ ap (having_asked_all (first_events c (e ∷ []))) before
     ∙ ap (λ (xs : List Event). record { caller = old.caller; asked = xs })
     (append_assoc old.asked (first_events c es) (first_events c (e ∷ [])) ∙ ap (λ (xs : List Event). old.asked ++ xs) (sym (first_more c es e)))
 
 recorded_more : {L : Type 0} (es : List Event) (e : Event) (old mid new : Shares L) → HaveRecorded es old mid → HaveRecorded (e ∷ []) mid new → HaveRecorded (es ++ e ∷ []) old new
 recorded_more es e old mid new before more = record {
-  pf = asked_more pf es e old.pf mid.pf new.pf before.pf more.pf;
-  service = asked_more service es e old.service mid.service new.service before.service more.service;
+  pf = first_asked_more pf es e old.pf mid.pf new.pf before.pf more.pf;
+  service = first_asked_more service es e old.service mid.service new.service before.service more.service;
   pump = more.pump ∙ before.pump;
   ports = more.ports ∙ before.ports;
 }

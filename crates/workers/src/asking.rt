@@ -31,7 +31,8 @@ pub fn ask<M: GuestMem, L: Ledger, R: Wait>(
     requires room { bytes_asked (event_of request) ≤ length read.old }
     ensures answer { IfOk result (λ outcome. MayReply (event_of request.entry)
         (reply_by (λ span. take (bytes_told outcome) read.new) outcome)) }
-    ensures rest { IfOk result (λ outcome. drop (bytes_told outcome) read.new ≡ drop (bytes_told outcome) read.old) }
+    ensures rest { IfOk result
+        (λ outcome. drop (bytes_told outcome) read.new ≡ drop (bytes_told outcome) read.old) }
     ensures counted { OnOk result (share.new ≡ having_asked (event_of request.entry) share.old) }
     ensures unchanged { OnErr result ((share.new ≡ share.old) × (read.new ≡ read.old)) }
     ensures full { IfErr result (λ e. e ≡ Fault.HistoryFull) }

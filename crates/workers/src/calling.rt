@@ -75,7 +75,8 @@ fn read_memory<M: GuestMem, L: Ledger, P: GuestPort, R: Wait>(
     count: u16,
     read: &mut [u8; MOST_BYTES],
 ) -> bool
-    ensures done { result ≡ true → port.new ≡ one_call (Event.MemRead port.old.port.pool at count) port.old }
+    ensures done { result ≡ true
+        → port.new ≡ one_call (Event.MemRead port.old.port.pool at count) port.old }
     ensures undone { result ≡ false → port.new ≡ port.old }
 {
     match read.get_mut(..usize::from(count)) {

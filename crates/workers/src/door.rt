@@ -74,7 +74,8 @@ fn take<M: GuestMem, L: Ledger, R: Wait>(
     door: &mut LockedDoor<M, L>,
     frame: &FrameBuf,
 ) -> bool
-    ensures { door.new.asked ≡ (if result then door.old.asked ++ Wire frame.now ∷ [] else door.old.asked) }
+    ensures { door.new.asked
+        ≡ (if result then door.old.asked ++ Wire frame.now ∷ [] else door.old.asked) }
 {
     for _ in rt.forever() {
         if door.act(rt, frame) {

@@ -77,7 +77,8 @@ impl Model for Plan {
 
     ghost view = { λ p. planned (arc_value p.script) p.ports };
 
-    ghost invariant = { λ p. (length p.ports ≡ 64) × AreTurns (planned (arc_value p.script) p.ports) p.turns.items };
+    ghost invariant = { λ p. (length p.ports ≡ 64)
+        × AreTurns (planned (arc_value p.script) p.ports) p.turns.items };
 }
 
 impl Plan {
@@ -166,7 +167,10 @@ fn turns_of(alloc: Global, script: &Script, ports: &Ports) -> Result<Vec<Turns>,
 // One more place of a caller's events.
 fn add_turn(turns: &mut Vec<Turns>, caller: u8, place: usize) -> Result<(), AllocError>
     requires { caller < length turns.old.items }
-    ensures { OnOk result (turns.new.items ≡ slice_set turns.old.items caller (slice_index_or turns.old.items caller [] ++ place ∷ [])) }
+    ensures { OnOk result
+        (turns.new.items
+        ≡ slice_set turns.old.items caller
+        (slice_index_or turns.old.items caller [] ++ place ∷ [])) }
 {
     turns[usize::from(caller)].add(place)
 }

@@ -43,7 +43,8 @@ pub fn prepare<M: GuestMem, L: Ledger, R: Wait>(
         × HaveRecorded (take done (events_before script.now)) shares.old shares.new) }
     ensures why { IfErr result (λ e. (e ≡ Fault.NoMemory) ⊎ (e ≡ Fault.HistoryFull)) }
     ensures open { IfOk result (λ pools. MatchOption script.now.go (pools.items ≡ [])
-        (λ go. (left : List Bool) × MayLeave (take go script.now.events) all_closed left × (pools.items ≡ pools_from 0 left))) }
+        (λ go. (left : List Bool) × MayLeave (take go script.now.events) all_closed left
+        × (pools.items ≡ pools_from 0 left))) }
 {
     let Some(go) = script.go() else {
         record_first(rt, script, script.len(), device, shares)?;
@@ -71,8 +72,11 @@ fn record_first<M: GuestMem, L: Ledger, R: Wait>(
     ensures service { shares.new.service.caller ≡ service }
     ensures others { (shares.new.pump ≡ shares.old.pump) × (shares.new.ports ≡ shares.old.ports) }
     ensures full { IfErr result (λ e. e ≡ Fault.HistoryFull) }
-    ensures recorded { OnOk result (HaveRecorded (take count script.now.events) shares.old shares.new) }
-    ensures part { OnErr result ((done : ℕ) × (done < count) × HaveRecorded (take done script.now.events) shares.old shares.new) }
+    ensures recorded { OnOk result
+        (HaveRecorded (take count script.now.events) shares.old shares.new) }
+    ensures part { OnErr result
+        ((done : ℕ) × (done < count)
+        × HaveRecorded (take done script.now.events) shares.old shares.new) }
     ensures open { IfOk result (λ pools. MayLeave (take count script.now.events) all_closed pools) }
     ensures len { IfOk result (λ pools. length pools ≡ 64) }
 {
@@ -110,7 +114,8 @@ fn record<M: GuestMem, L: Ledger, R: Wait>(
     requires service { shares.old.service.caller ≡ service }
     ensures pf { shares.new.pf.caller ≡ pf }
     ensures service { shares.new.service.caller ≡ service }
-    ensures recorded { OnOk result (HaveRecorded (event_of request.entry ∷ []) shares.old shares.new) }
+    ensures recorded { OnOk result
+        (HaveRecorded (event_of request.entry ∷ []) shares.old shares.new) }
     ensures unchanged { OnErr result (HaveRecorded [] shares.old shares.new) }
     ensures full { IfErr result (λ e. e ≡ Fault.HistoryFull) }
     ensures answer { IfOk result (λ outcome. MayCome (event_of request.entry) outcome) }

@@ -73,11 +73,14 @@ pub fn guest<M: GuestMem, L: Ledger, P: GuestPort, G: Gate, R: Wait>(
 ) -> Done<L>
     ensures all { result.was_full ≡ false →
         port.new ≡ closed_after (called_all (own_events plan.now port.old.port.pool) port.old) }
-    ensures part { result.was_full ≡ true → (done : ℕ) × (done < length (own_events plan.now port.old.port.pool))
-        × (port.new ≡ closed_after (called_all (take done (own_events plan.now port.old.port.pool)) port.old)) }
+    ensures part { result.was_full ≡ true
+        → (done : ℕ) × (done < length (own_events plan.now port.old.port.pool))
+        × (port.new
+        ≡ closed_after (called_all (take done (own_events plan.now port.old.port.pool)) port.old)) }
     ensures share { MatchOption result.share (port.old.port.is_closed ≡ true)
         (λ share. (port.old.port.is_closed ≡ false) × (share.caller ≡ port.old.port.pool)) }
-    ensures asked { IfSome result.share (λ share. share ≡ having_asked_all port.new.calls port.new.made) }
+    ensures asked { IfSome result.share
+        (λ share. share ≡ having_asked_all port.new.calls port.new.made) }
 {
     let was_full = !calls(rt, plan, device, port, gate);
     let share = match port.close() {
@@ -99,10 +102,13 @@ fn calls<M: GuestMem, L: Ledger, P: GuestPort, G: Gate, R: Wait>(
     port: &mut LockedPort<M, L, P>,
     gate: &G,
 ) -> bool
-    ensures all { result ≡ true → port.new ≡ called_all (own_events plan.now port.old.port.pool) port.old }
-    ensures part { result ≡ false → (done : ℕ) × (done < length (own_events plan.now port.old.port.pool))
+    ensures all { result ≡ true
+        → port.new ≡ called_all (own_events plan.now port.old.port.pool) port.old }
+    ensures part { result ≡ false
+        → (done : ℕ) × (done < length (own_events plan.now port.old.port.pool))
         × (port.new ≡ called_all (take done (own_events plan.now port.old.port.pool)) port.old) }
-    ensures kept { (port.new.port.pool ≡ port.old.port.pool) × (port.new.port.is_closed ≡ port.old.port.is_closed) }
+    ensures kept { (port.new.port.pool ≡ port.old.port.pool)
+        × (port.new.port.is_closed ≡ port.old.port.is_closed) }
 {
     let caller = port.pool();
     let mut room = Room::new();
@@ -132,8 +138,10 @@ pub fn driver<M: GuestMem, L: Ledger, G: Gate, R: Wait>(
     requires { 64 ≤ share.caller }
     ensures all { result.was_full ≡ false →
         result.share ≡ Some (having_asked_all (own_events plan.now share.caller) share) }
-    ensures part { result.was_full ≡ true → (done : ℕ) × (done < length (own_events plan.now share.caller))
-        × (result.share ≡ Some (having_asked_all (take done (own_events plan.now share.caller)) share)) }
+    ensures part { result.was_full ≡ true
+        → (done : ℕ) × (done < length (own_events plan.now share.caller))
+        × (result.share
+        ≡ Some (having_asked_all (take done (own_events plan.now share.caller)) share)) }
 {
     let was_full = !events(rt, plan, device, &mut share, gate);
     Done {
@@ -152,9 +160,12 @@ fn events<M: GuestMem, L: Ledger, G: Gate, R: Wait>(
     gate: &G,
 ) -> bool
     requires { 64 ≤ share.old.caller }
-    ensures all { result ≡ true → share.new ≡ having_asked_all (own_events plan.now share.old.caller) share.old }
-    ensures part { result ≡ false → (done : ℕ) × (done < length (own_events plan.now share.old.caller))
-        × (share.new ≡ having_asked_all (take done (own_events plan.now share.old.caller)) share.old) }
+    ensures all { result ≡ true
+        → share.new ≡ having_asked_all (own_events plan.now share.old.caller) share.old }
+    ensures part { result ≡ false
+        → (done : ℕ) × (done < length (own_events plan.now share.old.caller))
+        × (share.new
+        ≡ having_asked_all (take done (own_events plan.now share.old.caller)) share.old) }
 {
     let caller = share.caller();
     let mut room = Room::new();
@@ -177,7 +188,11 @@ fn events<M: GuestMem, L: Ledger, G: Gate, R: Wait>(
 /// Reads the frames of the wire from the script, and sends them and then `Last` to the pump.
 pub fn reader<L: Ledger, R: Wait>(rt: &R, plan: &Plan, sender: &mut FrameSender) -> Done<L>
     ensures sent { (end : FeedEnd) × IsCounted (length (frames_of (own_events plan.now pump))) end
-        × (sender.new ≡ record sender.old { sent = sender.old.sent ++ fed (frames_of (own_events plan.now pump)) end }) }
+        × (sender.new
+        ≡ record sender.old {
+          sent = sender.old.sent
+              ++ fed (frames_of (own_events plan.now pump)) end;
+        }) }
     ensures share { result.share ≡ None }
     ensures full { result.was_full ≡ false }
 {
@@ -191,7 +206,11 @@ pub fn reader<L: Ledger, R: Wait>(rt: &R, plan: &Plan, sender: &mut FrameSender)
 // Sends the frames and then `Last`. Where the pump is gone, no more are sent.
 #[tactic(auto, using(crate::proofs::Wires::sent_more, crate::proofs::Wires::sent_all))]
 fn send_frames<R: Wait>(rt: &R, plan: &Plan, sender: &mut FrameSender) -> FeedEnd
-    ensures sent { sender.new ≡ record sender.old { sent = sender.old.sent ++ fed (frames_of (own_events plan.now pump)) result } }
+    ensures sent { sender.new
+        ≡ record sender.old {
+          sent = sender.old.sent
+              ++ fed (frames_of (own_events plan.now pump)) result;
+        } }
     ensures count { IsCounted (length (frames_of (own_events plan.now pump))) result }
 {
     let mut room = Room::new();
@@ -215,8 +234,10 @@ pub fn pumping<M: GuestMem, L: Ledger, G: Gate + Drop, R: Wait>(
     mut door: GatedDoor<M, L, G>,
 ) -> Done<L>
     ensures asked { (frames : List (List ℕ)) × (end : PumpEnd)
-        × (receiver.new ≡ record receiver.old { received = receiver.old.received ++ pumped frames end })
-        × (result.share ≡ Some (record { caller = pump; asked = door.inner.asked ++ map Wire frames }))
+        × (receiver.new
+        ≡ record receiver.old { received = receiver.old.received ++ pumped frames end })
+        × (result.share
+        ≡ Some (record { caller = pump; asked = door.inner.asked ++ map Wire frames }))
         × (result.was_full ≡ is_full end) }
 {
     let was_full = match pump(receiver, rt, &mut door) {

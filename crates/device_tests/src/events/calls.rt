@@ -2,6 +2,7 @@
 use super::*;
 use device::{MemSlice, Outcome, Request, Span};
 use irq_causes::Messages;
+use test_support::assert_equal;
 use wire_frame::PoolId;
 
 // The vectors that a pool got.
@@ -23,34 +24,34 @@ fn heard(messages: Result<Messages, Fault>) -> Option<u64> {
 #[test]
 fn open_and_end(rt: HostRuntime) -> Result<(), Fail> {
     let mut device = Device::new(rt.alloc(), memories(rt.alloc(), 2)?)?;
-    assert_eq!(rt; device.end(1), Err(Fault::NotOpen));
-    assert_eq!(rt; device.open(1), Ok(()));
-    assert_eq!(rt; device.open(1), Err(Fault::AlreadyOpen));
-    assert_eq!(rt; device.mem_write(1, 8, MemSlice::new(&[0xAA])?), Ok(()));
-    assert_eq!(rt; device.end(1), Ok(()));
-    assert_eq!(rt; device.open(2), Err(Fault::NoSuchVf));
+    assert_equal(&rt, device.end(1), Err(Fault::NotOpen));
+    assert_equal(&rt, device.open(1), Ok(()));
+    assert_equal(&rt, device.open(1), Err(Fault::AlreadyOpen));
+    assert_equal(&rt, device.mem_write(1, 8, MemSlice::new(&[0xAA])?), Ok(()));
+    assert_equal(&rt, device.end(1), Ok(()));
+    assert_equal(&rt, device.open(2), Err(Fault::NoSuchVf));
     // opened again, nothing of the former tenant is left
-    assert_eq!(rt; device.open(1), Ok(()));
+    assert_equal(&rt, device.open(1), Ok(()));
     let mut byte = [1];
-    assert_eq!(rt; device.mem_read(1, 8, &mut byte), Ok(()));
-    assert_eq!(rt; byte, [0]);
+    assert_equal(&rt, device.mem_read(1, 8, &mut byte), Ok(()));
+    assert_equal(&rt, byte, [0]);
     Ok(())
 }
 
 #[test]
 fn vf_read_and_vf_write(rt: HostRuntime) -> Result<(), Fail> {
     let mut device = Device::new(rt.alloc(), memories(rt.alloc(), 2)?)?;
-    assert_eq!(rt; device.vf_read(1, 0x10), Err(Fault::NotOpen));
-    assert_eq!(rt; device.open(1), Ok(()));
+    assert_equal(&rt, device.vf_read(1, 0x10), Err(Fault::NotOpen));
+    assert_equal(&rt, device.open(1), Ok(()));
     // the link is up, and VTEIMS reads what was set
-    assert_eq!(rt; device.vf_read(1, 0x10), Ok(0x7000_0000));
-    assert_eq!(rt; heard(device.vf_write(1, 0x108, 7)), Some(0));
-    assert_eq!(rt; device.vf_read(1, 0x108), Ok(7));
-    assert_eq!(rt; device.vf_read(1, 0x101), Err(Fault::BadOffset));
+    assert_equal(&rt, device.vf_read(1, 0x10), Ok(0x7000_0000));
+    assert_equal(&rt, heard(device.vf_write(1, 0x108, 7)), Some(0));
+    assert_equal(&rt, device.vf_read(1, 0x108), Ok(7));
+    assert_equal(&rt, device.vf_read(1, 0x101), Err(Fault::BadOffset));
     // a cause that is set issues the message of its vector, to this pool alone
     let messages = device.vf_write(1, 0x104, 4)?;
-    assert_eq!(rt; messages.pools(), 2);
-    assert_eq!(rt; to(messages, 1), 4);
+    assert_equal(&rt, messages.pools(), 2);
+    assert_equal(&rt, to(messages, 1), 4);
     Ok(())
 }
 
@@ -58,37 +59,46 @@ fn vf_read_and_vf_write(rt: HostRuntime) -> Result<(), Fail> {
 fn mem_read_and_mem_write(rt: HostRuntime) -> Result<(), Fail> {
     let mut device = Device::new(rt.alloc(), memories(rt.alloc(), 2)?)?;
     let mut out = [9; 4];
-    assert_eq!(rt; device.mem_read(0, 0, &mut out), Err(Fault::NotOpen));
-    assert_eq!(rt; out, [9; 4]);
-    assert_eq!(rt; device.open(0), Ok(()));
-    assert_eq!(rt;
+    assert_equal(&rt, device.mem_read(0, 0, &mut out), Err(Fault::NotOpen));
+    assert_equal(&rt, out, [9; 4]);
+    assert_equal(&rt, device.open(0), Ok(()));
+    assert_equal(
+        &rt,
         device.mem_write(0, 65532, MemSlice::new(&[1, 2, 3, 4])?),
-        Ok(())
+        Ok(()),
     );
-    assert_eq!(rt; device.mem_read(0, 65532, &mut out), Ok(()));
-    assert_eq!(rt; out, [1, 2, 3, 4]);
-    assert_eq!(rt; device.mem_read(0, 65533, &mut out), Err(Fault::BadRange));
-    assert_eq!(rt; out, [1, 2, 3, 4]);
-    assert_eq!(rt; device.mem_read(0, 0, &mut [0; 2049]), Err(Fault::TooLong));
-    assert_eq!(rt; MemSlice::new(&[0; 2049]).err(), Some(Fault::TooLong));
+    assert_equal(&rt, device.mem_read(0, 65532, &mut out), Ok(()));
+    assert_equal(&rt, out, [1, 2, 3, 4]);
+    assert_equal(
+        &rt,
+        device.mem_read(0, 65533, &mut out),
+        Err(Fault::BadRange),
+    );
+    assert_equal(&rt, out, [1, 2, 3, 4]);
+    assert_equal(
+        &rt,
+        device.mem_read(0, 0, &mut [0; 2049]),
+        Err(Fault::TooLong),
+    );
+    assert_equal(&rt, MemSlice::new(&[0; 2049]).err(), Some(Fault::TooLong));
     Ok(())
 }
 
 #[test]
 fn pf_read_pf_write_flr_and_reset(rt: HostRuntime) -> Result<(), Fail> {
     let mut device = Device::new(rt.alloc(), memories(rt.alloc(), 2)?)?;
-    assert_eq!(rt; device.pf_write(0x51E0, 3), Ok(()));
-    assert_eq!(rt; device.pf_read(0x51E0), Ok(3));
-    assert_eq!(rt; device.pf_read(0x2_0000), Err(Fault::BadOffset));
-    assert_eq!(rt; device.flr(1), Err(Fault::NotOpen));
-    assert_eq!(rt; device.open(1), Ok(()));
-    assert_eq!(rt; heard(device.vf_write(1, 0x108, 7)), Some(0));
-    assert_eq!(rt; device.flr(1), Ok(()));
-    assert_eq!(rt; device.vf_read(1, 0x108), Ok(0));
-    assert_eq!(rt; device.pf_read(0x600), Ok(2));
+    assert_equal(&rt, device.pf_write(0x51E0, 3), Ok(()));
+    assert_equal(&rt, device.pf_read(0x51E0), Ok(3));
+    assert_equal(&rt, device.pf_read(0x2_0000), Err(Fault::BadOffset));
+    assert_equal(&rt, device.flr(1), Err(Fault::NotOpen));
+    assert_equal(&rt, device.open(1), Ok(()));
+    assert_equal(&rt, heard(device.vf_write(1, 0x108, 7)), Some(0));
+    assert_equal(&rt, device.flr(1), Ok(()));
+    assert_equal(&rt, device.vf_read(1, 0x108), Ok(0));
+    assert_equal(&rt, device.pf_read(0x600), Ok(2));
     device.reset();
-    assert_eq!(rt; device.pf_read(0x51E0), Ok(0));
-    assert_eq!(rt; device.vf_read(1, 0x108), Err(Fault::NotOpen));
+    assert_equal(&rt, device.pf_read(0x51E0), Ok(0));
+    assert_equal(&rt, device.vf_read(1, 0x108), Err(Fault::NotOpen));
     Ok(())
 }
 
@@ -97,12 +107,12 @@ fn wire_tells_who_got_messages(rt: HostRuntime) -> Result<(), Fail> {
     let mut device = Device::new(rt.alloc(), memories(rt.alloc(), 8)?)?;
     set_up(&rt, &mut device)?;
     let messages = device.wire(&frame_to(3, 0)?)?;
-    assert_eq!(rt; messages.pools(), 8);
-    assert_eq!(rt; to(messages, 3), 1);
+    assert_equal(&rt, messages.pools(), 8);
+    assert_equal(&rt, to(messages, 3), 1);
     // there is one buffer, so a second frame has no room
-    assert_eq!(rt; heard(device.wire(&frame_to(3, 1)?)), Some(0));
+    assert_equal(&rt, heard(device.wire(&frame_to(3, 1)?)), Some(0));
     let long = FrameBuf::from_bytes(&[0; 1519])?;
-    assert_eq!(rt; heard(device.wire(&long)), None);
+    assert_equal(&rt, heard(device.wire(&long)), None);
     Ok(())
 }
 
@@ -113,14 +123,16 @@ fn send_one<R: Abort, M: GuestMem>(
     to: u8,
 ) -> Result<(Outcome, bool), Fail> {
     let frame = frame_to(to, 7)?;
-    assert_eq!(rt;
+    assert_equal(
+        rt,
         device.mem_write(3, 0x6000, MemSlice::new(frame.bytes())?),
-        Ok(())
+        Ok(()),
     );
     let descriptor = [0, 0x60, 0, 0, 0, 0, 0, 0, 60, 0, 0x30, 0x29, 0, 0, 0, 0];
-    assert_eq!(rt;
+    assert_equal(
+        rt,
         device.mem_write(3, 0x2000, MemSlice::new(&descriptor)?),
-        Ok(())
+        Ok(()),
     );
     for (offset, value) in [
         (0x2028, 0),
@@ -129,18 +141,18 @@ fn send_one<R: Abort, M: GuestMem>(
         (0x2028, 0x200_0000),
         (0x2018, 1),
     ] {
-        assert_eq!(rt; heard(device.vf_write(3, offset, value)), Some(0));
+        assert_equal(rt, heard(device.vf_write(3, offset, value)), Some(0));
     }
     // the cause of the former frame stands no more once it is read
     assert!(rt; device.vf_read(3, 0x100).is_ok());
     let mut room = FrameBuf::blank();
     let taken = device.serve(3, Queue::Q0, &mut room);
-    assert_eq!(rt; taken.messages.pools(), 8);
+    assert_equal(rt, taken.messages.pools(), 8);
     if let Some(sent) = taken.sent {
-        assert_eq!(rt; sent.bytes(), frame.bytes());
+        assert_equal(rt, sent.bytes(), frame.bytes());
     }
     if let Some(left) = taken.left {
-        assert_eq!(rt; left.bytes(), frame.bytes());
+        assert_equal(rt, left.bytes(), frame.bytes());
     }
     Ok((taken.outcome, taken.left.is_some()))
 }
@@ -153,19 +165,23 @@ fn serve_hands_out_the_frame_that_left(rt: HostRuntime) -> Result<(), Fail> {
         do_silently(&rt, &mut device, &Event::VfWrite(3, offset, value));
     }
     // without loopback each frame leaves
-    assert_eq!(rt; send_one(&rt, &mut device, 4)?, (Outcome::Sent, true));
+    assert_equal(&rt, send_one(&rt, &mut device, 4)?, (Outcome::Sent, true));
     // under loopback one for an address that a pool holds stays, and one for another leaves
-    assert_eq!(rt; device.pf_write(0x8220, 1), Ok(()));
-    assert_eq!(rt; send_one(&rt, &mut device, 3)?, (Outcome::Sent, false));
-    assert_eq!(rt; send_one(&rt, &mut device, 4)?, (Outcome::Sent, true));
-    assert_eq!(rt; device.wire_len(), 2);
+    assert_equal(&rt, device.pf_write(0x8220, 1), Ok(()));
+    assert_equal(&rt, send_one(&rt, &mut device, 3)?, (Outcome::Sent, false));
+    assert_equal(&rt, send_one(&rt, &mut device, 4)?, (Outcome::Sent, true));
+    assert_equal(&rt, device.wire_len(), 2);
     // a frame that the sender's settings don't permit goes nowhere
-    assert_eq!(rt; device.pf_write(0x8200, 0x8), Ok(()));
-    assert_eq!(rt; send_one(&rt, &mut device, 4)?, (Outcome::Dropped, false));
-    assert_eq!(rt; device.wire_len(), 2);
+    assert_equal(&rt, device.pf_write(0x8200, 0x8), Ok(()));
+    assert_equal(
+        &rt,
+        send_one(&rt, &mut device, 4)?,
+        (Outcome::Dropped, false),
+    );
+    assert_equal(&rt, device.wire_len(), 2);
     let mut room = FrameBuf::blank();
     let idle = device.serve(3, Queue::Q0, &mut room);
-    assert_eq!(rt; idle.outcome, Outcome::Idle);
+    assert_equal(&rt, idle.outcome, Outcome::Idle);
     assert!(rt; idle.sent.is_none() && idle.left.is_none());
     Ok(())
 }
@@ -186,22 +202,22 @@ fn take_says_where_bytes_lie(rt: HostRuntime) -> Result<(), Fail> {
     let written = MemSlice::new(&[5, 6, 7])?;
     assert!(rt; span_of(&mut device, Request::MemWrite(3, 40, written)).is_none());
     let span = span_of(&mut device, Request::MemRead(3, 41, 2)).ok_or("no bytes")?;
-    assert_eq!(rt; (span.pool(), span.at(), span.count()), (3, 41, 2));
+    assert_equal(&rt, (span.pool(), span.at(), span.count()), (3, 41, 2));
     let mut out = [9; 2];
     device.read_span(span, &mut out);
-    assert_eq!(rt; out, [6, 7]);
+    assert_equal(&rt, out, [6, 7]);
     // closed, it has zeros
-    assert_eq!(rt; device.end(3), Ok(()));
+    assert_equal(&rt, device.end(3), Ok(()));
     device.read_span(span, &mut out);
-    assert_eq!(rt; out, [0, 0]);
+    assert_equal(&rt, out, [0, 0]);
     Ok(())
 }
 
 #[test]
 fn limits_and_sizes_are_shown(rt: HostRuntime) -> Result<(), Fail> {
     let device = Device::with_limit(rt.alloc(), memories(rt.alloc(), 2)?, 9018)?;
-    assert_eq!(rt; device.limit().get(), 9018);
-    assert_eq!(rt; device.functions(), 2);
-    assert_eq!(rt; device.memory_size(1), 65536);
+    assert_equal(&rt, device.limit().get(), 9018);
+    assert_equal(&rt, device.functions(), 2);
+    assert_equal(&rt, device.memory_size(1), 65536);
     Ok(())
 }

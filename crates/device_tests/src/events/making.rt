@@ -1,5 +1,5 @@
 use super::*;
-use test_support::all_room;
+use test_support::{all_room, assert_equal};
 
 #[test]
 fn takes_1_to_64_memories_of_valid_sizes(rt: HostRuntime) -> Result<(), Fail> {
@@ -9,11 +9,11 @@ fn takes_1_to_64_memories_of_valid_sizes(rt: HostRuntime) -> Result<(), Fail> {
         match device {
             Ok(device) => {
                 assert!(rt; made);
-                assert_eq!(rt; device.functions(), count);
+                assert_equal(&rt, device.functions(), count);
             }
             Err(fault) => {
                 assert!(rt; !made);
-                assert_eq!(rt; fault, Fault::BadMake);
+                assert_equal(&rt, fault, Fault::BadMake);
             }
         }
     }
@@ -28,7 +28,7 @@ fn takes_limits_of_1518_to_9018_bytes(rt: HostRuntime) -> Result<(), Fail> {
             Ok(_) => assert!(rt; made),
             Err(fault) => {
                 assert!(rt; !made);
-                assert_eq!(rt; fault, Fault::BadMake);
+                assert_equal(&rt, fault, Fault::BadMake);
             }
         }
     }
@@ -52,18 +52,27 @@ fn tells_of_refused_memory(rt: HostRuntime) -> Result<(), Fail> {
     let events = [Event::Wire(frame_to(3, 0)?), Event::VfRead(3, 0x1010)];
     let taken = all_room(alloc).ok_or("the heap does not run out")?;
     // The run is asked first, since a maker that is refused drops its memories.
-    assert_eq!(rt; fault_of(device.run(alloc, &events)), Some(Fault::NoMemory));
-    assert_eq!(rt; fault_of(Device::new(alloc, first)), Some(Fault::NoMemory));
-    assert_eq!(rt;
+    assert_equal(
+        &rt,
+        fault_of(device.run(alloc, &events)),
+        Some(Fault::NoMemory),
+    );
+    assert_equal(
+        &rt,
+        fault_of(Device::new(alloc, first)),
+        Some(Fault::NoMemory),
+    );
+    assert_equal(
+        &rt,
         fault_of(Device::with_limit(alloc, second, 9018)),
-        Some(Fault::NoMemory)
+        Some(Fault::NoMemory),
     );
     // What was made before needs none: a step is taken, and a run that is refused has taken none.
     let before = device.step(&Event::VfRead(3, 0x1010));
     assert!(rt; matches!(before.reply, Reply::Value(0)));
     drop(taken);
     let answers = device.run(alloc, &events)?;
-    assert_eq!(rt; answers.len(), 2);
+    assert_equal(&rt, answers.len(), 2);
     for answer in &answers {
         assert!(rt; matches!(answer.reply, Reply::Done | Reply::Value(1)));
     }

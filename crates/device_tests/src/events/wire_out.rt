@@ -1,5 +1,6 @@
 use device::wire_out::WireOut;
 use std::test::Fail;
+use test_support::assert_equal;
 use wire_frame::FrameBuf;
 
 // A frame of that many bytes, made anew for each number: its number first, and then bytes that count up from it.
@@ -86,7 +87,7 @@ fn lays_short_frames_over_long_ones(rt: HostRuntime) -> Result<(), Fail> {
     for _ in 0..1023 {
         out.push_where(true, &short);
     }
-    assert_eq!(rt; out.len(), 1024);
+    assert_equal(&rt, out.len(), 1024);
     assert!(rt; out.at(0).is_some_and(|frame| frame.bytes() == long.bytes()));
     assert!(rt;
         out.at(1)

@@ -1,4 +1,5 @@
 use super::*;
+use test_support::{assert_equal, assert_equal_at};
 
 // All functions open, each with one receive descriptor, whose message is that of the vector.
 fn open_all<R: Abort, M: GuestMem>(
@@ -69,17 +70,18 @@ fn a_twin_gives_messages_to_any_pools(rt: HostRuntime) -> Result<(), Fail> {
         accept_broadcast(&rt, &mut history, &mut device, pools);
         let wire = Request::Wire(&broadcast);
         let told = keep(&rt, &mut history, &mut device, 65, wire, &mut frame).messages;
-        assert_eq!(rt;
+        assert_equal(
+            &rt,
             told.pools_with(vector as u8).count_ones() as usize,
-            pools.len()
+            pools.len(),
         );
-        assert_eq!(rt; told.pools(), told.pools_with(vector as u8));
+        assert_equal(&rt, told.pools(), told.pools_with(vector as u8));
         // all three vectors of one pool
         let set = Request::VfWrite(7, 0x104, 7);
         let told = keep(&rt, &mut history, &mut device, 7, set, &mut frame).messages;
-        assert_eq!(rt; told.pools(), 1 << 7);
+        assert_equal(&rt, told.pools(), 1 << 7);
         let mut twin = device_of_64(rt.alloc())?;
-        assert_eq!(rt; first_other(&history, &mut twin, &mut room), None);
+        assert_equal(&rt, first_other(&history, &mut twin, &mut room), None);
     }
     Ok(())
 }
@@ -98,12 +100,12 @@ fn a_device_whose_function_is_open_gives_another_answer(rt: HostRuntime) -> Resu
     }
     let mut room = Room::new();
     let mut other = device_of_64(rt.alloc())?;
-    assert_eq!(rt; other.open(0), Ok(()));
-    assert_eq!(rt; first_other(&history, &mut other, &mut room), Some(1));
+    assert_equal(&rt, other.open(0), Ok(()));
+    assert_equal(&rt, first_other(&history, &mut other, &mut room), Some(1));
     // and one without that function too
     let mut smaller = Device::new(rt.alloc(), memories(rt.alloc(), 1)?)?;
-    assert_eq!(rt; first_other(&history, &mut smaller, &mut room), None);
-    assert_eq!(rt; smaller.end(0), Ok(()));
+    assert_equal(&rt, first_other(&history, &mut smaller, &mut room), None);
+    assert_equal(&rt, smaller.end(0), Ok(()));
     assert!(rt; 2 < history.len());
     assert!(rt; !history.gives(2, &mut smaller, &mut room));
     history.step(1, &mut smaller, &mut room);
@@ -157,7 +159,7 @@ fn messages_alone_make_another_answer(rt: HostRuntime) -> Result<(), Fail> {
         history.push(3, set, &device, &kept);
         let mut twin = device_of_64(rt.alloc())?;
         let other = first_other(&history, &mut twin, &mut room);
-        assert_eq!(rt; other, if same { None } else { Some(2) });
+        assert_equal(&rt, other, if same { None } else { Some(2) });
     }
     Ok(())
 }
@@ -188,8 +190,8 @@ fn one_byte_alone_makes_another_answer(rt: HostRuntime) -> Result<(), Fail> {
         let mut twin = device_of_64(rt.alloc())?;
         history.step(0, &mut twin, &mut room);
         history.step(1, &mut twin, &mut room);
-        assert_eq!(rt; twin.mem_write(0, at, MemSlice::new(&[6])?), Ok(()));
-        assert_eq!(rt; history.gives(2, &mut twin, &mut room), same, "at {at}");
+        assert_equal(&rt, twin.mem_write(0, at, MemSlice::new(&[6])?), Ok(()));
+        assert_equal_at(&rt, history.gives(2, &mut twin, &mut room), same, at);
     }
     Ok(())
 }
@@ -209,7 +211,7 @@ fn a_value_alone_makes_another_answer(rt: HostRuntime) -> Result<(), Fail> {
     );
     assert!(rt; 0 < history.len());
     assert!(rt; history.gives(0, &mut device, &mut room));
-    assert_eq!(rt; device.pf_write(0x51E0, 1), Ok(()));
+    assert_equal(&rt, device.pf_write(0x51E0, 1), Ok(()));
     assert!(rt; !history.gives(0, &mut device, &mut room));
     Ok(())
 }

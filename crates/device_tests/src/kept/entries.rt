@@ -1,4 +1,5 @@
 use super::*;
+use test_support::assert_equal;
 
 // Whether the requests stand for the same event.
 fn is_same(first: Request<'_>, second: Request<'_>) -> bool {
@@ -31,16 +32,16 @@ fn assert_kept<R: Abort>(rt: &R, alloc: Global, asked: &[Request<'_>]) -> Result
         let caller = (i % 256) as u8;
         keep(rt, &mut history, &mut device, caller, asked[i], &mut frame);
     }
-    assert_eq!(rt; history.len(), asked.len());
+    assert_equal(rt, history.len(), asked.len());
     for i in 0..history.len() {
-        assert_eq!(rt; usize::from(history.caller(i)), i);
+        assert_equal(rt, usize::from(history.caller(i)), i);
         let kept = history.request(i, &mut frame);
         for j in 0..asked.len() {
             assert_eq!(rt; is_same(kept, asked[j]), i == j, "at {i} and {j}");
         }
     }
     let mut twin = device_of_64(alloc)?;
-    assert_eq!(rt; first_other(&history, &mut twin, &mut Room::new()), None);
+    assert_equal(rt, first_other(&history, &mut twin, &mut Room::new()), None);
     Ok(())
 }
 
@@ -116,10 +117,10 @@ fn there_are_as_many_entries_as_the_cap(rt: HostRuntime) -> Result<(), Fail> {
         );
     }
     assert!(rt; history.is_full());
-    assert_eq!(rt; (history.len(), history.cap()), (2, 2));
+    assert_equal(&rt, (history.len(), history.cap()), (2, 2));
     history.clear();
     assert!(rt; history.is_empty());
-    assert_eq!(rt; (history.len(), history.cap()), (0, 2));
+    assert_equal(&rt, (history.len(), history.cap()), (0, 2));
     // what is kept afterwards is the first entry, with its own bytes
     let written = MemSlice::new(&[1, 2, 3])?;
     keep(
@@ -131,7 +132,7 @@ fn there_are_as_many_entries_as_the_cap(rt: HostRuntime) -> Result<(), Fail> {
         &mut frame,
     );
     assert!(rt; 0 < history.len());
-    assert_eq!(rt; history.caller(0), 9);
+    assert_equal(&rt, history.caller(0), 9);
     assert!(rt;
         is_same(
             history.request(0, &mut frame),

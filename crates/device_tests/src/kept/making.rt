@@ -1,5 +1,5 @@
 use super::*;
-use test_support::all_room;
+use test_support::{all_room, assert_equal, assert_equal_at};
 
 // The fault of a history that is made for so many entries, if it is not made.
 fn fault_of(alloc: Global, cap: usize) -> Option<Fault> {
@@ -11,7 +11,7 @@ fn fault_of(alloc: Global, cap: usize) -> Option<Fault> {
 
 #[test]
 fn a_head_has_32_bytes(rt: HostRuntime) {
-    assert_eq!(rt; size_of::<Head>(), 32);
+    assert_equal(&rt, size_of::<Head>(), 32);
 }
 
 #[test]
@@ -23,7 +23,7 @@ fn takes_1_to_65536_entries(rt: HostRuntime) {
         (65_537, Some(Fault::BadMake)),
         (usize::MAX, Some(Fault::BadMake)),
     ] {
-        assert_eq!(rt; fault_of(rt.alloc(), cap), fault, "at {cap}");
+        assert_equal_at(&rt, fault_of(rt.alloc(), cap), fault, cap);
     }
 }
 
@@ -33,11 +33,11 @@ fn tells_of_refused_memory(rt: HostRuntime) -> Result<(), Fail> {
     // room for the heads of 65,536 entries and not for their bytes
     let heads = Vec::<u8>::with_capacity(alloc, 65_536 * 40)?;
     let taken = all_room(alloc).ok_or("the heap does not run out")?;
-    assert_eq!(rt; fault_of(alloc, 1), Some(Fault::NoMemory));
+    assert_equal(&rt, fault_of(alloc, 1), Some(Fault::NoMemory));
     drop(heads);
-    assert_eq!(rt; fault_of(alloc, 65_536), Some(Fault::NoMemory));
+    assert_equal(&rt, fault_of(alloc, 65_536), Some(Fault::NoMemory));
     drop(taken);
-    assert_eq!(rt; fault_of(alloc, 65_536), None);
+    assert_equal(&rt, fault_of(alloc, 65_536), None);
     Ok(())
 }
 

@@ -2,7 +2,7 @@
 use crate::memory::eight;
 use guest_memory::*;
 use std::test::Fail;
-use test_support::all_room;
+use test_support::{all_room, assert_equal, assert_equal_at};
 
 #[test]
 fn keeps_pages_apart(rt: HostRuntime) -> Result<(), Fail> {
@@ -12,26 +12,26 @@ fn keeps_pages_apart(rt: HostRuntime) -> Result<(), Fail> {
     write_bytes(&mut memory, 0xF000, &[15]);
     write_bytes(&mut memory, 0x0FFF, &[1]);
     write_bytes(&mut memory, 0x3000, &[3]);
-    assert_eq!(rt; eight(&memory, 0xF000), [15, 0, 0, 0, 0, 0, 0, 0]);
-    assert_eq!(rt; eight(&memory, 0x0FFC), [0, 0, 0, 1, 0, 0, 0, 0]);
-    assert_eq!(rt; eight(&memory, 0x2FFC), [0, 0, 0, 0, 3, 0, 0, 0]);
+    assert_equal(&rt, eight(&memory, 0xF000), [15, 0, 0, 0, 0, 0, 0, 0]);
+    assert_equal(&rt, eight(&memory, 0x0FFC), [0, 0, 0, 1, 0, 0, 0, 0]);
+    assert_equal(&rt, eight(&memory, 0x2FFC), [0, 0, 0, 0, 3, 0, 0, 0]);
     // A write over three pages, the middle one new, and a read over them.
     let mut long = [7u8; 4104];
     long[0] = 8;
     long[4103] = 9;
     write_bytes(&mut memory, 0x1FFC, &long);
-    assert_eq!(rt; eight(&memory, 0x1FF8), [0, 0, 0, 0, 8, 7, 7, 7]);
-    assert_eq!(rt; eight(&memory, 0x2FFE), [7, 7, 7, 7, 7, 9, 0, 0]);
+    assert_equal(&rt, eight(&memory, 0x1FF8), [0, 0, 0, 0, 8, 7, 7, 7]);
+    assert_equal(&rt, eight(&memory, 0x2FFE), [7, 7, 7, 7, 7, 9, 0, 0]);
     let mut back = [0u8; 4104];
     read_bytes(&memory, 0x1FFC, &mut back);
-    assert_eq!(rt; back.as_slice(), long.as_slice());
-    assert_eq!(rt; eight(&memory, 0xF000), [15, 0, 0, 0, 0, 0, 0, 0]);
+    assert_equal(&rt, back.as_slice(), long.as_slice());
+    assert_equal(&rt, eight(&memory, 0xF000), [15, 0, 0, 0, 0, 0, 0, 0]);
     memory.clear();
     assert_eq!(rt; memory.size(), 65_536);
-    assert_eq!(rt; eight(&memory, 0x2FFC), [0; 8]);
+    assert_equal(&rt, eight(&memory, 0x2FFC), [0; 8]);
     // A page stored anew has zeros, though the place had other bytes.
     write_bytes(&mut memory, 0x5004, &[5]);
-    assert_eq!(rt; eight(&memory, 0x5000), [0, 0, 0, 0, 5, 0, 0, 0]);
+    assert_equal(&rt, eight(&memory, 0x5000), [0, 0, 0, 0, 5, 0, 0, 0]);
     Ok(())
 }
 
@@ -151,11 +151,12 @@ fn has_a_last_byte(rt: HostRuntime) -> Result<(), Fail> {
         4096, 4224, 8064, 8192, 65_536, 1_000_064, 16_777_088, 16_777_216,
     ] {
         let mut memory = FlatMem::new(rt.alloc(), size)?;
-        assert_eq!(rt; last(&mut memory, false), Some((0, [0; 8])), "{size} bytes");
-        assert_eq!(rt;
+        assert_equal_at(&rt, last(&mut memory, false), Some((0, [0; 8])), size);
+        assert_equal_at(
+            &rt,
             last(&mut memory, true),
             Some((7, [0, 0, 0, 0, 0, 0, 0, 7])),
-            "{size} bytes"
+            size,
         );
         assert_eq!(rt; memory.size(), size);
     }

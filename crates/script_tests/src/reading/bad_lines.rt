@@ -2,6 +2,7 @@
 use super::check_unread;
 use script::Fault;
 use std::test::Fail;
+use test_support::assert_equal;
 
 // A text, and the number of its first bad line.
 static BAD: [(&str, u32); 81] = [
@@ -115,7 +116,7 @@ fn faults_are_told(rt: HostRuntime) -> Result<(), Fail> {
         (Fault::NoMemory, "no memory"),
     ] {
         let text = format!(in alloc; "{fault}")?;
-        assert_eq!(rt; text.as_str(), wanted);
+        assert_equal(&rt, text.as_str(), wanted);
     }
     Ok(())
 }

@@ -5,7 +5,7 @@ use std::alloc::Global;
 use std::io;
 use std::io::{Error, ErrorKind, Read};
 use std::test::Fail;
-use test_support::all_room;
+use test_support::{all_room, assert_equal, assert_equal_at};
 
 // A reader of a text in parts. It fails at the call of that number, counted from 0.
 #[derive(Drop)]
@@ -59,11 +59,11 @@ fn a_failed_read_is_told(rt: HostRuntime) -> Result<(), Fail> {
         match Script::read(alloc, &mut reader) {
             Ok(script) => {
                 assert!(rt; fails_at >= calls, "read past call {fails_at}");
-                assert_eq!(rt; plain(alloc, &script)?.as_str(), SAID);
+                assert_equal(&rt, plain(alloc, &script)?.as_str(), SAID);
             }
             Err(fault) => {
                 assert!(rt; fails_at < calls, "no call {fails_at}");
-                assert_eq!(rt; fault, Fault::Io, "at call {fails_at}");
+                assert_equal_at(&rt, fault, Fault::Io, fails_at);
             }
         }
     }
@@ -80,7 +80,7 @@ fn a_read_that_is_broken_off_is_done_again(rt: HostRuntime) -> Result<(), Fail> 
         is_interrupted: true,
     };
     let script = Script::read(alloc, &mut reader)?;
-    assert_eq!(rt; plain(alloc, &script)?.as_str(), SAID);
+    assert_equal(&rt, plain(alloc, &script)?.as_str(), SAID);
     Ok(())
 }
 
@@ -112,14 +112,14 @@ fn refused_memory_is_told(rt: HostRuntime) -> Result<(), Fail> {
         }
     }
     let taken = all_room(alloc).ok_or("the heap does not run out")?;
-    assert_eq!(rt; outcome(alloc, text), Err(Fault::NoMemory));
+    assert_equal(&rt, outcome(alloc, text), Err(Fault::NoMemory));
     let mut refused = 1u32;
     for _ in 0..30 {
         drop(kept.pop());
         match outcome(alloc, text) {
-            Ok(events) => assert_eq!(rt; events, 20_000),
+            Ok(events) => assert_equal(&rt, events, 20_000),
             Err(fault) => {
-                assert_eq!(rt; fault, Fault::NoMemory);
+                assert_equal(&rt, fault, Fault::NoMemory);
                 refused = refused.saturating_add(1);
             }
         }
@@ -127,6 +127,6 @@ fn refused_memory_is_told(rt: HostRuntime) -> Result<(), Fail> {
     // some were refused where much had been read
     assert!(rt; refused > 10, "{refused} refused");
     drop(taken);
-    assert_eq!(rt; outcome(alloc, text), Ok(20_000));
+    assert_equal(&rt, outcome(alloc, text), Ok(20_000));
     Ok(())
 }

@@ -3,6 +3,7 @@ use super::{check_unread, repeated};
 use script::{Fault, Script};
 use std::alloc::Global;
 use std::test::Fail;
+use test_support::assert_equal;
 
 // How many events a text has.
 fn events(alloc: Global, text: &[u8]) -> Result<usize, Fault> {
@@ -15,7 +16,7 @@ fn events(alloc: Global, text: &[u8]) -> Result<usize, Fault> {
 fn a_script_has_60000_events(rt: HostRuntime) -> Result<(), Fail> {
     let alloc = rt.alloc();
     let text = repeated(alloc, "vfs 1 4096\ngo\n", "open 0\n", 60_000)?;
-    assert_eq!(rt; events(alloc, text.as_slice())?, 60_000);
+    assert_equal(&rt, events(alloc, text.as_slice())?, 60_000);
     let text = repeated(alloc, "vfs 1 4096\ngo\n", "open 0\n", 60_001)?;
     check_unread(&rt, text.as_slice(), Fault::BadScript(60_003))
 }
@@ -35,7 +36,7 @@ fn a_script_has_100000_lines(rt: HostRuntime) -> Result<(), Fail> {
         if bad {
             check_unread(&rt, text.as_slice(), Fault::BadScript(100_001))?;
         } else {
-            assert_eq!(rt; events(alloc, text.as_slice())?, 0);
+            assert_equal(&rt, events(alloc, text.as_slice())?, 0);
         }
     }
     Ok(())

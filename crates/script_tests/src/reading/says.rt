@@ -2,6 +2,7 @@
 use super::check_said;
 use script::number;
 use std::test::Fail;
+use test_support::assert_equal_at;
 
 // A text, and its plain form.
 static SAID: [(&str, &str); 25] = [
@@ -146,6 +147,6 @@ fn words_are_numbers(rt: HostRuntime) {
         ("1a", None),
         ("0xg", None),
     ] {
-        assert_eq!(rt; number(word.as_bytes()), wanted, "{word}");
+        assert_equal_at(&rt, number(word.as_bytes()), wanted, word);
     }
 }

@@ -3,7 +3,7 @@ use std::alloc::{AllocError, Global};
 use std::io;
 use std::io::{Error, ErrorKind, Write};
 use std::test::Fail;
-use test_support::all_room;
+use test_support::{all_room, assert_equal, assert_equal_at};
 use transcript::{Fault, Output};
 
 // A writer that takes parts. It fails at the call of that number, counted from 0.
@@ -83,14 +83,14 @@ fn a_failed_write_leaves_a_beginning(rt: HostRuntime) -> Result<(), Fail> {
         };
         let result = write_frames(alloc, &mut writer);
         if writer.calls > fails_at {
-            assert_eq!(rt; result, Err(Fault::Io), "at call {fails_at}");
+            assert_equal_at(&rt, result, Err(Fault::Io), fails_at);
             assert!(rt;
                 wanted.as_bytes().starts_with(writer.taken.as_slice()),
                 "at call {fails_at}"
             );
             last = fails_at;
         } else {
-            assert_eq!(rt; result, Ok(()), "at call {fails_at}");
+            assert_equal_at(&rt, result, Ok(()), fails_at);
             assert!(rt;
                 writer.taken.as_slice() == wanted.as_bytes(),
                 "at call {fails_at}"
@@ -115,7 +115,7 @@ fn a_write_that_is_broken_off_is_done_again(rt: HostRuntime) -> Result<(), Fail>
         fails_at: usize::MAX,
         is_interrupted: true,
     };
-    assert_eq!(rt; write_frames(alloc, &mut writer), Ok(()));
+    assert_equal(&rt, write_frames(alloc, &mut writer), Ok(()));
     assert!(rt; writer.taken.as_slice() == wanted.as_bytes());
     Ok(())
 }
@@ -145,14 +145,14 @@ fn only_the_maker_takes_memory(rt: HostRuntime) -> Result<(), Fail> {
     let taken = all_room(alloc).ok_or("the heap does not run out")?;
     match Output::new(alloc) {
         Ok(_) => assert!(rt; false, "an output without room"),
-        Err(fault) => assert_eq!(rt; fault, Fault::NoMemory),
+        Err(fault) => assert_equal(&rt, fault, Fault::NoMemory),
     }
     // each line has four letters, two digits a byte, and its end
     for _ in 0..40 {
-        assert_eq!(rt; output.frame(&[7; 9018], &mut writer), Ok(()));
+        assert_equal(&rt, output.frame(&[7; 9018], &mut writer), Ok(()));
     }
-    assert_eq!(rt; output.finish(&mut writer), Ok(()));
-    assert_eq!(rt; writer.bytes, 40 * (4 + 2 * 9018 + 1));
+    assert_equal(&rt, output.finish(&mut writer), Ok(()));
+    assert_equal(&rt, writer.bytes, 40 * (4 + 2 * 9018 + 1));
     drop(taken);
     Ok(())
 }

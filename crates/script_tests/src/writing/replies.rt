@@ -3,6 +3,7 @@ use super::{Step, device_of_8, run};
 use device::{Outcome, Taken};
 use irq_causes::Messages;
 use std::test::Fail;
+use test_support::assert_equal;
 use transcript::{Fault, Output};
 
 // Reads and refusals, each as the device answers it.
@@ -30,7 +31,7 @@ fn reads_and_refusals(rt: HostRuntime) -> Result<(), Fail> {
     let wanted =
         "1 refused 1\n2 refused 2\n3 ok\n4 refused 7\n5 refused 3\n6 refused 3\n7 refused 4\n8 refused 5\n\
         9 refused 3\n10 = 0x60000001\n11 = 0x70000000\n12 = 0x10000000\n13 bytes -\n14 ok\n15 bytes abcd0e00\n";
-    assert_eq!(rt; run(alloc, &steps)?.as_str(), wanted);
+    assert_equal(&rt, run(alloc, &steps)?.as_str(), wanted);
     Ok(())
 }
 
@@ -62,7 +63,7 @@ fn services_and_marks(rt: HostRuntime) -> Result<(), Fail> {
     output.finish(&mut written)?;
     let wanted = "1 ok\n2 idle\n3 more !5:2\n4 dropped !2:2\n5 faulted\n6 sent !0:1 !9:4 !63:7\n\
         18446744073709551615 = 0x0012abcd\nout 0000000000000000000000000000\n";
-    assert_eq!(rt; String::from_utf8(written)?.as_str(), wanted);
+    assert_equal(&rt, String::from_utf8(written)?.as_str(), wanted);
     Ok(())
 }
 
@@ -70,6 +71,6 @@ fn services_and_marks(rt: HostRuntime) -> Result<(), Fail> {
 fn faults_are_told(rt: HostRuntime) -> Result<(), Fail> {
     let alloc = rt.alloc();
     let text = format!(in alloc; "{}, {}", Fault::Io, Fault::NoMemory)?;
-    assert_eq!(rt; text.as_str(), "writing failed, no memory");
+    assert_equal(&rt, text.as_str(), "writing failed, no memory");
     Ok(())
 }

@@ -2,6 +2,7 @@
 use super::{Step, keep, lone, push_pools, push_receiver, push_sender, run};
 use std::alloc::{AllocError, Global};
 use std::test::Fail;
+use test_support::assert_equal;
 use wire_frame::PoolId;
 
 // A line `N ok` for each number up to the last one.
@@ -39,7 +40,7 @@ fn one_frame_from_the_wire(rt: HostRuntime) -> Result<(), Fail> {
     wanted.push_str(
         "15 ok !3:1\n16 bytes 0000000000000000030000003c000000\n17 = 0x00000001\n18 = 0x00000001\n",
     )?;
-    assert_eq!(rt; run(alloc, steps.as_slice())?.as_str(), wanted.as_str());
+    assert_equal(&rt, run(alloc, steps.as_slice())?.as_str(), wanted.as_str());
     Ok(())
 }
 
@@ -62,7 +63,7 @@ fn a_frame_from_pool_to_pool(rt: HostRuntime) -> Result<(), Fail> {
     let mut wanted = String::new(alloc);
     push_done(&mut wanted, 33)?;
     wanted.push_str("34 sent !3:1 !5:2\n35 bytes 0000000000000000030004003c000000\n")?;
-    assert_eq!(rt; run(alloc, steps.as_slice())?.as_str(), wanted.as_str());
+    assert_equal(&rt, run(alloc, steps.as_slice())?.as_str(), wanted.as_str());
     Ok(())
 }
 
@@ -79,9 +80,10 @@ fn a_frame_from_pool_to_pool_as_kept_and_seen(rt: HostRuntime) -> Result<(), Fai
     wanted.push_str("34 offer 1 ")?;
     push_digits(&mut wanted, "03")?;
     wanted.push_str("35 event\n")?;
-    assert_eq!(rt;
+    assert_equal(
+        &rt,
         keep(alloc, steps.as_slice(), pool)?.as_str(),
-        wanted.as_str()
+        wanted.as_str(),
     );
     let mut wanted = String::new(alloc);
     wanted.push_str("3 ok\n")?;
@@ -89,9 +91,10 @@ fn a_frame_from_pool_to_pool_as_kept_and_seen(rt: HostRuntime) -> Result<(), Fai
         writeln!(wanted, "{number} ok")?;
     }
     wanted.push_str("34 !3:1\n35 bytes 0000000000000000030004003c000000\n")?;
-    assert_eq!(rt;
+    assert_equal(
+        &rt,
         lone(alloc, steps.as_slice(), pool)?.as_str(),
-        wanted.as_str()
+        wanted.as_str(),
     );
     Ok(())
 }
@@ -116,7 +119,7 @@ fn a_frame_that_leaves_for_the_wire(rt: HostRuntime) -> Result<(), Fail> {
     push_done(&mut wanted, 34)?;
     wanted.push_str("35 sent !5:2\n36 = 0x40000301\n37 ok !6:1\nout ")?;
     push_digits(&mut wanted, "77")?;
-    assert_eq!(rt; run(alloc, steps.as_slice())?.as_str(), wanted.as_str());
+    assert_equal(&rt, run(alloc, steps.as_slice())?.as_str(), wanted.as_str());
     Ok(())
 }
 

@@ -11,6 +11,7 @@ use std::marker::Brand;
 use std::sync::Wait;
 use std::sync::ledger::{Blank, Ledger};
 use std::test::Fail;
+use test_support::assert_equal_at;
 use workers::sweep;
 
 // What is seen of a port that is dropped: whether its note knew the end before and after, how many ends are swept, what a
@@ -97,7 +98,7 @@ fn drop_anywhere(rt: HostRuntime) -> Result<(), Fail> {
             is_silent: true,
             kept: SET_UP_EVENTS + 2 + calls,
         };
-        assert_eq!(rt; seen, Some(wanted), "after {calls} calls");
+        assert_equal_at(&rt, seen, Some(wanted), calls);
     }
     Ok(())
 }

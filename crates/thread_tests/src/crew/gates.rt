@@ -20,6 +20,7 @@ use std::sync::{Arc, Wait};
 use std::test::Fail;
 use std::thread;
 use std::thread::Threads;
+use test_support::assert_equal;
 use wire_frame::Fault;
 use wire_pump::{FeedEnd, LockedDoor, PumpEnd, channel, feed, pump};
 use workers::{Gate, sweep};
@@ -190,7 +191,7 @@ fn third_guest<R: Abort + Wait + AllocGlobal>(rt: &R) -> Result<(), Fail> {
         last: Some(Reply::Refused(2)),
         kept: SET_UP_EVENTS + 4,
     };
-    assert_eq!(rt; seen, Some(wanted));
+    assert_equal(rt, seen, Some(wanted));
     Ok(())
 }
 
@@ -236,11 +237,11 @@ fn gate_two_guests(rt: HostRuntime) -> Result<(), Fail> {
         memories,
         Arc::try_clone(&gate)?,
     )?;
-    assert_eq!(rt; seen.shares, 67);
-    assert_eq!(rt; seen.kept, 7);
-    assert_eq!(rt; seen.entries[1], 1);
-    assert_eq!(rt; seen.entries[2], 2);
-    assert_eq!(rt; seen.entries[66], 4);
+    assert_equal(&rt, seen.shares, 67);
+    assert_equal(&rt, seen.kept, 7);
+    assert_equal(&rt, seen.entries[1], 1);
+    assert_equal(&rt, seen.entries[2], 2);
+    assert_equal(&rt, seen.entries[66], 4);
     assert_eq!(rt;
         gate.late.load(Ordering::SeqCst),
         0,
@@ -248,7 +249,7 @@ fn gate_two_guests(rt: HostRuntime) -> Result<(), Fail> {
     );
     drop(log);
     let lines = sink.into_lines();
-    assert_eq!(rt; lines.len(), 12);
+    assert_equal(&rt, lines.len(), 12);
     for (at, worker) in WORKERS.iter().enumerate() {
         let starts = format!(in alloc; "[DEBUG workers::crew] worker {worker} starts")?;
         let ends = format!(in alloc; "[DEBUG workers::crew] worker {worker} ends")?;

@@ -6,6 +6,7 @@ use std::sync::Wait;
 use std::sync::ledger::Blank;
 use std::test::Fail;
 use std::thread::Threads;
+use test_support::assert_equal;
 use wire_frame::Fault;
 
 // Whether a run was whole. Where it was not, it is told that there was no memory.
@@ -17,11 +18,11 @@ fn is_whole<R: Abort + Threads + Wait + Copy + Send + AllocGlobal + 'static>(
     match seen_of_two::<Brand, R>(rt, rt.alloc(), Blank::new(67), cap, has_twin) {
         Ok(seen) => {
             assert_two_guests(&rt, &seen);
-            assert_eq!(rt; (seen.kept as u64).wrapping_add(seen.folded), 9);
+            assert_equal(&rt, (seen.kept as u64).wrapping_add(seen.folded), 9);
             true
         }
         Err(fault) => {
-            assert_eq!(rt; fault, Fault::NoMemory);
+            assert_equal(&rt, fault, Fault::NoMemory);
             false
         }
     }

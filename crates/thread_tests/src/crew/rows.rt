@@ -13,6 +13,7 @@ use std::sync::ledger::{Blank, Ledger};
 use std::sync::{Arc, Wait};
 use std::test::Fail;
 use std::thread::Threads;
+use test_support::assert_equal;
 use wire_frame::Fault;
 use workers::OpenGate;
 
@@ -22,12 +23,12 @@ const TWO_GUESTS: &str =
 
 /// The two events before `go` and the two ends are of the service.
 pub fn assert_two_guests<R: Abort>(rt: &R, seen: &Seen) {
-    assert_eq!(rt; seen.shares, 67);
-    assert_eq!(rt; seen.entries[0], 1);
-    assert_eq!(rt; seen.entries[1], 2);
-    assert_eq!(rt; seen.entries[64], 1);
-    assert_eq!(rt; seen.entries[65], 1);
-    assert_eq!(rt; seen.entries[66], 4);
+    assert_equal(rt, seen.shares, 67);
+    assert_equal(rt, seen.entries[0], 1);
+    assert_equal(rt, seen.entries[1], 2);
+    assert_equal(rt, seen.entries[64], 1);
+    assert_equal(rt, seen.entries[65], 1);
+    assert_equal(rt, seen.entries[66], 4);
 }
 
 // Ports of pools 0 and 1, and memories of two functions, twice where there is to be a twin. None where the host refuses the
@@ -79,8 +80,8 @@ pub fn seen_of_two<L: Ledger + Send + Sync + 'static, R: Threads + Wait + Copy +
 fn two_guests_and_the_others_are_counted(rt: HostRuntime) -> Result<(), Fail> {
     let seen = seen_of_two::<Brand, HostRuntime>(rt, rt.alloc(), Blank::new(67), 71, false)?;
     assert_two_guests(&rt, &seen);
-    assert_eq!(rt; seen.kept, 9);
-    assert_eq!(rt; seen.folded, 0);
+    assert_equal(&rt, seen.kept, 9);
+    assert_equal(&rt, seen.folded, 0);
     Ok(())
 }
 
@@ -89,8 +90,8 @@ fn two_guests_and_the_others_are_counted(rt: HostRuntime) -> Result<(), Fail> {
 fn a_history_of_one_call_is_folded(rt: HostRuntime) -> Result<(), Fail> {
     let seen = seen_of_two::<Brand, HostRuntime>(rt, rt.alloc(), Blank::new(67), 1, true)?;
     assert_two_guests(&rt, &seen);
-    assert_eq!(rt; seen.kept, 1);
-    assert_eq!(rt; seen.folded, 8);
+    assert_equal(&rt, seen.kept, 1);
+    assert_equal(&rt, seen.folded, 8);
     Ok(())
 }
 
@@ -98,7 +99,7 @@ fn a_history_of_one_call_is_folded(rt: HostRuntime) -> Result<(), Fail> {
 #[test]
 fn a_history_that_is_full_before_go_is_told(rt: HostRuntime) -> Result<(), Fail> {
     let seen = seen_of_two::<Brand, HostRuntime>(rt, rt.alloc(), Blank::new(67), 1, false);
-    assert_eq!(rt; seen.err(), Some(Fault::HistoryFull));
+    assert_equal(&rt, seen.err(), Some(Fault::HistoryFull));
     Ok(())
 }
 
@@ -106,7 +107,7 @@ fn a_history_that_is_full_before_go_is_told(rt: HostRuntime) -> Result<(), Fail>
 #[test]
 fn a_history_that_is_full_after_go_is_told(rt: HostRuntime) -> Result<(), Fail> {
     let seen = seen_of_two::<Brand, HostRuntime>(rt, rt.alloc(), Blank::new(67), 4, false);
-    assert_eq!(rt; seen.err(), Some(Fault::HistoryFull));
+    assert_equal(&rt, seen.err(), Some(Fault::HistoryFull));
     Ok(())
 }
 
@@ -114,6 +115,6 @@ fn a_history_that_is_full_after_go_is_told(rt: HostRuntime) -> Result<(), Fail> 
 #[test]
 fn a_history_that_is_full_at_the_ends_is_told(rt: HostRuntime) -> Result<(), Fail> {
     let seen = seen_of_two::<Brand, HostRuntime>(rt, rt.alloc(), Blank::new(67), 8, false);
-    assert_eq!(rt; seen.err(), Some(Fault::HistoryFull));
+    assert_equal(&rt, seen.err(), Some(Fault::HistoryFull));
     Ok(())
 }

@@ -2,6 +2,7 @@
 ghost use Rattle.std.specs.Prelude.{◌≡◌};
 
 use super::*;
+use test_support::{assert_equal, assert_equal_at};
 
 // A request, and whether the ports of pools 3 and 63, the driver and the pump may make it. The service may make each.
 fn assert_row<R: Abort, L: Ledger>(
@@ -11,10 +12,10 @@ fn assert_row<R: Abort, L: Ledger>(
     request: Request<'_>,
     who: [bool; 4],
 ) {
-    assert_eq!(rt; ports.0.may(request), who[0]);
-    assert_eq!(rt; ports.1.may(request), who[1]);
-    assert_eq!(rt; shares.pf.may(request), who[2]);
-    assert_eq!(rt; shares.pump.may(request), who[3]);
+    assert_equal(rt, ports.0.may(request), who[0]);
+    assert_equal(rt, ports.1.may(request), who[1]);
+    assert_equal(rt, shares.pf.may(request), who[2]);
+    assert_equal(rt, shares.pump.may(request), who[3]);
     assert!(rt; shares.service.may(request));
 }
 
@@ -67,13 +68,13 @@ fn ports_once<R: Abort, L: Ledger>(rt: &R, shares: &mut Shares<L>) -> Option<(Sh
 }
 
 fn assert_numbers<R: Abort, L: Ledger>(rt: &R, shares: &Shares<L>, ports: (&Share<L>, &Share<L>)) {
-    assert_eq!(rt; (ports.0.caller(), ports.1.caller()), (3, 63));
+    assert_equal(rt, (ports.0.caller(), ports.1.caller()), (3, 63));
     let numbers = (
         shares.pf.caller(),
         shares.pump.caller(),
         shares.service.caller(),
     );
-    assert_eq!(rt; numbers, (PF, PUMP, SERVICE));
+    assert_equal(rt, numbers, (PF, PUMP, SERVICE));
 }
 
 fn assert_all_rows<R: Abort, L: Ledger>(
@@ -131,7 +132,7 @@ fn reads_thrice<R: Abort, L: Ledger>(rt: &R, stage: &mut Stage<L>, port: &mut Sh
             Request::VfRead(0, 0x101C),
             &mut frame,
         );
-        assert_eq!(rt; read, Some(Outcome::Value(0)));
+        assert_equal(rt, read, Some(Outcome::Value(0)));
     }
 }
 
@@ -145,7 +146,7 @@ fn resets<R: Abort, L: Ledger>(rt: &R, stage: &mut Stage<L>) {
         Request::PfReset,
         &mut frame,
     );
-    assert_eq!(rt; reset, Some(Outcome::Done));
+    assert_equal(rt, reset, Some(Outcome::Done));
 }
 
 fn assert_counts<R: Abort, L: Ledger>(rt: &R, shares: &Shares<L>, port: &Share<L>) {
@@ -155,7 +156,7 @@ fn assert_counts<R: Abort, L: Ledger>(rt: &R, shares: &Shares<L>, port: &Share<L
         shares.service.count(),
         shares.pump.count(),
     );
-    assert_eq!(rt; counts, (3, 1, 1, 0));
+    assert_equal(rt, counts, (3, 1, 1, 0));
 }
 
 fn assert_entries<R: Abort>(rt: &R, tally: &Tally) {
@@ -165,7 +166,7 @@ fn assert_entries<R: Abort>(rt: &R, tally: &Tally) {
             64 | 66 => 1,
             _ => 0,
         };
-        assert_eq!(rt; tally.entries[caller], want, "of {caller}");
+        assert_equal_at(rt, tally.entries[caller], want, caller);
     }
 }
 
@@ -220,8 +221,8 @@ fn assert_no_tally<R: Abort, L: Ledger>(
         ..
     } = stage;
     let all = left(rt, alloc, shares, 66)?;
-    assert_eq!(rt; recorded.gather(all), None);
-    assert_eq!(rt; recorded.gather(Vec::new(alloc)), None);
+    assert_equal(rt, recorded.gather(all), None);
+    assert_equal(rt, recorded.gather(Vec::new(alloc)), None);
     Ok(())
 }
 

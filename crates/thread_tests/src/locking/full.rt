@@ -2,6 +2,7 @@
 ghost use Rattle.std.specs.Prelude.{◌≡◌};
 
 use super::*;
+use test_support::assert_equal;
 
 const FUNCTIONS: (usize, u64) = (8, 65_536);
 
@@ -11,21 +12,21 @@ fn third_comes_back<R: Abort, L: Ledger>(rt: &R, stage: &mut Stage<L>) {
         assert!(rt; ask(stage, event).is_ok());
     }
     match ask(stage, Event::Open(1)) {
-        Err(Full(Event::Open(pool))) => assert_eq!(rt; pool, 1),
+        Err(Full(Event::Open(pool))) => assert_equal(rt, pool, 1),
         _ => assert!(rt; false),
     }
-    assert_eq!(rt; stage.recorded.kept(), 2);
-    assert_eq!(rt; stage.recorded.folded(), 0);
-    assert_eq!(rt; stage.shares.service.count(), 2);
+    assert_equal(rt, stage.recorded.kept(), 2);
+    assert_equal(rt, stage.recorded.folded(), 0);
+    assert_equal(rt, stage.shares.service.count(), 2);
 }
 
 // Function 1 is closed, also once the base is moved.
 fn stays_closed<R: Abort, L: Ledger>(rt: &R, stage: &mut Stage<L>) {
-    assert_eq!(rt; stage.recorded.rebase(), Some(2));
+    assert_equal(rt, stage.recorded.rebase(), Some(2));
     assert_refused(rt, &ask(stage, Event::VfRead(1, 0x101C)), 2);
-    assert_eq!(rt; stage.recorded.kept(), 1);
-    assert_eq!(rt; stage.recorded.folded(), 2);
-    assert_eq!(rt; stage.shares.service.count(), 3);
+    assert_equal(rt, stage.recorded.kept(), 1);
+    assert_equal(rt, stage.recorded.folded(), 2);
+    assert_equal(rt, stage.shares.service.count(), 3);
 }
 
 // It is closed in a device that was stepped through the history too; such a device gives the answer that is kept then.
@@ -49,13 +50,13 @@ fn third_of_two<R: Abort, L: Ledger>(rt: &R, alloc: Global, blank: Blank) -> Res
     let mut stage = with_twin::<L>(alloc, blank, FUNCTIONS, 2)?;
     third_comes_back(rt, &mut stage);
     stays_closed_beside(rt, alloc, &mut stage)?;
-    assert_eq!(rt; take(&mut stage.guests, 0), Some(0));
+    assert_equal(rt, take(&mut stage.guests, 0), Some(0));
     Ok(())
 }
 
 fn assert_refused_of<R: Abort>(rt: &R, answer: &Answer, want: u8) {
     match &answer.reply {
-        Reply::Refused(number) => assert_eq!(rt; *number, want),
+        Reply::Refused(number) => assert_equal(rt, *number, want),
         _ => assert!(rt; false),
     }
 }
@@ -76,12 +77,12 @@ fn the_third_of_two_comes_back(rt: HostRuntime) -> Result<(), Fail> {
 fn masks_cause<R: Abort, L: Ledger>(rt: &R, stage: &mut Stage<L>) {
     assert!(rt; ask(stage, Event::Open(0)).is_ok());
     for (offset, value) in [(0x104, 1), (0x110, 1), (0x108, 1)] {
-        assert_eq!(rt; take(&mut stage.guests, 0), Some(0));
+        assert_equal(rt, take(&mut stage.guests, 0), Some(0));
         let event = Event::VfWrite(0, offset, value);
         assert!(rt; ask_moving(rt, stage, event, 2).is_some());
     }
-    assert_eq!(rt; stage.shares.service.count(), 4);
-    assert_eq!(rt; take(&mut stage.guests, 0), Some(1));
+    assert_equal(rt, stage.shares.service.count(), 4);
+    assert_equal(rt, take(&mut stage.guests, 0), Some(1));
 }
 
 // The cause of vector 0 of function 0 is set before its mask; then the mask is, and the message comes. Two calls are kept at
@@ -92,7 +93,7 @@ fn masked_cause<R: Abort, L: Ledger>(rt: &R, alloc: Global, blank: Blank) -> Res
 {
     let mut stage = with_twin::<L>(alloc, blank, FUNCTIONS, 2)?;
     masks_cause(rt, &mut stage);
-    assert_eq!(rt; stage.recorded.rebase(), Some(2));
+    assert_equal(rt, stage.recorded.rebase(), Some(2));
     assert_eq!(rt;
         take(&mut stage.guests, 0),
         Some(0),
@@ -105,7 +106,7 @@ fn masked_cause<R: Abort, L: Ledger>(rt: &R, alloc: Global, blank: Blank) -> Res
 fn assert_value<R: Abort>(rt: &R, answer: &Result<Answer, Full>, want: u32) {
     match answer {
         Ok(answer) => match &answer.reply {
-            Reply::Value(value) => assert_eq!(rt; *value, want),
+            Reply::Value(value) => assert_equal(rt, *value, want),
             _ => assert!(rt; false),
         },
         Err(_) => assert!(rt; false),
@@ -127,7 +128,7 @@ fn ask_moving<R: Abort, L: Ledger>(
     match ask(stage, event) {
         Ok(answer) => Some(answer),
         Err(Full(event)) => {
-            assert_eq!(rt; stage.recorded.rebase(), Some(cap));
+            assert_equal(rt, stage.recorded.rebase(), Some(cap));
             ask(stage, event).ok()
         }
     }
@@ -137,9 +138,10 @@ fn ask_moving<R: Abort, L: Ledger>(
 fn moves_through<R: Abort, L: Ledger>(rt: &R, stage: &mut Stage<L>, events: Vec<Event>) {
     let mut index = 0usize;
     for event in events {
-        assert_eq!(rt;
+        assert_equal(
+            rt,
             stage.recorded.folded(),
-            index.saturating_sub(1) as u64 / 4 * 4
+            index.saturating_sub(1) as u64 / 4 * 4,
         );
         match &ask_moving(rt, stage, event, 4) {
             Some(answer) => assert_scripted(rt, index, answer),
@@ -147,7 +149,7 @@ fn moves_through<R: Abort, L: Ledger>(rt: &R, stage: &mut Stage<L>, events: Vec<
         }
         index = index.wrapping_add(1);
     }
-    assert_eq!(rt; index, 18);
+    assert_equal(rt, index, 18);
 }
 
 fn moved_bases<R: Abort, L: Ledger>(rt: &R, alloc: Global, blank: Blank) -> Result<(), Fail>
@@ -157,8 +159,12 @@ fn moved_bases<R: Abort, L: Ledger>(rt: &R, alloc: Global, blank: Blank) -> Resu
     let events = script(alloc)?;
     let mut stage = with_twin::<L>(alloc, blank, FUNCTIONS, 4)?;
     moves_through(rt, &mut stage, events);
-    assert_eq!(rt; (stage.recorded.kept(), stage.recorded.folded()), (2, 16));
-    assert_eq!(rt; take(&mut stage.guests, 3), Some(1));
+    assert_equal(
+        rt,
+        (stage.recorded.kept(), stage.recorded.folded()),
+        (2, 16),
+    );
+    assert_equal(rt, take(&mut stage.guests, 3), Some(1));
     assert_all_gathered(rt, alloc, stage)
 }
 
@@ -175,7 +181,7 @@ fn assert_all_gathered<R: Abort, L: Ledger>(
     } = stage;
     let all = left(rt, alloc, shares, CALLERS)?;
     match &recorded.gather(all) {
-        Some(tally) => assert_eq!(rt; tally.entries[usize::from(SERVICE)], 18),
+        Some(tally) => assert_equal(rt, tally.entries[usize::from(SERVICE)], 18),
         None => assert!(rt; false, "the shares are not all"),
     }
     assert!(rt; !replayed(alloc, &recorded, FUNCTIONS)?);
@@ -199,10 +205,10 @@ fn the_base_moves_at_each_full_history(rt: HostRuntime) -> Result<(), Fail> {
 
 // The base does not move.
 fn stays<R: Abort, L: Ledger>(rt: &R, stage: &mut Stage<L>) {
-    assert_eq!(rt; stage.recorded.rebase(), None);
+    assert_equal(rt, stage.recorded.rebase(), None);
     assert!(rt; ask(stage, Event::Open(0)).is_ok());
-    assert_eq!(rt; stage.recorded.rebase(), None);
-    assert_eq!(rt; stage.recorded.kept(), 1);
+    assert_equal(rt, stage.recorded.rebase(), None);
+    assert_equal(rt, stage.recorded.kept(), 1);
     stage.recorded.agrees();
 }
 
@@ -226,7 +232,7 @@ fn no_twin<R: Abort, L: Ledger>(rt: &R, alloc: Global, blank: Blank) -> Result<(
     let mut stage = recorded::<L>(alloc, blank, (1, 4096), 1)?;
     stays(rt, &mut stage);
     let gave = replayed_twice(alloc, &stage.recorded, (1, 4096))?;
-    assert_eq!(rt; gave, (true, false));
+    assert_equal(rt, gave, (true, false));
     Ok(())
 }
 

@@ -2,7 +2,7 @@
 ghost use Rattle.std.specs.Prelude.{◌≡◌};
 
 use super::*;
-use test_support::all_room;
+use test_support::{all_room, assert_equal, assert_equal_at};
 
 // The fault of a maker, if there is one.
 fn fault_of<T: Drop>(made: Result<T, Fault>) -> Option<Fault> {
@@ -36,7 +36,7 @@ fn takes_1_to_65536_calls(rt: HostRuntime) -> Result<(), Fail> {
         (65_537, Some(Fault::BadMake)),
     ] {
         let made = fault_at::<HostRuntime, Brand>(&rt, rt.alloc(), Blank::new(67), cap)?;
-        assert_eq!(rt; made, fault, "at {cap}");
+        assert_equal_at(&rt, made, fault, cap);
     }
     Ok(())
 }
@@ -120,7 +120,7 @@ const ROOMS: [(bool, Option<Fault>); 2] = [(false, None), (true, Some(Fault::NoM
 fn recorded_tells_of_refused_memory(rt: HostRuntime) -> Result<(), Fail> {
     for (full, fault) in ROOMS {
         let made = fault_in::<Brand>(rt.alloc(), Blank::new(67), false, full)?;
-        assert_eq!(rt; made, fault);
+        assert_equal(&rt, made, fault);
     }
     Ok(())
 }
@@ -129,7 +129,7 @@ fn recorded_tells_of_refused_memory(rt: HostRuntime) -> Result<(), Fail> {
 fn recorded_with_a_twin_tells_of_refused_memory(rt: HostRuntime) -> Result<(), Fail> {
     for (full, fault) in ROOMS {
         let made = fault_in::<Brand>(rt.alloc(), Blank::new(67), true, full)?;
-        assert_eq!(rt; made, fault);
+        assert_equal(&rt, made, fault);
     }
     Ok(())
 }
@@ -152,7 +152,7 @@ fn lock_fault_in<L: Ledger>(alloc: Global, blank: Blank, full: bool) -> Result<O
 fn the_lock_tells_of_refused_memory(rt: HostRuntime) -> Result<(), Fail> {
     for (full, fault) in ROOMS {
         let made = lock_fault_in::<Brand>(rt.alloc(), Blank::new(67), full)?;
-        assert_eq!(rt; made, fault);
+        assert_equal(&rt, made, fault);
     }
     Ok(())
 }

@@ -3,7 +3,7 @@ ghost use Rattle.std.specs.Prelude.{◌≡◌};
 
 use super::*;
 use std::sync::Arc;
-use test_support::all_room;
+use test_support::{all_room, assert_equal};
 
 // Events in turn, as long as the caller may make them and there is room.
 fn act_all<R: Wait, L: Ledger>(
@@ -100,7 +100,7 @@ fn sets_while_opening<
     })?;
     let opened = act_all(&rt, &**device, service, opens);
     let (set, pf) = driver.join(&rt);
-    assert_eq!(rt; (opened, set), (9, 5));
+    assert_equal(&rt, (opened, set), (9, 5));
     Ok(pf)
 }
 
@@ -110,8 +110,8 @@ fn assert_all_kept<R: Abort + Wait, L: Ledger>(
     device: &LockedDevice<FlatMem, L>,
     other: &mut Device<FlatMem>,
 ) {
-    assert_eq!(rt; (device.kept(rt), device.folded(rt)), (18, 0));
-    assert_eq!(rt; device.fold(rt), None);
+    assert_equal(rt, (device.kept(rt), device.folded(rt)), (18, 0));
+    assert_equal(rt, device.fold(rt), None);
     assert!(rt; device.replays(rt, other));
 }
 
@@ -138,8 +138,8 @@ fn two_threads<
     } = shares;
     let pf = sets_while_opening(rt, alloc, &device, pf, &mut service)?;
     arrives(&rt, &*device, &mut pump, &mut service, events);
-    assert_eq!(rt; take(&mut guests, 3), Some(1));
-    assert_eq!(rt; (pf.count(), pump.count(), service.count()), (5, 1, 12));
+    assert_equal(&rt, take(&mut guests, 3), Some(1));
+    assert_equal(&rt, (pf.count(), pump.count(), service.count()), (5, 1, 12));
     assert_all_kept(&rt, &*device, &mut other);
     Ok(())
 }
@@ -190,13 +190,13 @@ fn assert_written<R: Abort + Wait, L: Ledger>(
     read: &mut [u8; 2048],
 ) {
     let device = &*stage.device;
-    assert_eq!(rt; read_count(rt, device, port, 0, 3, read), None);
+    assert_equal(rt, read_count(rt, device, port, 0, 3, read), None);
     assert!(rt; act_one(rt, device, &mut stage.shares.service, Event::Open(3)).is_some());
     let request = Request::MemWrite(3, 4094, written);
     let wrote = act_request(rt, device, port, request, read);
-    assert_eq!(rt; wrote, Some((Outcome::Done, false)));
-    assert_eq!(rt; read_count(rt, device, port, 4093, 3, read), Some(3));
-    assert_eq!(rt; &read[..5], [0, 7, 8, 9, 9].as_slice());
+    assert_equal(rt, wrote, Some((Outcome::Done, false)));
+    assert_equal(rt, read_count(rt, device, port, 4093, 3, read), Some(3));
+    assert_equal(rt, &read[..5], [0, 7, 8, 9, 9].as_slice());
 }
 
 // Nothing is read past the end of the memory, nor of more than 2048 bytes; and there is room for six calls.
@@ -207,14 +207,15 @@ fn assert_unread<R: Abort + Wait, L: Ledger>(
     read: &mut [u8; 2048],
 ) {
     let device = &*stage.device;
-    assert_eq!(rt; read_count(rt, device, port, 4094, 3, read), None);
-    assert_eq!(rt; read_count(rt, device, port, 0, 2049, read), None);
-    assert_eq!(rt; (port.count(), stage.shares.service.count()), (5, 1));
-    assert_eq!(rt;
+    assert_equal(rt, read_count(rt, device, port, 4094, 3, read), None);
+    assert_equal(rt, read_count(rt, device, port, 0, 2049, read), None);
+    assert_equal(rt, (port.count(), stage.shares.service.count()), (5, 1));
+    assert_equal(
+        rt,
         act_request(rt, device, port, Request::VfRead(3, 0), read),
-        None
+        None,
     );
-    assert_eq!(rt; (device.kept(rt), port.count()), (6, 5));
+    assert_equal(rt, (device.kept(rt), port.count()), (6, 5));
 }
 
 fn reads_back<R: Abort + Wait, L: Ledger>(rt: &R, alloc: Global, blank: Blank) -> Result<(), Fail>
@@ -263,7 +264,7 @@ fn does_its_work<R: Abort + Wait, L: Ledger>(
     mut all: Vec<Share<L>>,
 ) -> Result<(), Fail> {
     act_script(rt, &*stage.device, &mut stage.shares.service, events);
-    assert_eq!(rt; take(&mut stage.guests, 3), Some(1));
+    assert_equal(rt, take(&mut stage.guests, 3), Some(1));
     assert!(rt; !stage.device.replays(rt, &mut other));
     let mut port = stage.shares.port(3).ok_or("no share")?;
     assert_reads_frame(rt, &*stage.device, &mut port);
@@ -281,11 +282,12 @@ fn assert_reads_frame<R: Abort + Wait, L: Ledger>(
     port: &mut Share<L>,
 ) {
     let mut read = [0; 2048];
-    assert_eq!(rt;
+    assert_equal(
+        rt,
         read_count(rt, device, port, 0x1008, 2048, &mut read),
-        Some(2048)
+        Some(2048),
     );
-    assert_eq!(rt; &read[..4], [3, 0, 0, 0].as_slice());
+    assert_equal(rt, &read[..4], [3, 0, 0, 0].as_slice());
 }
 
 fn assert_tally<R: Abort + Wait, L: Ledger>(
@@ -294,7 +296,7 @@ fn assert_tally<R: Abort + Wait, L: Ledger>(
     all: Vec<Share<L>>,
 ) {
     match &device.tally(rt, all) {
-        Some(tally) => assert_eq!(rt; (tally.entries[3], tally.entries[66]), (1, 18)),
+        Some(tally) => assert_equal(rt, (tally.entries[3], tally.entries[66]), (1, 18)),
         None => assert!(rt; false, "no tally"),
     }
 }
@@ -314,8 +316,8 @@ fn act_script<R: Abort + Wait, L: Ledger>(
         }
         index = index.wrapping_add(1);
     }
-    assert_eq!(rt; index, 18);
-    assert_eq!(rt; (device.kept(rt), device.folded(rt)), (2, 16));
+    assert_equal(rt, index, 18);
+    assert_equal(rt, (device.kept(rt), device.folded(rt)), (2, 16));
 }
 
 // One event of the service, for which there is room once the base is moved.
@@ -332,7 +334,7 @@ fn act_folding<R: Abort + Wait, L: Ledger>(
     match device.act(rt, share, event) {
         Ok(answer) => Some(answer),
         Err(Full(event)) => {
-            assert_eq!(rt; device.fold(rt), Some(4));
+            assert_equal(rt, device.fold(rt), Some(4));
             act_one(rt, device, share, event)
         }
     }

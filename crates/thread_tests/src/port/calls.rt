@@ -7,6 +7,7 @@ use guest_memory::{FlatMem, GuestMem};
 use std::marker::Brand;
 use std::sync::ledger::{Blank, Ledger};
 use std::sync::{Arc, Wait};
+use test_support::assert_equal;
 
 // What a test of one port needs: the port's seat, the device's, and memories of 4096 bytes for four functions.
 #[derive(Drop)]
@@ -62,18 +63,18 @@ fn assert_reads_back<M: GuestMem, L: Ledger, R: Wait + Abort>(
     rt: &R,
     port: &mut LockedPort<M, L, IrqPort>,
 ) {
-    assert_eq!(rt; port.reg_write(rt, 0x108, 7), Ok(()));
-    assert_eq!(rt; port.reg_read(rt, 0x108), Ok(7));
-    assert_eq!(rt; port.mem_write(rt, 0, &[0xAA]), Ok(()));
+    assert_equal(rt, port.reg_write(rt, 0x108, 7), Ok(()));
+    assert_equal(rt, port.reg_read(rt, 0x108), Ok(7));
+    assert_equal(rt, port.mem_write(rt, 0, &[0xAA]), Ok(()));
     match port.mem_read(rt, 0, 1) {
-        Ok(read) => assert_eq!(rt; read.bytes(), [0xAA].as_slice()),
+        Ok(read) => assert_equal(rt, read.bytes(), [0xAA].as_slice()),
         Err(fault) => panic!(rt; "refused: {fault}"),
     }
     let mut two = [1, 1];
-    assert_eq!(rt; port.mem_read_into(rt, 0, &mut two), Ok(()));
-    assert_eq!(rt; two, [0xAA, 0]);
-    assert_eq!(rt; port.flr(rt), Ok(()));
-    assert_eq!(rt; port.reg_read(rt, 0x108), Ok(0));
+    assert_equal(rt, port.mem_read_into(rt, 0, &mut two), Ok(()));
+    assert_equal(rt, two, [0xAA, 0]);
+    assert_equal(rt, port.flr(rt), Ok(()));
+    assert_equal(rt, port.reg_read(rt, 0x108), Ok(0));
 }
 
 fn reads_back<M: GuestMem, L: Ledger, R: Wait + Abort>(
@@ -87,7 +88,7 @@ fn reads_back<M: GuestMem, L: Ledger, R: Wait + Abort>(
 {
     let (mut port, device, _note) = open_port::<M, L, R>(rt, alloc, blank, setting, 16)?;
     assert_reads_back(rt, &mut port);
-    assert_eq!(rt; device.kept(rt), 8);
+    assert_equal(rt, device.kept(rt), 8);
     Some(())
 }
 
@@ -96,19 +97,20 @@ fn assert_refused<M: GuestMem, L: Ledger, R: Wait + Abort>(
     rt: &R,
     port: &mut LockedPort<M, L, IrqPort>,
 ) {
-    assert_eq!(rt; port.reg_read(rt, 0x4000), Err(Fault::BadOffset));
-    assert_eq!(rt; port.reg_write(rt, 0x101, 0), Err(Fault::BadOffset));
+    assert_equal(rt, port.reg_read(rt, 0x4000), Err(Fault::BadOffset));
+    assert_equal(rt, port.reg_write(rt, 0x101, 0), Err(Fault::BadOffset));
     assert!(rt; port.mem_read(rt, 4095, 2).is_err());
-    assert_eq!(rt; port.mem_write(rt, 4095, &[1, 2]), Err(Fault::BadRange));
+    assert_equal(rt, port.mem_write(rt, 4095, &[1, 2]), Err(Fault::BadRange));
     let mut two = [1, 2];
-    assert_eq!(rt;
+    assert_equal(
+        rt,
         port.mem_read_into(rt, 4095, &mut two),
-        Err(Fault::BadRange)
+        Err(Fault::BadRange),
     );
     assert_eq!(rt; two, [1, 2], "nothing was read");
     match port.mem_read(rt, 4095, 2049) {
         Ok(_) => panic!(rt; "too many bytes were read"),
-        Err(fault) => assert_eq!(rt; fault, Fault::TooLong),
+        Err(fault) => assert_equal(rt, fault, Fault::TooLong),
     }
 }
 
@@ -119,8 +121,8 @@ fn assert_too_long<M: GuestMem, L: Ledger, R: Wait + Abort>(
     fault: Fault,
 ) {
     let mut many = [1; 2049];
-    assert_eq!(rt; port.mem_write(rt, 4095, &many), Err(fault));
-    assert_eq!(rt; port.mem_read_into(rt, 4095, &mut many), Err(fault));
+    assert_equal(rt, port.mem_write(rt, 4095, &many), Err(fault));
+    assert_equal(rt, port.mem_read_into(rt, 4095, &mut many), Err(fault));
 }
 
 // The history has room for the six refused calls, beside the one that opened the function.
@@ -137,7 +139,7 @@ fn refuses<M: GuestMem, L: Ledger, R: Wait + Abort>(
     assert_too_long(rt, &mut port, Fault::TooLong);
     assert_eq!(rt; device.kept(rt), 1, "no call was made");
     assert_refused(rt, &mut port);
-    assert_eq!(rt; device.kept(rt), 7);
+    assert_equal(rt, device.kept(rt), 7);
     assert_full(rt, &mut port)
 }
 
@@ -146,7 +148,7 @@ fn assert_full<M: GuestMem, L: Ledger, R: Wait + Abort>(
     rt: &R,
     port: &mut LockedPort<M, L, IrqPort>,
 ) -> Option<()> {
-    assert_eq!(rt; port.reg_read(rt, 0x10), Err(Fault::HistoryFull));
+    assert_equal(rt, port.reg_read(rt, 0x10), Err(Fault::HistoryFull));
     assert_too_long(rt, port, Fault::TooLong);
     port.end();
     assert_too_long(rt, port, Fault::NotOpen);
@@ -161,12 +163,12 @@ fn assert_ended<M: GuestMem, L: Ledger, R: Wait + Abort>(
     port: &mut LockedPort<M, L, IrqPort>,
 ) {
     assert!(rt; !port.is_open());
-    assert_eq!(rt; port.reg_read(rt, 0x108), Err(Fault::NotOpen));
-    assert_eq!(rt; port.reg_write(rt, 0x108, 0), Err(Fault::NotOpen));
+    assert_equal(rt, port.reg_read(rt, 0x108), Err(Fault::NotOpen));
+    assert_equal(rt, port.reg_write(rt, 0x108, 0), Err(Fault::NotOpen));
     assert!(rt; port.mem_read(rt, 0, 1).is_err());
-    assert_eq!(rt; port.mem_read_into(rt, 0, &mut [0]), Err(Fault::NotOpen));
-    assert_eq!(rt; port.mem_write(rt, 0, &[1]), Err(Fault::NotOpen));
-    assert_eq!(rt; port.flr(rt), Err(Fault::NotOpen));
+    assert_equal(rt, port.mem_read_into(rt, 0, &mut [0]), Err(Fault::NotOpen));
+    assert_equal(rt, port.mem_write(rt, 0, &[1]), Err(Fault::NotOpen));
+    assert_equal(rt, port.flr(rt), Err(Fault::NotOpen));
 }
 
 // A message comes to the guest: vector 0 is enabled and raised by VTEIMS (0x108) and VTEICS (0x104).
@@ -174,11 +176,11 @@ fn assert_takes<M: GuestMem, L: Ledger, R: Wait + Abort>(
     rt: &R,
     port: &mut LockedPort<M, L, IrqPort>,
 ) {
-    assert_eq!(rt; port.reg_write(rt, 0x108, 1), Ok(()));
-    assert_eq!(rt; port.reg_write(rt, 0x104, 3), Ok(()));
-    assert_eq!(rt; port.peek_irqs(), 1);
-    assert_eq!(rt; port.take_irqs(), 1);
-    assert_eq!(rt; port.take_irqs(), 0);
+    assert_equal(rt, port.reg_write(rt, 0x108, 1), Ok(()));
+    assert_equal(rt, port.reg_write(rt, 0x104, 3), Ok(()));
+    assert_equal(rt, port.peek_irqs(), 1);
+    assert_equal(rt, port.take_irqs(), 1);
+    assert_equal(rt, port.take_irqs(), 0);
 }
 
 // A port hands its share, which counted two calls, and its tokens back, once.
@@ -187,9 +189,9 @@ fn assert_closes<M: GuestMem, L: Ledger, R: Wait + Abort>(
     port: &mut LockedPort<M, L, IrqPort>,
 ) -> Option<()> {
     let (share, tokens) = port.close()?;
-    assert_eq!(rt; share.caller(), 3);
-    assert_eq!(rt; share.count(), 2);
-    assert_eq!(rt; tokens.seat.pool(), 3);
+    assert_equal(rt, share.caller(), 3);
+    assert_equal(rt, share.count(), 2);
+    assert_equal(rt, tokens.seat.pool(), 3);
     assert!(rt; port.close().is_none(), "a port closes once");
     Some(())
 }
@@ -212,7 +214,7 @@ fn closes<M: GuestMem, L: Ledger, R: Wait + Abort>(
     assert_closes(rt, &mut port)?;
     assert!(rt; note.ended());
     assert_ended(rt, &mut port);
-    assert_eq!(rt; device.kept(rt), 3);
+    assert_equal(rt, device.kept(rt), 3);
     Some(())
 }
 

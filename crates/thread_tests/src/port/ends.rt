@@ -1,4 +1,5 @@
 use super::*;
+use test_support::assert_equal;
 
 // What its port's end makes of a note that waits for it.
 #[test]
@@ -26,8 +27,8 @@ fn a_port_that_is_dropped_ends(rt: HostRuntime) -> Result<(), Fail> {
 fn assert_closed<R: Abort>(rt: &R, port: &mut IrqPort) {
     assert!(rt; port.close().is_none());
     assert!(rt; !port.is_open());
-    assert_eq!(rt; port.peek_irqs(), 0);
-    assert_eq!(rt; port.take_irqs(), 0);
+    assert_equal(rt, port.peek_irqs(), 0);
+    assert_equal(rt, port.take_irqs(), 0);
 }
 
 // What it handed back: the message that stood stands still, and the note knows the end.
@@ -36,7 +37,7 @@ fn assert_tokens<R: Abort>(rt: &R, tokens: Tokens) {
         mut seat,
         note: mut own,
     } = tokens;
-    assert_eq!(rt; seat.pool(), 3);
+    assert_equal(rt, seat.pool(), 3);
     assert_eq!(rt; seat.take(), 2, "a closed port takes nothing");
     assert!(rt; own.ended());
 }
@@ -74,7 +75,7 @@ fn a_port_is_dropped_by_another_thread(rt: HostRuntime) -> Result<(), Fail> {
     device.raise(3, 4);
     assert!(rt; !note.ended());
     let worker = thread::spawn(&rt, move || port.take_irqs())?;
-    assert_eq!(rt; worker.join(&rt), 4);
+    assert_equal(&rt, worker.join(&rt), 4);
     assert!(rt; note.ended());
     Ok(())
 }

@@ -8,6 +8,7 @@ use std::marker::Brand;
 use std::sync::Wait;
 use std::sync::ledger::{Blank, Ledger};
 use std::thread::Threads;
+use test_support::assert_equal;
 
 // How often each guest writes and reads.
 const ROUNDS: u8 = 50;
@@ -64,7 +65,7 @@ fn serves_two<
             served = served.wrapping_add(1);
         }
     }
-    assert_eq!(rt; device.kept(&rt), 2 + 4 * usize::from(ROUNDS));
+    assert_equal(&rt, device.kept(&rt), 2 + 4 * usize::from(ROUNDS));
     Some(served)
 }
 
@@ -96,8 +97,8 @@ fn two_guests_have_ports_of_two_kinds(rt: HostRuntime) -> Result<(), Fail> {
         Box<dyn GuestPort + Send>,
         HostRuntime,
     >(rt, alloc, Blank::new(67), memories, line, ports);
-    assert_eq!(rt; served, Some(2));
-    assert_eq!(rt; notes.len(), 2);
+    assert_equal(&rt, served, Some(2));
+    assert_equal(&rt, notes.len(), 2);
     for mut note in notes {
         assert!(rt; note.ended(), "a port ends with its guest");
     }

@@ -1,4 +1,5 @@
 use super::*;
+use test_support::assert_equal;
 
 // A port that counts the takes of the port in it.
 #[derive(Drop)]
@@ -44,13 +45,13 @@ fn assert_see_their_own<R: Abort>(
 ) {
     for port in ports {
         let pool = port.pool();
-        assert_eq!(rt; port.take_irqs(), 0);
+        assert_equal(rt, port.take_irqs(), 0);
         if DeviceSeat::can_raise(pool, 2) {
             device.raise(pool, 2);
         }
         assert!(rt; port.is_open());
-        assert_eq!(rt; port.peek_irqs(), 2);
-        assert_eq!(rt; port.take_irqs(), 2);
+        assert_equal(rt, port.peek_irqs(), 2);
+        assert_equal(rt, port.take_irqs(), 2);
     }
 }
 
@@ -75,7 +76,7 @@ fn boxes_of_two_kinds_are_ports(rt: HostRuntime) -> Result<(), Fail> {
         }
         notes.push(note)?;
     }
-    assert_eq!(rt; ports.len(), 64);
+    assert_equal(&rt, ports.len(), 64);
     assert_see_their_own(&rt, &mut device, &mut ports);
     drop(ports);
     for mut note in notes {

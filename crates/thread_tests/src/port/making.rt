@@ -1,5 +1,5 @@
 use super::*;
-use test_support::all_room;
+use test_support::{all_room, assert_equal};
 
 // A message that was raised before is there for the next port where one is refused; a port that is made does not see it.
 fn try_port<R: Abort>(
@@ -12,17 +12,17 @@ fn try_port<R: Abort>(
     device.raise(pool, 4);
     match IrqPort::try_new(alloc, pool, seat) {
         Ok((mut port, mut note)) => {
-            assert_eq!(rt; port.peek_irqs(), 0);
+            assert_equal(rt, port.peek_irqs(), 0);
             device.raise(pool, 1);
-            assert_eq!(rt; port.take_irqs(), 1);
+            assert_equal(rt, port.take_irqs(), 1);
             assert!(rt; !note.ended());
             drop(port);
             assert!(rt; note.ended());
             Ok(())
         }
         Err(Refused { fault, mut seat }) => {
-            assert_eq!(rt; fault, Fault::NoMemory);
-            assert_eq!(rt; seat.peek(), 4);
+            assert_equal(rt, fault, Fault::NoMemory);
+            assert_equal(rt, seat.peek(), 4);
             Err(seat)
         }
     }

@@ -9,6 +9,7 @@ use std::marker::Brand;
 use std::sync::Arc;
 use std::sync::ledger::{Blank, Ledger};
 use std::thread::Threads;
+use test_support::assert_equal;
 use wire_pump::LockedDoor;
 
 // A door that folds the history where it is full, and gives the frame once more.
@@ -107,10 +108,10 @@ fn a_door_may_fold_and_try_again(rt: HostRuntime) -> Result<(), Fail> {
         memories,
         twins,
     ).ok_or("not made")?;
-    assert_eq!(rt; fed, FeedEnd::All);
+    assert_equal(&rt, fed, FeedEnd::All);
     assert_last(&rt, end);
-    assert_eq!(rt; counts.kept, 1);
-    assert_eq!(rt; counts.folded, 4);
-    assert_eq!(rt; counts.made, 5);
+    assert_equal(&rt, counts.kept, 1);
+    assert_equal(&rt, counts.folded, 4);
+    assert_equal(&rt, counts.made, 5);
     Ok(())
 }

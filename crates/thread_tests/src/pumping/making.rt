@@ -1,5 +1,5 @@
 use super::*;
-use test_support::all_room;
+use test_support::{all_room, assert_equal};
 
 // Makes a channel and tries it; or there was no memory.
 fn is_made<R: Abort + Wait>(rt: &R, alloc: Global, frame: &FrameBuf) -> bool {
@@ -9,7 +9,7 @@ fn is_made<R: Abort + Wait>(rt: &R, alloc: Global, frame: &FrameBuf) -> bool {
             true
         }
         Err(fault) => {
-            assert_eq!(rt; fault, Fault::NoMemory);
+            assert_equal(rt, fault, Fault::NoMemory);
             false
         }
     }

@@ -8,6 +8,7 @@ use guest_memory::{FlatMem, GuestMem};
 use irq_line::make;
 use std::marker::Brand;
 use std::sync::ledger::{Blank, Ledger};
+use test_support::assert_equal;
 
 // A door that gives the frames to a recorded device, as the pump.
 #[derive(Drop)]
@@ -46,7 +47,7 @@ fn pump_five<R: Abort + Wait, M: GuestMem, L: Ledger>(
         return None;
     };
     let frames = frames_of(alloc, 5)?;
-    assert_eq!(rt; feed(&mut sender, rt, &frames), FeedEnd::All);
+    assert_equal(rt, feed(&mut sender, rt, &frames), FeedEnd::All);
     let Ok(device) = Device::new(alloc, memories) else {
         return None;
     };
@@ -77,7 +78,7 @@ fn a_full_history_ends_the_pump(rt: HostRuntime) -> Result<(), Fail> {
         memories,
     ).ok_or("not made")?;
     assert_full(&rt, end, 3);
-    assert_eq!(rt; kept, 3);
-    assert_eq!(rt; count, 3);
+    assert_equal(&rt, kept, 3);
+    assert_equal(&rt, count, 3);
     Ok(())
 }

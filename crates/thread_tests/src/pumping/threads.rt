@@ -1,5 +1,6 @@
 use super::*;
 use std::thread::Threads;
+use test_support::assert_equal;
 
 // How many frames pass: each of the frames that a channel has room for is filled some times.
 const MANY: usize = 700;
@@ -23,9 +24,9 @@ fn feed_and_pump<R: Threads + Wait + Copy + Send + 'static>(
 #[test]
 fn frames_of_all_sizes_pass_in_order(rt: HostRuntime) -> Result<(), Fail> {
     let (fed, pumped, shelf) = feed_and_pump(&rt, rt.alloc(), MANY)?;
-    assert_eq!(rt; fed, FeedEnd::All);
+    assert_equal(&rt, fed, FeedEnd::All);
     assert_last(&rt, pumped);
-    assert_eq!(rt; shelf.frames.len(), MANY);
+    assert_equal(&rt, shelf.frames.len(), MANY);
     assert_frames(&rt, &shelf.frames, 0);
     Ok(())
 }
@@ -35,7 +36,7 @@ fn frames_of_all_sizes_pass_in_order(rt: HostRuntime) -> Result<(), Fail> {
 fn a_feed_ends_where_the_pump_does(rt: HostRuntime) -> Result<(), Fail> {
     let (fed, pumped, shelf) = feed_and_pump(&rt, rt.alloc(), 1)?;
     assert_full(&rt, pumped, 1);
-    assert_eq!(rt; shelf.frames.len(), 1);
+    assert_equal(&rt, shelf.frames.len(), 1);
     assert!(rt;
         matches!(fed, FeedEnd::Gone(sent) if 2 <= sent && sent <= 66),
         "{fed:?}"
@@ -64,9 +65,9 @@ fn pump_there<R: Threads + Wait + Copy + Send + 'static>(
 #[test]
 fn a_pump_runs_in_a_thread_of_its_own(rt: HostRuntime) -> Result<(), Fail> {
     let (fed, pumped, shelf) = pump_there(&rt, rt.alloc())?;
-    assert_eq!(rt; fed, FeedEnd::All);
+    assert_equal(&rt, fed, FeedEnd::All);
     assert_last(&rt, pumped);
-    assert_eq!(rt; shelf.frames.len(), MANY);
+    assert_equal(&rt, shelf.frames.len(), MANY);
     assert_frames(&rt, &shelf.frames, 0);
     Ok(())
 }

@@ -1,18 +1,18 @@
 use super::*;
 use std::alloc::Global;
-use test_support::all_room;
+use test_support::{all_room, assert_equal};
 use wire_frame::Fault;
 
 // Makes a line and tries it; or there was no memory.
 fn is_made<R: Abort>(rt: &R, alloc: Global) -> bool {
     match make(alloc) {
         Ok((mut device, mut guests)) => {
-            assert_eq!(rt; guests.len(), 64);
+            assert_equal(rt, guests.len(), 64);
             assert_stands_until_taken(rt, &mut device, &mut guests[3]);
             true
         }
         Err(fault) => {
-            assert_eq!(rt; fault, Fault::NoMemory);
+            assert_equal(rt, fault, Fault::NoMemory);
             false
         }
     }
@@ -24,7 +24,7 @@ fn is_made<R: Abort>(rt: &R, alloc: Global) -> bool {
 fn tells_of_refused_memory(rt: HostRuntime) -> Result<(), Fail> {
     let alloc = rt.alloc();
     let (mut device, mut guests) = make(alloc)?;
-    assert_eq!(rt; guests.len(), 64);
+    assert_equal(&rt, guests.len(), 64);
     let mut taken = all_room(alloc).ok_or("the heap does not run out")?;
     assert_stands_until_taken(&rt, &mut device, &mut guests[3]);
     let parts = taken.len();

@@ -8,7 +8,7 @@ use Rattle.wire_frame.specs.Bits.{has_bit}
 use Rattle.wire_frame.proofs.BitLemmas.{fewer_left, still_left, done_more}
 use Rattle.vf_unit.specs.Unit.{Closed, Change, size_of, given}
 use Rattle.device.specs.World.{offered}
-use Rattle.device.proofs.Arrivals.{offered_yes, offered_no, none_there, done_there, clear_bit, length-no_messages, silent_at}
+use Rattle.device.proofs.Arrivals.{offered_yes, offered_no, none_there, done_there, clear_bit, length-no_messages, no_messages_at}
 use Rattle.device.proofs.SizesStay.{size_set}
 use Rattle.device.proofs.switching.deliver_to_all.Goals as goal
 use Rattle.device.proofs.switching.deliver_to_all.Goals.{then-pool-units, else-pool-units}
@@ -24,9 +24,9 @@ loop-rest-init g c =
       sizes = refl;
       set = λ k bit. ap (λ n. nat_eq n 1) bit;
       left = λ k bit. refl;
-      silent = λ k bit. silent_at _ c.none-raised.ensures k;
+      silent = λ k bit. no_messages_at _ c.none-raised.ensures k;
       done = λ k below clear. ap (λ e. e.function) (sym (offered_no (has_bit c.args.pools k) c.args.loopback c.args.frame.now (get_or old k (Closed 0)) (clear_bit c.args.pools k clear)));
-      told = λ k below clear. silent_at _ c.none-raised.ensures k ∙ ap (λ e. e.messages) (sym (offered_no (has_bit c.args.pools k) c.args.loopback c.args.frame.now (get_or old k (Closed 0)) (clear_bit c.args.pools k clear)));
+      told = λ k below clear. no_messages_at _ c.none-raised.ensures k ∙ ap (λ e. e.messages) (sym (offered_no (has_bit c.args.pools k) c.args.loopback c.args.frame.now (get_or old k (Closed 0)) (clear_bit c.args.pools k clear)));
     }
 
 pub loop-rest-smaller : goal.loop-rest-smaller

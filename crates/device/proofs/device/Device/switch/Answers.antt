@@ -4,8 +4,8 @@ use Rattle.std.specs.Vec.{with_items}
 use Rattle.std.proofs.lemmas.List.{with_items_is}
 use Rattle.circular_buffer.specs.Buffer.{keep_last}
 use Rattle.local_switch.specs.Switch.{leaves}
-use Rattle.device.specs.World.{World, switched, all_arrived, told}
-use Rattle.device.proofs.Arrivals.{all_arrived_as, told_as, switched_as}
+use Rattle.device.specs.World.{World, switched, all_arrived, all_raised}
+use Rattle.device.proofs.Arrivals.{all_arrived_as, all_raised_as, switched_as}
 use Rattle.device.proofs.device.Device.switch.Goals as goal
 
 pub returns-clause-world : goal.returns-clause-world
@@ -30,7 +30,7 @@ returns-clause-messages g c =
     let s = c.self.inside.tables in
     let from = c.args.from in
     let frame = c.args.frame.now in
-    let heard : c.deliver_to_all.result ≡ told s c.deref_mut.result.now from frame =
-    told_as s c.deref_mut.result.now c.deliver_to_all.result from frame c.route-route.result.local c.is_looped-loopback.result
+    let heard : c.deliver_to_all.result ≡ all_raised s c.deref_mut.result.now from frame =
+    all_raised_as s c.deref_mut.result.now c.deliver_to_all.result from frame c.route-route.result.local c.is_looped-loopback.result
     c.is_looped-loopback.ensures c.route-route.ensures.local c.deliver_to_all.ensures.pools c.deliver_to_all.ensures.messages in
-    rw (← c.self.view_is) (heard ∙ ap (λ fs. told s fs from frame) c.deref_mut.ensures.value)
+    rw (← c.self.view_is) (heard ∙ ap (λ fs. all_raised s fs from frame) c.deref_mut.ensures.value)

@@ -1,0 +1,265 @@
+//! What an event of its own does to one function by itself: a call for each kind of event, and [`act`], which takes any.
+//!
+//! Each refusal is decided here, but for a function that is not there. The first that fits of a function that is closed, one
+//! that is open already, a bad offset, an access that is too long and one past the end of the memory is told.
+ghost use Rattle.std.specs.Prelude.{◌≡◌, ◌+◌, ◌≤◌, ℕ, length, replicate, nat_lt, true, IfNone, OnErr, if◌then◌else◌};
+ghost use Rattle.vf_unit.specs.Unit.{size_of, is_open, has_range, bytes_at};
+ghost use Rattle.device.specs.declared.event.Event.{Event};
+ghost use Rattle.device.specs.Act.{is_bad_offset, refusal, act};
+ghost use Rattle.device.specs.Outcome.{IsOf, issued, reply_of, done_or_refused, value_or_refused, bytes_or_refused};
+ghost use Rattle.device.specs.Request.{event_of};
+
+use crate::bytes::{MOST_BYTES, MemSlice};
+use crate::outcome::{Acted, Outcome};
+use crate::request::Request;
+use crate::span::Span;
+use guest_memory::GuestMem;
+use irq_causes::Vectors;
+use vf_unit::VfUnit;
+use wire_frame::Fault;
+
+/// How many bytes the register space of a virtual function has.
+pub const VF_SPACE: u32 = 0x4000;
+/// How many bytes the register space of the physical function has.
+pub const PF_SPACE: u32 = 0x2_0000;
+
+/// Whether no register can stand at the offset, in a register space of that many bytes.
+#[inline]
+pub fn is_bad_offset(space: u32, offset: u32) -> bool
+    ensures { result ≡ is_bad_offset space offset }
+{
+    !offset.is_multiple_of(4) || offset >= space
+}
+
+// Why an event is refused for this fault: the fault itself, where the function is open.
+#[inline]
+fn unless_closed<M: GuestMem>(unit: &VfUnit<M>, fault: Fault) -> Fault
+    ensures { result ≡ (if is_open unit.now then fault else Fault.NotOpen) }
+{
+    if unit.is_open() {
+        fault
+    } else {
+        Fault::NotOpen
+    }
+}
+
+// Opens a function.
+#[tactic(auto, unfolding(crate::specs::Act::act, crate::specs::Act::refusal))]
+pub(crate) fn open<M: GuestMem>(unit: &mut VfUnit<M>) -> Result<(), Fault>
+    ensures function { (p : ℕ) → unit.new ≡ (act unit.old (Event.Open p)).function }
+    ensures reply { (p : ℕ) → (act unit.old (Event.Open p)).reply ≡ done_or_refused result }
+    ensures silent { (p : ℕ) → (act unit.old (Event.Open p)).messages ≡ 0 }
+    ensures size { size_of unit.new ≡ size_of unit.old }
+{
+    if unit.is_open() {
+        return Err(Fault::AlreadyOpen);
+    }
+    unit.open();
+    Ok(())
+}
+
+// Closes a function.
+#[tactic(auto, unfolding(crate::specs::Act::act, crate::specs::Act::refusal))]
+pub(crate) fn end<M: GuestMem>(unit: &mut VfUnit<M>) -> Result<(), Fault>
+    ensures function { (p : ℕ) → unit.new ≡ (act unit.old (Event.End p)).function }
+    ensures reply { (p : ℕ) → (act unit.old (Event.End p)).reply ≡ done_or_refused result }
+    ensures silent { (p : ℕ) → (act unit.old (Event.End p)).messages ≡ 0 }
+    ensures size { size_of unit.new ≡ size_of unit.old }
+{
+    if !unit.is_open() {
+        return Err(Fault::NotOpen);
+    }
+    unit.end();
+    Ok(())
+}
+
+// Resets a function: a function-level reset (SR-IOV 1.1, section 2.2.2).
+#[tactic(auto, unfolding(crate::specs::Act::act, crate::specs::Act::refusal))]
+pub(crate) fn flr<M: GuestMem>(unit: &mut VfUnit<M>) -> Result<(), Fault>
+    ensures function { (p : ℕ) → unit.new ≡ (act unit.old (Event.Flr p)).function }
+    ensures reply { (p : ℕ) → (act unit.old (Event.Flr p)).reply ≡ done_or_refused result }
+    ensures silent { (p : ℕ) → (act unit.old (Event.Flr p)).messages ≡ 0 }
+    ensures size { size_of unit.new ≡ size_of unit.old }
+{
+    if !unit.is_open() {
+        return Err(Fault::NotOpen);
+    }
+    unit.reset();
+    Ok(())
+}
+
+// Reads a register.
+#[inline]
+#[tactic(auto, unfolding(crate::specs::Act::act, crate::specs::Act::refusal, vf_unit::specs::Unit::read_of, vf_unit::specs::Unit::after_read_of))]
+pub(crate) fn vf_read<M: GuestMem>(unit: &mut VfUnit<M>, offset: u32) -> Result<u32, Fault>
+    ensures function { (p : ℕ) → unit.new ≡ (act unit.old (Event.VfRead p offset)).function }
+    ensures reply { (p : ℕ)
+        → (act unit.old (Event.VfRead p offset)).reply ≡ value_or_refused result }
+    ensures silent { (p : ℕ) → (act unit.old (Event.VfRead p offset)).messages ≡ 0 }
+    ensures size { size_of unit.new ≡ size_of unit.old }
+{
+    if is_bad_offset(VF_SPACE, offset) {
+        return Err(unless_closed(unit, Fault::BadOffset));
+    }
+    match unit.reg_read(offset) {
+        Some(value) => Ok(value),
+        None => Err(Fault::NotOpen),
+    }
+}
+
+// Writes a register; the vectors whose messages this issues.
+#[inline]
+#[tactic(auto, unfolding(crate::specs::Act::act, crate::specs::Act::refusal))]
+pub(crate) fn vf_write<M: GuestMem>(
+    unit: &mut VfUnit<M>,
+    offset: u32,
+    value: u32,
+) -> Result<Vectors, Fault>
+    ensures function { (p : ℕ) → unit.new ≡ (act unit.old (Event.VfWrite p offset value)).function }
+    ensures reply { (p : ℕ)
+        → (act unit.old (Event.VfWrite p offset value)).reply ≡ done_or_refused result }
+    ensures messages { (p : ℕ)
+        → (act unit.old (Event.VfWrite p offset value)).messages ≡ issued result }
+    ensures size { size_of unit.new ≡ size_of unit.old }
+{
+    if is_bad_offset(VF_SPACE, offset) {
+        return Err(unless_closed(unit, Fault::BadOffset));
+    }
+    match unit.reg_write(offset, value) {
+        Some(messages) => Ok(Vectors::from_bits(messages)),
+        None => Err(Fault::NotOpen),
+    }
+}
+
+// Why so many bytes of the memory from an address on are not read, if they are not.
+#[inline]
+#[tactic(auto, unfolding(crate::specs::Act::refusal))]
+fn read_refusal<M: GuestMem>(unit: &VfUnit<M>, at: u64, count: usize) -> Option<Fault>
+    ensures refusal { (p : ℕ) → refusal unit.now (Event.MemRead p at count) ≡ result }
+    ensures short { IfNone result (count ≤ 2048) }
+    ensures inside { IfNone result (has_range unit.now at count ≡ true) }
+{
+    if !unit.is_open() {
+        Some(Fault::NotOpen)
+    } else if count > MOST_BYTES {
+        Some(Fault::TooLong)
+    } else if passes_end(unit.memory_size(), at, count as u64) {
+        Some(Fault::BadRange)
+    } else {
+        None
+    }
+}
+
+// Whether the bytes from an address on pass the end of a memory of that size.
+#[inline]
+fn passes_end(size: u64, at: u64, count: u64) -> bool
+    ensures { result ≡ nat_lt size (at + count) }
+{
+    at > size || count > size - at
+}
+
+// Finds the bytes of the memory that an event reads.
+#[inline]
+#[tactic(auto, unfolding(crate::specs::Act::act))]
+pub(crate) fn find<M: GuestMem>(unit: &VfUnit<M>, pool: u8, at: u64, count: u16) -> Outcome
+    ensures function { (act unit.now (Event.MemRead pool at count)).function ≡ unit.now }
+    ensures reply { (act unit.now (Event.MemRead pool at count)).reply ≡ reply_of unit.now result }
+    ensures silent { (act unit.now (Event.MemRead pool at count)).messages ≡ 0 }
+    ensures own { IsOf pool result }
+{
+    match read_refusal(unit, at, usize::from(count)) {
+        Some(fault) => Outcome::Refused(fault),
+        None => Outcome::Bytes(Span::new(pool, at, count)),
+    }
+}
+
+// Copies bytes of the memory into `out`.
+#[inline]
+#[tactic(auto, unfolding(crate::specs::Act::act))]
+pub(crate) fn mem_read<M: GuestMem>(unit: &VfUnit<M>, at: u64, out: &mut [u8]) -> Result<(), Fault>
+    ensures function { (p : ℕ)
+        → (act unit.now (Event.MemRead p at (length out.old))).function ≡ unit.now }
+    ensures reply { (p : ℕ)
+        → (act unit.now (Event.MemRead p at (length out.old))).reply
+        ≡ bytes_or_refused result out.new }
+    ensures silent { (p : ℕ) → (act unit.now (Event.MemRead p at (length out.old))).messages ≡ 0 }
+    ensures unchanged { OnErr result (out.new ≡ out.old) }
+{
+    match read_refusal(unit, at, out.len()) {
+        Some(fault) => Err(fault),
+        None => {
+            unit.mem_read(at, out);
+            Ok(())
+        }
+    }
+}
+
+// Writes bytes of the memory.
+#[inline]
+#[tactic(auto, unfolding(crate::specs::Act::act, crate::specs::Act::refusal, vf_unit::specs::Unit::memory_written))]
+pub(crate) fn mem_write<M: GuestMem>(
+    unit: &mut VfUnit<M>,
+    at: u64,
+    written: MemSlice<'_>,
+) -> Result<(), Fault>
+    ensures function { (p : ℕ)
+        → unit.new ≡ (act unit.old (Event.MemWrite p at written.entry.bytes.now)).function }
+    ensures reply { (p : ℕ)
+        → (act unit.old (Event.MemWrite p at written.entry.bytes.now)).reply
+        ≡ done_or_refused result }
+    ensures silent { (p : ℕ)
+        → (act unit.old (Event.MemWrite p at written.entry.bytes.now)).messages ≡ 0 }
+    ensures size { size_of unit.new ≡ size_of unit.old }
+{
+    if unit.mem_write(at, written.bytes()) {
+        Ok(())
+    } else {
+        Err(unless_closed(unit, Fault::BadRange))
+    }
+}
+
+/// Fills `out` with bytes of a function's memory from an address on, and with zeros where it is closed or they pass the end
+/// of the memory.
+#[inline]
+#[tactic(auto, using(crate::proofs::Inside::read_over_zeros, crate::proofs::Inside::read_nowhere))]
+pub fn read_or_zero<M: GuestMem>(unit: &VfUnit<M>, at: u64, out: &mut [u8])
+    ensures { out.new ≡ bytes_at unit.now at (replicate {A = ℕ} (length out.old) 0) }
+{
+    if !unit.mem_read(at, out) {
+        out.fill(0);
+    }
+}
+
+/// What an event of its own, but for a service, does to a function. Any other event does nothing to it.
+#[tactic(auto, unfolding(crate::specs::Act::act, crate::specs::Act::refusal))]
+pub fn act<M: GuestMem>(unit: &mut VfUnit<M>, request: Request<'_>) -> Acted
+    ensures function { unit.new ≡ (act unit.old (event_of request.entry)).function }
+    ensures reply { reply_of unit.new result.outcome
+        ≡ (act unit.old (event_of request.entry)).reply }
+    ensures messages { result.vectors ≡ (act unit.old (event_of request.entry)).messages }
+    ensures size { size_of unit.new ≡ size_of unit.old }
+{
+    match request {
+        Request::Open(_) => Acted::done_or_refused(open(unit)),
+        Request::End(_) => Acted::done_or_refused(end(unit)),
+        Request::Flr(_) => Acted::done_or_refused(flr(unit)),
+        Request::VfRead(_, offset) => match vf_read(unit, offset) {
+            Ok(value) => Acted::silent(Outcome::Value(value)),
+            Err(fault) => Acted::silent(Outcome::Refused(fault)),
+        },
+        Request::VfWrite(_, offset, value) => match vf_write(unit, offset, value) {
+            Ok(vectors) => Acted {
+                outcome: Outcome::Done,
+                vectors,
+            },
+            Err(fault) => Acted::silent(Outcome::Refused(fault)),
+        },
+        Request::MemRead(pool, at, count) => Acted::silent(find(unit, pool, at, count)),
+        Request::MemWrite(_, at, written) => Acted::done_or_refused(mem_write(unit, at, written)),
+        _ => Acted::silent(if unit.is_open() {
+            Outcome::Idle
+        } else {
+            Outcome::Refused(Fault::NotOpen)
+        }),
+    }
+}

@@ -1,0 +1,119 @@
+//! One function and its own settings.
+ghost use Rattle.std.specs.Prelude.{◌≡◌, ℕ, length, replicate, Some, IfOk, IfErr};
+ghost use Rattle.std.specs.Option.{option_map};
+ghost use Rattle.vf_unit.specs.Unit.{bytes_at};
+ghost use Rattle.device.specs.Request.{event_of};
+ghost use Rattle.device.specs.Lone.{alone, moved, shown, OwnEvent, Offer};
+ghost use Rattle.lone.specs.Kept.{item_of, observation_of};
+
+use crate::item::{Given, Seen};
+use device::act::{act, read_or_zero};
+use device::{Request, Span, serve_queue};
+use guest_memory::GuestMem;
+use irq_causes::Vectors;
+use pool_filter::Own;
+use std::alloc::Global;
+use std::marker::Model;
+use vf_unit::VfUnit;
+use wire_frame::{Fault, FrameBuf, FrameLimit};
+
+/// One function and its own settings.
+#[derive(Drop)]
+pub struct Lone<M: GuestMem> {
+    limit: FrameLimit,
+    unit: VfUnit<M>,
+    settings: Own,
+    // a frame that is sent is put together here
+    frame: FrameBuf,
+}
+
+impl<M: GuestMem> Model for Lone<M> {
+    ghost use Rattle.device.specs.Lone.{Lone};
+
+    ghost Value = { Lone };
+
+    ghost view = { λ l. record { limit = l.limit; function = l.unit; settings = l.settings } };
+}
+
+impl<M: GuestMem> Lone<M> {
+    /// A closed function over this memory that has no settings. Its frames have up to `limit` bytes. [`Fault::NoMemory`]
+    /// comes only where the host refused the room.
+    pub fn new(alloc: Global, memory: M, limit: FrameLimit) -> Result<Lone<M>, Fault>
+        ensures ok { IfOk result (λ l. l ≡ alone limit (length (M.bytes memory))) }
+        ensures err { IfErr result (λ e. e ≡ Fault.NoMemory) }
+    {
+        let Ok(unit) = VfUnit::new(alloc, memory) else {
+            return Err(Fault::NoMemory);
+        };
+        Ok(Lone {
+            limit,
+            unit,
+            settings: Own::none(),
+            frame: FrameBuf::blank(),
+        })
+    }
+
+    /// Takes what it is given, and tells what is seen of it.
+    pub fn take(&mut self, given: Given<'_>) -> Option<Seen>
+        ensures lone { self.new ≡ moved self.old (item_of given.entry) }
+        ensures seen { option_map (observation_of self.new.function) result
+            ≡ shown self.old (item_of given.entry) }
+    {
+        match given {
+            Given::OwnEvent(request) => Some(self.own_event(request)),
+            Given::NewSettings(settings) => {
+                self.settings.refill(settings);
+                None
+            }
+            Given::Gone => {
+                self.unit.end();
+                self.settings.clear();
+                None
+            }
+            Given::Offer(frame, looped) => self.offer(frame, looped),
+        }
+    }
+
+    /// Fills `out` with the bytes of its memory from a span's address on. Where it is closed it has zeros, and so are bytes
+    /// past the end of the memory.
+    pub fn read_span(&self, span: Span, out: &mut [u8])
+        ensures { out.new
+            ≡ bytes_at self.now.function span.at (replicate {A = ℕ} (length out.old) 0) }
+    {
+        read_or_zero(&self.unit, span.at(), out);
+    }
+
+    // An event of its own.
+    fn own_event(&mut self, request: Request<'_>) -> Seen
+        ensures lone { self.new ≡ moved self.old (OwnEvent (event_of request.entry)) }
+        ensures seen { Some (observation_of self.new.function result)
+            ≡ shown self.old (OwnEvent (event_of request.entry)) }
+    {
+        let acted = match request {
+            Request::Serve(_, queue) => serve_queue(
+                &self.settings,
+                self.limit,
+                &mut self.unit,
+                queue,
+                &mut self.frame,
+            ),
+            _ => act(&mut self.unit, request),
+        };
+        Seen::Replied(acted.outcome, acted.vectors)
+    }
+
+    // A frame, which comes in where the settings say that the function may receive.
+    fn offer(&mut self, frame: &FrameBuf, looped: bool) -> Option<Seen>
+        ensures lone { self.new ≡ moved self.old (Offer frame.now looped) }
+        ensures seen { option_map (observation_of self.new.function) result
+            ≡ shown self.old (Offer frame.now looped) }
+    {
+        if !self.settings.may_receive() {
+            return None;
+        }
+        match self.unit.deliver(frame, looped) {
+            0 => None,
+            messages => Some(Seen::Interrupted(Vectors::from_bits(messages))),
+        }
+    }
+}

@@ -1,4 +1,5 @@
 //! Values from outside: what events leave for a pool, and what a function by itself makes of it.
+use crate::compare::{assert_equal, assert_equal_at};
 use device::{Device, MemSlice, Outcome, Queue, Request, Span};
 use guest_memory::FlatMem;
 use lone::follow::follow;
@@ -7,7 +8,7 @@ use pool_filter::{Own, Tables};
 use std::alloc::Global;
 use std::process::Abort;
 use std::test::Fail;
-use test_support::{all_room, assert_equal, assert_equal_at};
+use test_support::all_room;
 use wire_frame::{Fault, FrameBuf, FrameLimit, PoolId};
 
 // Registers of the physical function, and what they are written: functions 0 and 1 have addresses that end with 10 and 11,

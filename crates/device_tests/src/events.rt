@@ -1,10 +1,10 @@
 //! Values from outside: events as a host would hand them in, and what is answered.
+use crate::compare::assert_equal;
 use device::{Answer, Device, Event, MemBytes, Queue, Reply};
 use guest_memory::{FlatMem, GuestMem};
 use std::alloc::{AllocError, Global};
 use std::process::Abort;
 use std::test::Fail;
-use test_support::assert_equal;
 use wire_frame::{Fault, FrameBuf};
 
 mod calls;

@@ -6,6 +6,8 @@
 #[cfg(test)]
 mod alone;
 #[cfg(test)]
+mod compare;
+#[cfg(test)]
 mod events;
 #[cfg(test)]
 mod kept;

@@ -1,6 +1,6 @@
 //! Words as a driver writes them, and what the tables then say.
+use crate::compare::{assert_equal, assert_equal_at};
 use addr_tables::AddrTables;
-use test_support::{assert_equal, assert_equal_at};
 use wire_frame::{Mac, PoolId};
 
 /// The first and the last entry hold one address, 02:00:00:00:00:77, for pools 1 and 34; an entry that is not valid holds

@@ -1,9 +1,9 @@
 //! Words as a driver writes them, frames as they come from the wire, and which pools take them.
+use crate::compare::{assert_equal, assert_equal_at};
 use bitflags::Flags;
 use pool_filter::{Own, PoolFlags, Tables, accept_mask};
 use std::process::Abort;
 use std::test::Fail;
-use test_support::{assert_equal, assert_equal_at};
 use wire_frame::{FrameBuf, Mac, PoolId, PortVlan, Vid};
 
 // Settings as a device is made, with some words written.

@@ -1,6 +1,6 @@
 //! Keys that are put, changed and taken out, and what is then found.
+use crate::compare::assert_equal;
 use pool_index::PoolIndex;
-use test_support::assert_equal;
 
 /// Three keys, put in no order. One of them gets other pools, and then one is taken out; a key that is not kept has no
 /// pools, and taking it out changes nothing.

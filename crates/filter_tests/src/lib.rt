@@ -7,6 +7,8 @@
 #[cfg(test)]
 mod addresses;
 #[cfg(test)]
+mod compare;
+#[cfg(test)]
 mod filter;
 #[cfg(test)]
 mod index;

@@ -1,8 +1,8 @@
 //! Frames that pools try to send, and the checks that stop them.
+use crate::compare::{assert_equal, assert_equal_at};
 use anti_spoof::{honest, honest_by};
 use pool_filter::{Own, Tables};
 use std::test::Fail;
-use test_support::{assert_equal, assert_equal_at};
 use wire_frame::{FrameBuf, PoolId};
 
 // A frame of 60 bytes to 02:00:00:00:00:04, with a VLAN tag or none.

@@ -1,8 +1,8 @@
 //! Routes from outside: frames as tenants and the wire send them, under register words as a driver writes them.
+use crate::compare::assert_equal;
 use local_switch::*;
 use pool_filter::Tables;
 use std::test::Fail;
-use test_support::assert_equal;
 use wire_frame::{FrameBuf, PoolId};
 
 // Pools 3, 4 and 5 have the addresses 02:00:00:00:00:03 to 05 and take broadcast; all pools may receive.

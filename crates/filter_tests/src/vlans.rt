@@ -1,5 +1,5 @@
 //! Words as a driver writes them, and what the tables then say.
-use test_support::{assert_equal, assert_equal_at};
+use crate::compare::{assert_equal, assert_equal_at};
 use vlan_table::VlanTable;
 use wire_frame::{PoolId, Vid};
 

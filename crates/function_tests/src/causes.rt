@@ -1,8 +1,8 @@
 //! What a driver sees of the interrupt registers, worked out by hand from what the datasheet says of each register; and sets
 //! of messages as words and as text.
+use crate::compare::{assert_equal, assert_equal_at};
 use irq_causes::{Causes, Messages, Vectors};
 use std::test::Fail;
-use test_support::{assert_equal, assert_equal_at};
 use wire_frame::PoolId;
 
 // Vector 1 is enabled and vector 0 is not when both causes are set; then vector 0 is cleared automatically.

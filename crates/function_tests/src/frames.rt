@@ -1,6 +1,6 @@
 //! Values from outside: frames as 802.1Q and the receive address registers lay them out, limits, texts.
+use crate::compare::{assert_equal, assert_equal_at};
 use std::test::Fail;
-use test_support::{assert_equal, assert_equal_at};
 use wire_frame::*;
 
 // A frame to 02:00:00:00:00:03 from 02:00:00:00:00:99 with VLAN id 100 at priority 5, of type IPv4.

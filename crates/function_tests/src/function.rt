@@ -30,8 +30,8 @@ enum Step {
     Reset,
 }
 
+use crate::compare::{assert_equal, assert_equal_at};
 use Step::*;
-use test_support::{assert_equal, assert_equal_at};
 
 // That many bytes and more, of which the first are these.
 fn filled(head: &[u8], fill: u8) -> [u8; 9018] {

@@ -1,9 +1,9 @@
 //! What the lender sees of it.
 ghost use Rattle.std.specs.Prelude.{◌≡◌, ◌≤◌, length};
 
+use crate::compare::assert_equal;
 use guest_memory::GuestMem;
 use lent_memory::LentMem;
-use test_support::assert_equal;
 
 // Writes four bytes of the memory, and reads six around them.
 fn write_and_read<M: GuestMem>(memory: &mut M, out: &mut [u8; 6])

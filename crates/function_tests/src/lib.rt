@@ -8,6 +8,8 @@
 #[cfg(test)]
 mod causes;
 #[cfg(test)]
+mod compare;
+#[cfg(test)]
 mod frames;
 #[cfg(test)]
 mod function;

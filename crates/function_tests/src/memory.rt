@@ -1,9 +1,10 @@
 //! Values from outside: the limits of a memory's size, and the bytes of words.
+use crate::compare::{assert_equal, assert_equal_at};
 use guest_memory::*;
 use std::alloc::Global;
 use std::process::Abort;
 use std::test::Fail;
-use test_support::{all_room, assert_equal, assert_equal_at};
+use test_support::all_room;
 use wire_frame::Fault;
 
 mod pages;

@@ -4,6 +4,7 @@
 ghost use Rattle.std.specs.Prelude.{◌≡◌, ◌+◌, ◌≤◌, length, IfOk};
 ghost use Rattle.rings.specs.Ring.{LiesInside};
 
+use crate::compare::{assert_equal, assert_equal_at};
 use guest_memory::{FlatMem, GuestMem, read_bytes, read_word, write_word};
 use rings::{Ring, RingRegister};
 use rx_desc::laws::pieces_are_the_only_cut;
@@ -11,7 +12,6 @@ use rx_desc::{Placed, RxConfig, place};
 use std::alloc::Global;
 use std::process::Abort;
 use std::test::Fail;
-use test_support::{assert_equal, assert_equal_at};
 use wire_frame::{Fault, FrameBuf};
 
 /// The size of the memory.

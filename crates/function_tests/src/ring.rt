@@ -1,6 +1,6 @@
 //! Values from outside: rings as drivers lay them out, with the limits of the 82599's registers.
+use crate::compare::{assert_equal, assert_equal_at};
 use rings::*;
-use test_support::{assert_equal, assert_equal_at};
 
 // A ring of 8 descriptors at 0x1000 with this head and tail, turned on in a memory of 64 KiB.
 fn ring_of_eight(head: u32, tail: u32) -> Ring {

@@ -3,13 +3,13 @@
 ghost use Rattle.std.specs.Prelude.{◌≡◌, length, IfOk};
 ghost use Rattle.rings.specs.Ring.{LiesInside};
 
+use crate::compare::{assert_equal, assert_equal_at};
 use guest_memory::{FlatMem, GuestMem, read_word, write_bytes, write_words};
 use rings::{Ring, RingRegister};
 use std::alloc::Global;
 use std::iter;
 use std::process::Abort;
 use std::test::Fail;
-use test_support::{assert_equal, assert_equal_at};
 use tx_desc::{Fetched, Pending, Progress, fetch, fetch_into};
 use wire_frame::{Fault, FrameBuf, FrameLimit, PortVlan};
 

@@ -1,10 +1,10 @@
 //! Values from outside: what texts say by the grammar, written out by hand, and readers and heaps that give out.
+use crate::compare::assert_equal;
 use device::{Queue, Request};
 use script::{Fault, Room, Script};
 use std::alloc::{AllocError, Global};
 use std::process::Abort;
 use std::test::Fail;
-use test_support::assert_equal;
 
 mod bad_lines;
 mod breaking;

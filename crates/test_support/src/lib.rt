@@ -1,9 +1,7 @@
-//! What the tests of several crates share: a heap that is used up, and comparisons.
+//! What the tests of several crates share: a heap that is used up.
 #![tactic(auto)]
 
 use std::alloc::Global;
-use std::fmt::Debug;
-use std::process::Abort;
 
 /// Takes all the room that the host gives, in ever smaller parts, down to single bytes, so that no maker finds any. It gives up
 /// at a heap that does not run out, as that of a sanitizer; there, let the allocations fail in turn.
@@ -22,20 +20,4 @@ pub fn all_room(alloc: Global) -> Option<Vec<Vec<u8>>> {
         size /= 2;
     }
     Some(taken)
-}
-
-/// Fails a test where what it got is not what is due, and prints both. It promises nothing, so a test's next lines are checked
-/// without what was compared so far.
-pub fn assert_equal<T: PartialEq + Debug + Drop>(rt: &impl Abort, got: T, due: T) {
-    assert_eq!(rt; got, due);
-}
-
-/// The same of one case out of several, which it prints too.
-pub fn assert_equal_at<T: PartialEq + Debug + Drop, C: Debug + Drop>(
-    rt: &impl Abort,
-    got: T,
-    due: T,
-    case: C,
-) {
-    assert_eq!(rt; got, due, "{:?}", case);
 }

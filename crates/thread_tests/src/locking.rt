@@ -2,6 +2,7 @@
 ghost use Rattle.std.specs.Prelude.{◌≡◌, IfOk};
 ghost use Rattle.device_lock.specs.Made.{IsFresh};
 
+use crate::compare::{assert_equal, assert_equal_at};
 use device::{Answer, Device, Event, MemBytes, MemSlice, Outcome, Queue, Reply, Request, Taken};
 use device_lock::{CALLERS, Full, LockedDevice, PF, PUMP, Recorded, SERVICE, Share, Shares, Tally};
 use guest_memory::FlatMem;
@@ -14,7 +15,6 @@ use std::sync::ledger::{Blank, Ledger};
 use std::test::Fail;
 use std::thread;
 use std::thread::Threads;
-use test_support::{assert_equal, assert_equal_at};
 use wire_frame::{Fault, FrameBuf};
 
 mod callers;

@@ -2,13 +2,13 @@
 //! memory that is refused.
 ghost use Rattle.std.specs.Prelude.{◌≡◌, MatchOption};
 
+use crate::compare::assert_equal;
 use guest_port::{EndNote, GuestPort, IrqPort, LockedPort, Refused, Tokens};
 use irq_line::{DeviceSeat, GuestSeat, make};
 use std::alloc::Global;
 use std::process::Abort;
 use std::test::Fail;
 use std::thread;
-use test_support::assert_equal;
 use wire_frame::Fault;
 
 mod calls;

@@ -3,12 +3,12 @@ ghost use Rattle.std.specs.Prelude.{◌≡◌, ◌++◌, ◌∷◌, [], List, ma
 ghost use Rattle.device.specs.declared.event.Event.{Event};
 ghost use Rattle.device.specs.declared.event.Event.TheVariants.{Wire};
 
+use crate::compare::assert_equal;
 use std::alloc::{AllocError, Global};
 use std::process::Abort;
 use std::sync::Wait;
 use std::test::Fail;
 use std::thread;
-use test_support::assert_equal;
 use wire_frame::{Fault, FrameBuf};
 use wire_pump::{Door, FeedEnd, FrameReceiver, FrameSender, PumpEnd, channel, feed, pump};
 

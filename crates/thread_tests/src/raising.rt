@@ -1,9 +1,9 @@
 //! What a driver sees of a line, worked out by hand; and what no contract says: threads, and memory that is refused.
+use crate::compare::{assert_equal, assert_equal_at};
 use irq_line::{DeviceSeat, GuestSeat, make};
 use std::process::Abort;
 use std::test::Fail;
 use std::thread;
-use test_support::{assert_equal, assert_equal_at};
 
 mod making;
 

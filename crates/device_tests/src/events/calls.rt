@@ -1,8 +1,8 @@
 //! Each call by name, once as whoever embeds a device makes it.
 use super::*;
+use crate::compare::assert_equal;
 use device::{MemSlice, Outcome, Request, Span};
 use irq_causes::Messages;
-use test_support::assert_equal;
 use wire_frame::PoolId;
 
 // The vectors that a pool got.

@@ -1,5 +1,6 @@
 use super::*;
-use test_support::{all_room, assert_equal};
+use crate::compare::assert_equal;
+use test_support::all_room;
 
 #[test]
 fn takes_1_to_64_memories_of_valid_sizes(rt: HostRuntime) -> Result<(), Fail> {

@@ -1,6 +1,6 @@
+use crate::compare::assert_equal;
 use device::wire_out::WireOut;
 use std::test::Fail;
-use test_support::assert_equal;
 use wire_frame::FrameBuf;
 
 // A frame of that many bytes, made anew for each number: its number first, and then bytes that count up from it.

@@ -1,5 +1,5 @@
 use super::*;
-use test_support::{assert_equal, assert_equal_at};
+use crate::compare::{assert_equal, assert_equal_at};
 
 // All functions open, each with one receive descriptor, whose message is that of the vector.
 fn open_all<R: Abort, M: GuestMem>(

@@ -1,5 +1,5 @@
 use super::*;
-use test_support::assert_equal;
+use crate::compare::assert_equal;
 
 // Whether the requests stand for the same event.
 fn is_same(first: Request<'_>, second: Request<'_>) -> bool {

@@ -1,5 +1,6 @@
 use super::*;
-use test_support::{all_room, assert_equal, assert_equal_at};
+use crate::compare::{assert_equal, assert_equal_at};
+use test_support::all_room;
 
 // The fault of a history that is made for so many entries, if it is not made.
 fn fault_of(alloc: Global, cap: usize) -> Option<Fault> {

@@ -1,8 +1,9 @@
 //! A memory at the borders of its pages of 4096 bytes. What is written is made here, and what nobody wrote is zero.
+use crate::compare::{assert_equal, assert_equal_at};
 use crate::memory::eight;
 use guest_memory::*;
 use std::test::Fail;
-use test_support::{all_room, assert_equal, assert_equal_at};
+use test_support::all_room;
 
 #[test]
 fn keeps_pages_apart(rt: HostRuntime) -> Result<(), Fail> {

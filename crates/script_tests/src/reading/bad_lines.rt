@@ -1,8 +1,8 @@
 // Texts that break the grammar, and the line that does.
 use super::check_unread;
+use crate::compare::assert_equal;
 use script::Fault;
 use std::test::Fail;
-use test_support::assert_equal;
 
 // A text, and the number of its first bad line.
 static BAD: [(&str, u32); 81] = [

@@ -1,11 +1,12 @@
 // Readers that break at a call or do less than they are asked, and heaps that give out.
 use super::{plain, repeated};
+use crate::compare::{assert_equal, assert_equal_at};
 use script::{Fault, Script};
 use std::alloc::Global;
 use std::io;
 use std::io::{Error, ErrorKind, Read};
 use std::test::Fail;
-use test_support::{all_room, assert_equal, assert_equal_at};
+use test_support::all_room;
 
 // A reader of a text in parts. It fails at the call of that number, counted from 0.
 #[derive(Drop)]

@@ -1,9 +1,9 @@
 // The limits on lines and events, and lines that lie across two blocks.
 use super::{check_unread, repeated};
+use crate::compare::assert_equal;
 use script::{Fault, Script};
 use std::alloc::Global;
 use std::test::Fail;
-use test_support::assert_equal;
 
 // How many events a text has.
 fn events(alloc: Global, text: &[u8]) -> Result<usize, Fault> {

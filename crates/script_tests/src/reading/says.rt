@@ -1,8 +1,8 @@
 // Texts and what they say, by the table of the language.
 use super::check_said;
+use crate::compare::assert_equal_at;
 use script::number;
 use std::test::Fail;
-use test_support::assert_equal_at;
 
 // A text, and its plain form.
 static SAID: [(&str, &str); 25] = [

@@ -1,9 +1,10 @@
 // Writers that break at a call or take less than they are given, and heaps that give out.
+use crate::compare::{assert_equal, assert_equal_at};
 use std::alloc::{AllocError, Global};
 use std::io;
 use std::io::{Error, ErrorKind, Write};
 use std::test::Fail;
-use test_support::{all_room, assert_equal, assert_equal_at};
+use test_support::all_room;
 use transcript::{Fault, Output};
 
 // A writer that takes parts. It fails at the call of that number, counted from 0.

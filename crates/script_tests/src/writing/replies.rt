@@ -1,9 +1,9 @@
 // Each form of a reply, and marks.
 use super::{Step, device_of_8, run};
+use crate::compare::assert_equal;
 use device::{Outcome, Taken};
 use irq_causes::Messages;
 use std::test::Fail;
-use test_support::assert_equal;
 use transcript::{Fault, Output};
 
 // Reads and refusals, each as the device answers it.

@@ -1,8 +1,8 @@
 // Worked scripts and what each mode writes of them, from outside.
 use super::{Step, keep, lone, push_pools, push_receiver, push_sender, run};
+use crate::compare::assert_equal;
 use std::alloc::{AllocError, Global};
 use std::test::Fail;
-use test_support::assert_equal;
 use wire_frame::PoolId;
 
 // A line `N ok` for each number up to the last one.

@@ -2,6 +2,7 @@
 ghost use Rattle.std.specs.Prelude.{◌≡◌};
 
 use super::stage::{Begun, One, SET_UP_EVENTS, answer, begin, frame_to_3, port_of_three};
+use crate::compare::assert_equal_at;
 use device::{Event, Reply};
 use device_lock::SERVICE;
 use guest_memory::{FlatMem, GuestMem};
@@ -11,7 +12,6 @@ use std::marker::Brand;
 use std::sync::Wait;
 use std::sync::ledger::{Blank, Ledger};
 use std::test::Fail;
-use test_support::assert_equal_at;
 use workers::sweep;
 
 // What is seen of a port that is dropped: whether its note knew the end before and after, how many ends are swept, what a

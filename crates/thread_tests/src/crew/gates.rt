@@ -4,6 +4,7 @@ ghost use Rattle.std.specs.Prelude.{◌≡◌, []};
 use super::stage::{
     Begun, One, SET_UP_EVENTS, Seen, Setting, answer, begin, done, frame_to_3, port_of_three,
 };
+use crate::compare::assert_equal;
 use device::{Event, Reply};
 use device_lock::{PUMP, SERVICE, Shares};
 use guest_memory::{FlatMem, GuestMem};
@@ -20,7 +21,6 @@ use std::sync::{Arc, Wait};
 use std::test::Fail;
 use std::thread;
 use std::thread::Threads;
-use test_support::assert_equal;
 use wire_frame::Fault;
 use wire_pump::{FeedEnd, LockedDoor, PumpEnd, channel, feed, pump};
 use workers::{Gate, sweep};

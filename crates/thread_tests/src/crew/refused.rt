@@ -1,12 +1,12 @@
 //! Memory that is refused: a run is whole, or it is told that there is none.
 use super::rows::{assert_two_guests, seen_of_two};
+use crate::compare::assert_equal;
 use std::marker::Brand;
 use std::process::Abort;
 use std::sync::Wait;
 use std::sync::ledger::Blank;
 use std::test::Fail;
 use std::thread::Threads;
-use test_support::assert_equal;
 use wire_frame::Fault;
 
 // Whether a run was whole. Where it was not, it is told that there was no memory.

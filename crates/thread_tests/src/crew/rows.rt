@@ -2,6 +2,7 @@
 ghost use Rattle.std.specs.Prelude.{◌≡◌};
 
 use super::stage::{Seen, Setting, done};
+use crate::compare::assert_equal;
 use guest_memory::FlatMem;
 use guest_port::IrqPort;
 use irq_line::make;
@@ -13,7 +14,6 @@ use std::sync::ledger::{Blank, Ledger};
 use std::sync::{Arc, Wait};
 use std::test::Fail;
 use std::thread::Threads;
-use test_support::assert_equal;
 use wire_frame::Fault;
 use workers::OpenGate;
 

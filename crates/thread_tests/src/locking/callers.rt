@@ -2,7 +2,7 @@
 ghost use Rattle.std.specs.Prelude.{◌≡◌};
 
 use super::*;
-use test_support::{assert_equal, assert_equal_at};
+use crate::compare::{assert_equal, assert_equal_at};
 
 // A request, and whether the ports of pools 3 and 63, the driver and the pump may make it. The service may make each.
 fn assert_row<R: Abort, L: Ledger>(

@@ -2,7 +2,7 @@
 ghost use Rattle.std.specs.Prelude.{◌≡◌};
 
 use super::*;
-use test_support::assert_equal;
+use crate::compare::assert_equal;
 
 const FUNCTIONS: (usize, u64) = (8, 65_536);
 

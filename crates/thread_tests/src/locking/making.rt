@@ -2,7 +2,8 @@
 ghost use Rattle.std.specs.Prelude.{◌≡◌};
 
 use super::*;
-use test_support::{all_room, assert_equal, assert_equal_at};
+use crate::compare::{assert_equal, assert_equal_at};
+use test_support::all_room;
 
 // The fault of a maker, if there is one.
 fn fault_of<T: Drop>(made: Result<T, Fault>) -> Option<Fault> {

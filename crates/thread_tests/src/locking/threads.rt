@@ -2,8 +2,9 @@
 ghost use Rattle.std.specs.Prelude.{◌≡◌};
 
 use super::*;
+use crate::compare::assert_equal;
 use std::sync::Arc;
-use test_support::{all_room, assert_equal};
+use test_support::all_room;
 
 // Events in turn, as long as the caller may make them and there is room.
 fn act_all<R: Wait, L: Ledger>(

@@ -2,12 +2,12 @@ ghost use Rattle.std.specs.Prelude.{◌≡◌, []};
 
 use super::stage::{locked, open, seated};
 use super::*;
+use crate::compare::assert_equal;
 use device_lock::LockedDevice;
 use guest_memory::{FlatMem, GuestMem};
 use std::marker::Brand;
 use std::sync::ledger::{Blank, Ledger};
 use std::sync::{Arc, Wait};
-use test_support::assert_equal;
 
 // What a test of one port needs: the port's seat, the device's, and memories of 4096 bytes for four functions.
 #[derive(Drop)]

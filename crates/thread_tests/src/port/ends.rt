@@ -1,5 +1,5 @@
 use super::*;
-use test_support::assert_equal;
+use crate::compare::assert_equal;
 
 // What its port's end makes of a note that waits for it.
 #[test]

@@ -3,12 +3,12 @@ ghost use Rattle.std.specs.Prelude.{◌≡◌, [], OnSome};
 use super::kinds::Counting;
 use super::stage::{locked, open, seated};
 use super::*;
+use crate::compare::assert_equal;
 use guest_memory::{FlatMem, GuestMem};
 use std::marker::Brand;
 use std::sync::Wait;
 use std::sync::ledger::{Blank, Ledger};
 use std::thread::Threads;
-use test_support::assert_equal;
 
 // How often each guest writes and reads.
 const ROUNDS: u8 = 50;

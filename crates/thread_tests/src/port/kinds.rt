@@ -1,5 +1,5 @@
 use super::*;
-use test_support::assert_equal;
+use crate::compare::assert_equal;
 
 // A port that counts the takes of the port in it.
 #[derive(Drop)]

@@ -1,5 +1,6 @@
 use super::*;
-use test_support::{all_room, assert_equal};
+use crate::compare::assert_equal;
+use test_support::all_room;
 
 // A message that was raised before is there for the next port where one is refused; a port that is made does not see it.
 fn try_port<R: Abort>(

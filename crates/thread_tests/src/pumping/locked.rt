@@ -1,6 +1,7 @@
 ghost use Rattle.std.specs.Prelude.{◌≡◌};
 
 use super::*;
+use crate::compare::assert_equal;
 use device::Device;
 use device_lock::{LockedDevice, Recorded};
 use guest_memory::{FlatMem, GuestMem};
@@ -9,7 +10,6 @@ use std::marker::Brand;
 use std::sync::Arc;
 use std::sync::ledger::{Blank, Ledger};
 use std::thread::Threads;
-use test_support::assert_equal;
 use wire_pump::LockedDoor;
 
 // A door that folds the history where it is full, and gives the frame once more.

@@ -1,5 +1,6 @@
 use super::*;
-use test_support::{all_room, assert_equal};
+use crate::compare::assert_equal;
+use test_support::all_room;
 
 // Makes a channel and tries it; or there was no memory.
 fn is_made<R: Abort + Wait>(rt: &R, alloc: Global, frame: &FrameBuf) -> bool {

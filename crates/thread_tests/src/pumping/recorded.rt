@@ -2,13 +2,13 @@ ghost use Rattle.std.specs.Prelude.{◌≡◌, map};
 ghost use Rattle.history.specs.Entries.{Entry};
 
 use super::*;
+use crate::compare::assert_equal;
 use device::{Device, Request};
 use device_lock::{Recorded, Share};
 use guest_memory::{FlatMem, GuestMem};
 use irq_line::make;
 use std::marker::Brand;
 use std::sync::ledger::{Blank, Ledger};
-use test_support::assert_equal;
 
 // A door that gives the frames to a recorded device, as the pump.
 #[derive(Drop)]

@@ -1,6 +1,6 @@
 use super::*;
+use crate::compare::assert_equal;
 use std::thread::Threads;
-use test_support::assert_equal;
 
 // How many frames pass: each of the frames that a channel has room for is filled some times.
 const MANY: usize = 700;

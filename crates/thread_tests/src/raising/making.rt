@@ -1,6 +1,7 @@
 use super::*;
+use crate::compare::assert_equal;
 use std::alloc::Global;
-use test_support::{all_room, assert_equal};
+use test_support::all_room;
 use wire_frame::Fault;
 
 // Makes a line and tries it; or there was no memory.

@@ -1,10 +1,11 @@
--- The sizes of devices' memories, one after another, and devices as they are made.
-use Rattle.std.proofs.Common.{◌≡◌, ℕ, List, [], ◌∷◌, refl, ◌<◌, length, get_or, map, sym, ap, ◌∙◌, arith}
+-- The sizes of devices' memories, one after another, and devices of one make.
+use Rattle.std.proofs.Common.{◌≡◌, ℕ, List, ◌<◌, length, get_or, map, sym, ap, ◌∙◌, arith}
 use Rattle.std.proofs.Math.ListN.{get_or-map}
 use Rattle.std.proofs.lemmas.List.{length-map}
 use Rattle.std.proofs.lemmas.Grind.{same_number_lists}
 use Rattle.vf_unit.specs.Unit.{Function, Closed, size_of}
-use Rattle.device.specs.World.{World, fresh, sizes_of}
+use Rattle.device.specs.World.{World, fresh}
+use Rattle.history.proofs.ReplayLemmas.{fresh_again}
 use Rattle.device_lock.specs.Made.{IsFresh, SameMake}
 
 pub all_same : (fs gs : List Function) → length fs ≡ length gs → ((k : ℕ) → k < length fs → size_of (get_or fs k (Closed 0)) ≡ size_of (get_or gs k (Closed 0))) → map size_of fs ≡ map size_of gs
@@ -16,16 +17,6 @@ one_same fs gs k is = sym (get_or-map size_of fs k (Closed 0)) ∙ ap (λ (xs : 
 
 -- ---- devices as they are made
 
-sizes_closed : (sizes : List ℕ) → map size_of (map Closed sizes) ≡ sizes
-sizes_closed [] = refl
-sizes_closed (size ∷ sizes) = ap (λ xs. size ∷ xs) (sizes_closed sizes)
-
-pub fresh_again : (w : World) → IsFresh w → w ≡ fresh w.limit (sizes_of w)
-fresh_again w made =
-    let limit : w.limit ≡ made.0 = ap (λ (v : World). v.limit) made.2 in
-    let sizes : sizes_of w ≡ made.1 = ap sizes_of made.2 ∙ sizes_closed made.1 in
-    made.2 ∙ (λ i. fresh (sym limit i) (sym sizes i))
-
 -- two of one make are equal
 pub one_make : (live twin : World) → IsFresh live → IsFresh twin → SameMake live twin → twin ≡ live
-one_make live twin one other same = fresh_again twin other ∙ (λ i. fresh (sym same.0 i) (sym same.1 i)) ∙ sym (fresh_again live one)
+one_make live twin one other same = fresh_again twin _ _ other.2 ∙ (λ i. fresh (sym same.0 i) (sym same.1 i)) ∙ sym (fresh_again live _ _ one.2)

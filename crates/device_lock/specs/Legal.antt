@@ -1,19 +1,10 @@
 -- Kept calls, and when they are legal.
-use Rattle.std.specs.Prelude.{◌≡◌, ℕ, true, ◌==◌, if◌then◌else◌, List, map, slice_index}
+use Rattle.std.specs.Prelude.{◌≡◌, ℕ, true, ◌==◌, if◌then◌else◌, List, slice_index}
 use Rattle.std.specs.List.{All, sum_by}
 use Rattle.std.specs.Int.{bit_at}
-use Rattle.device.specs.declared.event.Event.{Event}
-use Rattle.device.specs.declared.event.Answer.{Answer}
 use Rattle.device.specs.World.{World, answers, world_after}
-use Rattle.history.specs.Entries.{Entry}
+use Rattle.history.specs.Entries.{Entry, events, given}
 use Rattle.device_lock.specs.Callers.{may}
-
--- what was asked in the calls, and what was answered
-abbrev pub events : List Entry → List Event
-events calls = map (λ (call : Entry). call.event) calls
-
-abbrev pub given : List Entry → List Answer
-given calls = map (λ (call : Entry). call.answer) calls
 
 -- from the base on the calls' events are answered as the calls say and lead to the live world, and each is an event that its
 -- caller may make

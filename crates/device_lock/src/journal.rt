@@ -8,9 +8,9 @@ ghost use Rattle.device.specs.Outcome.{answer_in, left_by};
 ghost use Rattle.device.specs.Lone.{keep, lone_of, lone_seen, lone_after, seen_by};
 ghost use Rattle.device.specs.Request.{event_of};
 ghost use Rattle.irq_line.specs.Line.{raised, bit_for};
-ghost use Rattle.history.specs.Entries.{Entry, is_cap};
+ghost use Rattle.history.specs.Entries.{Entry, is_cap, events, given};
 ghost use Rattle.device_lock.specs.Callers.{may};
-ghost use Rattle.device_lock.specs.Legal.{Legal, events, given, calls_of, kept_raises};
+ghost use Rattle.device_lock.specs.Legal.{Legal, calls_of, kept_raises};
 ghost use Rattle.device_lock.specs.Held.{Keeps, Rebased, folded, folded_raises};
 ghost use Rattle.device_lock.specs.Made.{IsFresh, begun};
 
@@ -18,7 +18,7 @@ use crate::share::CALLERS;
 use device::laws::isolation;
 use device::{Answer, Device, Request, Span, Taken};
 use guest_memory::GuestMem;
-use history::{History, Room};
+use history::History;
 use irq_causes::Messages;
 use irq_line::DeviceSeat;
 use std::alloc::Global;
@@ -149,7 +149,7 @@ impl<M: GuestMem> Journal<M> {
         let Some(twin) = &mut self.twin else {
             return None;
         };
-        step_through(twin, &self.history);
+        self.history.step_all(twin);
         self.tallies = with_calls(&self.tallies, &self.history);
         self.folded += count as u64;
         self.history.clear();
@@ -173,7 +173,7 @@ impl<M: GuestMem> Journal<M> {
             ↔ (answers device.old (events self.now.kept) ≡ given self.now.kept) }
         ensures base { device.old ≡ self.now.base → IsTrue result }
     {
-        gives_all(device, &self.history)
+        self.history.gives_all(device)
     }
 
     /// How many calls are kept.
@@ -246,31 +246,6 @@ fn raise(line: &mut DeviceSeat, pool: u8, messages: &Messages)
     if let Some(pool) = PoolId::new(pool) {
         line.raise(pool.get(), messages.to(pool).bits());
     }
-}
-
-// Steps a device through the calls of a history.
-fn step_through<M: GuestMem>(device: &mut Device<M>, history: &History)
-    ensures { device.new ≡ world_after device.old (events history.now.entries) }
-{
-    let mut room = Room::new();
-    for index in 0..history.len() {
-        history.step(index, device, &mut room);
-    }
-}
-
-// The same, and tells whether the device gave the answers of the history.
-fn gives_all<M: GuestMem>(device: &mut Device<M>, history: &History) -> bool
-    ensures world { device.new ≡ world_after device.old (events history.now.entries) }
-    ensures same { IsTrue result
-        ↔ (answers device.old (events history.now.entries) ≡ given history.now.entries) }
-{
-    let mut room = Room::new();
-    let mut same = true;
-    for index in 0..history.len() {
-        let here = history.gives(index, device, &mut room);
-        same = same & here;
-    }
-    same
 }
 
 // No call of any caller.

@@ -4,9 +4,8 @@ ghost use Rattle.std.specs.List.{sum_by};
 ghost use Rattle.device.specs.Request.{event_of};
 ghost use Rattle.device.specs.World.{World, step, sent_by, world_after, answers};
 ghost use Rattle.device.specs.Outcome.{left_by};
-ghost use Rattle.history.specs.Entries.{Entry};
+ghost use Rattle.history.specs.Entries.{Entry, events, given};
 ghost use Rattle.device_lock.specs.Callers.{may};
-ghost use Rattle.device_lock.specs.Legal.{events, given};
 ghost use Rattle.device_lock.specs.Held.{having_asked, count_of};
 ghost use Rattle.device_lock.specs.Read.{bytes_asked, bytes_told, answer_with};
 

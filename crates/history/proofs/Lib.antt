@@ -1,3 +1,4 @@
 pub mod PoolLemmas
 pub mod ReadLemmas
+pub mod ReplayLemmas
 pub mod WordLemmas

@@ -1,9 +1,10 @@
 -- What a history has of each call.
-use Rattle.std.specs.Prelude.{ℕ, Bool, true, false, ◌&&◌, nat_le, List, [], slice_index_or}
+use Rattle.std.specs.Prelude.{◌≡◌, ℕ, Bool, true, false, ◌&&◌, nat_le, List, [], map, slice_index_or}
 use Rattle.device.specs.declared.event.Event.{Event}
 use Rattle.device.specs.declared.event.Event.TheVariants.{MemWrite, PfReset, Wire}
 use Rattle.device.specs.declared.event.Reply.TheVariants.{Idle}
 use Rattle.device.specs.declared.event.Answer.{Answer}
+use Rattle.device.specs.World.{World, answers, world_after}
 
 -- who called, what was asked, and what was answered
 pub record Entry : Type 0 where
@@ -36,3 +37,15 @@ abbrev pub brings : Event → Bool
 brings (MemWrite p at bytes) = true
 brings (Wire frame) = true
 brings _ = false
+
+-- what was asked in the calls, and what was answered
+abbrev pub events : List Entry → List Event
+events calls = map (λ (call : Entry). call.event) calls
+
+abbrev pub given : List Entry → List Answer
+given calls = map (λ (call : Entry). call.answer) calls
+
+-- from the base on the calls' events are answered as the calls say, and lead to the live world
+pub record Leads (base : World) (calls : List Entry) (live : World) : Type 0 where
+  pub answers : answers base (events calls) ≡ given calls
+  pub world : world_after base (events calls) ≡ live

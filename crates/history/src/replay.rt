@@ -1,9 +1,9 @@
 //! Devices that keep their calls, and devices that go through kept ones.
 ghost use Rattle.std.specs.Prelude.{◌≡◌, ◌<◌, ◌++◌, ◌∷◌, [], length, option_copied, IsTrue, ◌↔◌};
-ghost use Rattle.device.specs.World.{sizes_of, step, sent_by};
+ghost use Rattle.device.specs.World.{sizes_of, step, sent_by, answers, world_after};
 ghost use Rattle.device.specs.Outcome.{answer_in, left_by};
 ghost use Rattle.device.specs.Request.{event_of};
-ghost use Rattle.history.specs.Entries.{entry, entry_at};
+ghost use Rattle.history.specs.Entries.{entry, entry_at, events, given};
 
 use crate::history::History;
 use device::{Device, Request, Taken};
@@ -85,5 +85,30 @@ impl History {
         let request = self.request(index, &mut room.asked);
         let taken = device.take(request, &mut room.sent);
         self.is_answer(index, device, &taken, &mut room.read)
+    }
+
+    /// Steps a device through all calls, the oldest first.
+    pub fn step_all<M: GuestMem>(&self, device: &mut Device<M>)
+        ensures { device.new ≡ world_after device.old (events self.now.entries) }
+    {
+        let mut room = Room::new();
+        for index in 0..self.len() {
+            self.step(index, device, &mut room);
+        }
+    }
+
+    /// The same, and tells whether the device gave all their answers: each reply with its bytes, and all messages.
+    pub fn gives_all<M: GuestMem>(&self, device: &mut Device<M>) -> bool
+        ensures world { device.new ≡ world_after device.old (events self.now.entries) }
+        ensures same { IsTrue result
+            ↔ (answers device.old (events self.now.entries) ≡ given self.now.entries) }
+    {
+        let mut room = Room::new();
+        let mut same = true;
+        for index in 0..self.len() {
+            let here = self.gives(index, device, &mut room);
+            same = same & here;
+        }
+        same
     }
 }

@@ -1,53 +1,20 @@
 -- One more kept call, one call on in those that are kept, and reads of more bytes than an entry names.
-use Rattle.std.proofs.Common.{◌≡◌, ℕ, ◌+◌, ◌<◌, Bool, true, false, true≢false, ◌≢◌, ◌&&◌, nat_le, nat_lt, List, [], ◌∷◌, ◌++◌, length, map, drop, get_or, refl, sym, ap, ◌∙◌, subst, arith}
-use Rattle.std.proofs.Common.{add-one}
-use Rattle.std.proofs.Math.Seq.{drop-cons}
+use Rattle.std.proofs.Common.{◌≡◌, ℕ, ◌+◌, Bool, true, false, true≢false, ◌≢◌, nat_le, nat_lt, List, [], ◌∷◌, ◌++◌, length, refl, sym, ap, ◌∙◌, subst, arith}
 use Rattle.std.specs.Prelude.{IsTrue, nat_eq, if◌then◌else◌}
 use mathlib.Core.Logic.{◌↔◌}
 use Rattle.std.proofs.lemmas.Bool.Decides.{nat_tests}
-use Rattle.std.proofs.lemmas.List.{map-append}
 use Rattle.wire_frame.specs.declared.fault.Fault.TheVariants.{NoSuchVf}
-use Rattle.vf_unit.specs.Unit.{Function, Closed, size_of, is_open}
+use Rattle.vf_unit.specs.Unit.{Function, is_open}
 use Rattle.device.specs.declared.event.Event.{Event}
 use Rattle.device.specs.declared.event.Event.TheVariants.{Open, End, VfRead, VfWrite, MemRead, MemWrite, Serve, Flr, PfRead, PfWrite, PfReset, Wire}
 use Rattle.device.specs.Act.{act, refusal}
-use Rattle.device.specs.World.{World, Stepped, step, fresh, sizes_of, answers, world_after, function_of, acted, refused}
-use Rattle.device.proofs.Append.{answers_append, world_after_append}
+use Rattle.device.specs.World.{World, Stepped, step, fresh, sizes_of, function_of, acted, refused}
 use Rattle.device.proofs.Shape.{step_shape}
-use Rattle.history.specs.Entries.{Entry, entry}
-use Rattle.vfdev_c.specs.Recorded.{Recorded, recorded, is_full, events, given, kept_as, keeping, made_like, Leads}
-
--- ---- devices as they are made
-
-sizes_closed : (sizes : List ℕ) → map size_of (map Closed sizes) ≡ sizes
-sizes_closed [] = refl
-sizes_closed (size ∷ sizes) = ap (λ xs. size ∷ xs) (sizes_closed sizes)
-
-pub fresh_again : (w : World) (limit : ℕ) (sizes : List ℕ) → w ≡ fresh limit sizes → w ≡ made_like w
-fresh_again w limit sizes made =
-    let long : w.limit ≡ limit = ap (λ (v : World). v.limit) made in
-    let all : sizes_of w ≡ sizes = ap sizes_of made ∙ sizes_closed sizes in
-    made ∙ (λ i. fresh (sym long i) (sym all i))
+use Rattle.history.specs.Entries.{Entry, entry, Leads}
+use Rattle.history.proofs.ReplayLemmas.{leads_more}
+use Rattle.vfdev_c.specs.Recorded.{Recorded, recorded, is_full, kept_as, keeping, made_like}
 
 -- ---- one more call
-
-pub leads_none : (w : World) → Leads w [] w
-leads_none w = record { answers = refl; world = refl }
-
-pub leads_more : (base : World) (calls : List Entry) (live : World) (e : Event) → Leads base calls live
-    → Leads base (calls ++ entry 0 e (step live e).answer ∷ []) (step live e).world
-leads_more base calls live e l = record {
-  answers = ap (answers base) (map-append (λ (x : Entry). x.event) calls (call ∷ []))
-      ∙ answers_append base (events calls) (e ∷ [])
-      ∙ (λ i. l.answers i ++ answers (l.world i) (e ∷ []))
-      ∙ sym (map-append (λ (x : Entry). x.answer) calls (call ∷ []));
-  world = ap (world_after base) (map-append (λ (x : Entry). x.event) calls (call ∷ []))
-      ∙ world_after_append base (events calls) (e ∷ [])
-      ∙ ap (λ w. world_after w (e ∷ [])) l.world;
-}
-  where
-    call : Entry
-    call = entry 0 e (step live e).answer
 
 -- what is so of the calls and the device after one call more, by whatever names
 pub leads_on : (live new : World) (calls more : List Entry) (e : Event) → Leads (made_like live) calls live
@@ -56,7 +23,7 @@ pub leads_on : (live new : World) (calls more : List Entry) (e : Event) → Lead
 leads_on live new calls more e l world sizes entries =
     let limit : new.limit ≡ live.limit = ap (λ (w : World). w.limit) world ∙ (step_shape live e).limit in
     let same : made_like new ≡ made_like live = λ i. fresh (limit i) (sizes i) in
-    let one = leads_more (made_like live) calls live e l in
+    let one = leads_more (made_like live) calls live 0 e l in
     subst (λ (b : World). Leads b more new) (sym same)
     (subst (λ (xs : List Entry). Leads (made_like live) xs new) (sym entries)
     (subst (λ (w : World). Leads (made_like live) (calls ++ entry 0 e (step live e).answer ∷ []) w) (sym world) one))
@@ -107,41 +74,3 @@ kept_on r new more cap e room world entries same =
     let calls : more ≡ r.calls ++ entry 0 (kept_as e) (step r.live e).answer ∷ [] =
     entries ∙ ap (λ (s : Stepped). r.calls ++ entry 0 (kept_as e) s.answer ∷ []) (step_alike r.live e) in
     rw room (λ i. recorded (live i) (calls i) (same i))
-
--- ---- one call on
-
-pub world_on : (w w' : World) (calls : List Entry) (i : ℕ) (d : Entry) (z : World) → i < length calls → w' ≡ (step w (get_or calls i d).event).world
-    → world_after w (events (drop i calls)) ≡ z → world_after w' (events (drop (i + 1) calls)) ≡ z
-world_on w w' calls i d z less is h = let c : drop i calls ≡ get_or calls i d ∷ drop (i + 1) calls = rw (add-one, drop-cons calls i d) refl in
-    rw is (let k : world_after w (events (get_or calls i d ∷ drop (i + 1) calls)) ≡ z = subst (λ (xs : List Entry). world_after w (events xs) ≡ z) c h in k)
-
--- whether the answers are the kept ones, after one call more
-same_more : (w : World) (e : Entry) (es : List Entry) (X : Type 0) (same here : Bool)
-    → (here ≡ true → (step w e.event).answer ≡ e.answer) → ((step w e.event).answer ≡ e.answer → here ≡ true)
-    → (same ≡ true → (answers w (events (e ∷ es)) ≡ given (e ∷ es)) ↔ X)
-    → (same && here) ≡ true → (answers (step w e.event).world (events es) ≡ given es) ↔ X
-same_more w e es X true true fwd back h on = let hh = h refl in ((λ r. hh.0 (let y = fwd refl in cc)), (λ x. let r = hh.1 x in cc))
-same_more w e es X true false fwd back h on = absurd (cc)
-same_more w e es X false here fwd back h on = absurd (cc)
-
-lost_more : (w : World) (e : Entry) (es : List Entry) (X : Type 0) (same here : Bool)
-    → ((step w e.event).answer ≡ e.answer → here ≡ true)
-    → (same ≡ true → (answers w (events (e ∷ es)) ≡ given (e ∷ es)) ↔ X) → (same ≡ false → X → ⊥)
-    → (same && here) ≡ false → X → ⊥
-lost_more w e es X true true back h lost off x = absurd (cc)
-lost_more w e es X true false back h lost off x = let r = (h refl).1 x in let b : false ≡ true = back (cc) in absurd (cc)
-lost_more w e es X false here back h lost off x = lost refl x
-
-pub same_on : (w w' : World) (calls : List Entry) (i : ℕ) (d : Entry) (X : Type 0) (same here : Bool) → i < length calls → w' ≡ (step w (get_or calls i d).event).world
-    → (here ≡ true → (step w (get_or calls i d).event).answer ≡ (get_or calls i d).answer) → ((step w (get_or calls i d).event).answer ≡ (get_or calls i d).answer → here ≡ true)
-    → (same ≡ true → (answers w (events (drop i calls)) ≡ given (drop i calls)) ↔ X)
-    → (same && here) ≡ true → (answers w' (events (drop (i + 1) calls)) ≡ given (drop (i + 1) calls)) ↔ X
-same_on w w' calls i d X same here less is fwd back h = let c : drop i calls ≡ get_or calls i d ∷ drop (i + 1) calls = rw (add-one, drop-cons calls i d) refl in
-    rw is (same_more w (get_or calls i d) (drop (i + 1) calls) X same here fwd back (subst (λ (xs : List Entry). same ≡ true → (answers w (events xs) ≡ given xs) ↔ X) c h))
-
-pub lost_on : (w : World) (calls : List Entry) (i : ℕ) (d : Entry) (X : Type 0) (same here : Bool) → i < length calls
-    → ((step w (get_or calls i d).event).answer ≡ (get_or calls i d).answer → here ≡ true)
-    → (same ≡ true → (answers w (events (drop i calls)) ≡ given (drop i calls)) ↔ X) → (same ≡ false → X → ⊥)
-    → (same && here) ≡ false → X → ⊥
-lost_on w calls i d X same here less back h lost = let c : drop i calls ≡ get_or calls i d ∷ drop (i + 1) calls = rw (add-one, drop-cons calls i d) refl in
-    lost_more w (get_or calls i d) (drop (i + 1) calls) X same here back (subst (λ (xs : List Entry). same ≡ true → (answers w (events xs) ≡ given xs) ↔ X) c h) lost

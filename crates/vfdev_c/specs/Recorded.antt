@@ -1,9 +1,8 @@
 -- A device whose calls are kept, and the calls that are kept of it.
-use Rattle.std.specs.Prelude.{◌≡◌, ℕ, Bool, nat_le, nat_eq, List, [], ◌∷◌, ◌++◌, length, map, if◌then◌else◌}
+use Rattle.std.specs.Prelude.{ℕ, Bool, nat_le, nat_eq, List, [], ◌∷◌, ◌++◌, length, if◌then◌else◌}
 use Rattle.device.specs.declared.event.Event.{Event}
 use Rattle.device.specs.declared.event.Event.TheVariants.{MemRead}
-use Rattle.device.specs.declared.event.Answer.{Answer}
-use Rattle.device.specs.World.{World, fresh, sizes_of, step, answers, world_after}
+use Rattle.device.specs.World.{World, fresh, sizes_of, step}
 use Rattle.history.specs.Entries.{Entry, entry}
 
 -- the device, the calls that were made on it, the oldest first, and how many may be kept
@@ -18,13 +17,6 @@ recorded live calls cap = record { live = live; calls = calls; cap = cap }
 -- no more calls can be kept
 abbrev pub is_full : Recorded → Bool
 is_full r = nat_eq (length r.calls) r.cap
-
--- what was asked in the calls, and what was answered
-abbrev pub events : List Entry → List Event
-events calls = map (λ (call : Entry). call.event) calls
-
-abbrev pub given : List Entry → List Answer
-given calls = map (λ (call : Entry). call.answer) calls
 
 -- the event that a call is kept as: an entry names no more than 65535 bytes, and a read of more is refused as
 -- one of so many is
@@ -44,8 +36,3 @@ taking r e = if is_full r then r else keeping r e
 -- a device as it is made, of the live one's frame limit and sizes of memories
 abbrev pub made_like : World → World
 made_like live = fresh live.limit (sizes_of live)
-
--- from the base on the calls are answered as they say, and lead to the live device
-pub record Leads (base : World) (calls : List Entry) (live : World) : Type 0 where
-  pub answers : answers base (events calls) ≡ given calls
-  pub world : world_after base (events calls) ≡ live

@@ -1,9 +1,8 @@
 //! The device for C: each event is a call over a handle.
 //!
 //! C holds a [`Vfdev`], which leads to nothing, to memories that were lent for a device, to a device, or to a device whose
-//! calls are kept. Each call says what
-//! the handle leads to after it, what is replied, which messages were issued and which bytes were handed out, whatever the
-//! handle led to before; the isolation law stands on each call that takes an event. No call has a premise: an argument that
+//! calls are kept. Each call says what the handle leads to after it, what is replied, which messages were issued and which
+//! bytes were handed out, whatever the handle led to before; the isolation law stands on each call that takes an event. No call has a premise: an argument that
 //! is out of range is refused by its name before the device is asked. What C owes stands in `include/vfdev.h`: pointers that
 //! lead to what their lengths say, and one call at a time. A handle may go from thread to thread.
 //!
@@ -22,7 +21,6 @@ pub mod memory;
 pub mod owner;
 mod recorder;
 pub mod recording;
-mod replay;
 pub mod reply;
 pub mod service;
 pub mod stage;

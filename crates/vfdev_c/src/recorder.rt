@@ -6,9 +6,9 @@ ghost use Rattle.device.specs.declared.event.Event.{Event};
 ghost use Rattle.device.specs.World.{step, answers, world_after, sizes_of};
 ghost use Rattle.device.specs.Request.{event_of};
 ghost use Rattle.device.specs.Outcome.{left_by};
-ghost use Rattle.history.specs.Entries.{entry, is_cap};
+ghost use Rattle.history.specs.Entries.{entry, events, given, is_cap};
 ghost use Rattle.vfdev_c.specs.Handle.{shown, history_full, bytes_shown, frame_in, length_in, IsolatedStep};
-ghost use Rattle.vfdev_c.specs.Recorded.{recorded, is_full, taking, kept_as, made_like, events, given};
+ghost use Rattle.vfdev_c.specs.Recorded.{recorded, is_full, taking, kept_as, made_like};
 
 use crate::memory::HostMem;
 use crate::reply::VfdevReply;
@@ -34,7 +34,8 @@ pub struct Recorder {
 }
 
 impl Model for Recorder {
-    ghost use Rattle.vfdev_c.specs.Recorded.{Recorded, recorded, made_like, Leads};
+    ghost use Rattle.vfdev_c.specs.Recorded.{Recorded, recorded, made_like};
+    ghost use Rattle.history.specs.Entries.{Leads};
 
     ghost Value = { Recorded };
 

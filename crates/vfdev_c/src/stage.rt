@@ -6,13 +6,12 @@ ghost use Rattle.device.specs.declared.event.Event.{Event};
 ghost use Rattle.device.specs.World.{step, answers, world_after};
 ghost use Rattle.device.specs.Request.{event_of};
 ghost use Rattle.device.specs.Outcome.{left_by, done_or_refused, value_or_refused, messages_or_refused};
+ghost use Rattle.history.specs.Entries.{events, given};
 ghost use Rattle.vfdev_c.specs.Handle.{shown, bytes_shown, frame_in, length_in, IsolatedStep};
-ghost use Rattle.vfdev_c.specs.Recorded.{events, given};
 
 use crate::lending::LentBlocks;
 use crate::memory::HostMem;
 use crate::recorder::Recorder;
-use crate::replay::gives_all;
 use crate::reply::VfdevReply;
 use device::laws::isolation;
 use device::{Device, Queue, Request};
@@ -67,7 +66,7 @@ impl Running {
         ensures same { IsTrue result
             ↔ (answers self.old (events history.now.entries) ≡ given history.now.entries) }
     {
-        gives_all(&mut self.device, history)
+        history.gives_all(&mut self.device)
     }
 
     /// Gives it the event that a request stands for.

@@ -1,5 +1,5 @@
 -- The device is one as it is made.
-use Rattle.vfdev_c.proofs.RecordedLemmas.{fresh_again}
+use Rattle.history.proofs.ReplayLemmas.{fresh_again}
 use Rattle.vfdev_c.proofs.recording.boxed.Goals as goal
 
 pub new-requires : goal.new-requires

@@ -1,7 +1,7 @@
 -- The law of isolation, of the kept calls.
 use Rattle.std.proofs.Common.{◌∙◌, ◌≤◌, sym, ap, length}
 use Rattle.device.specs.Lone.{lone_of, seen_by}
-use Rattle.device_lock.specs.Legal.{events}
+use Rattle.history.specs.Entries.{events}
 use Rattle.device_lock.specs.Inside.{base_of}
 use Rattle.device_lock.proofs.CallLemmas.{functions_kept}
 use Rattle.device_lock.proofs.journal.Journal.agrees.Goals as goal

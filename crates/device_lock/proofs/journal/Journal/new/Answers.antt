@@ -6,7 +6,7 @@ use Rattle.history.specs.Entries.{Entry, is_cap}
 use Rattle.device_lock.specs.Inside.{base_of}
 use Rattle.device_lock.specs.Legal.{Legal}
 use Rattle.device_lock.proofs.CallLemmas.{legal_none, base_first, cap_few, is_made}
-use Rattle.device_lock.proofs.SizeLemmas.{fresh_again}
+use Rattle.history.proofs.ReplayLemmas.{fresh_again}
 use Rattle.device_lock.proofs.journal.Journal.new.Goals as goal
 
 pub returns-clause-cap : goal.returns-clause-cap
@@ -21,7 +21,7 @@ invariant_of-result g c =
     let cap = cap_few c.args.cap (returns-clause-cap g c) in
     record {
       legal = subst calls (sym empty) (subst from (sym base) (legal_none c.args.live));
-      first = λ none. base ∙ fresh_again c.args.live c.requires.fresh;
+      first = λ none. base ∙ fresh_again c.args.live _ _ c.requires.fresh.2;
       few = rw c.in_ok-history.ensures.cap cap;
       folded = sym c.no_calls.ensures.all;
       few_folded = omega arith;

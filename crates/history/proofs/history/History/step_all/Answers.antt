@@ -1,9 +1,9 @@
 -- One call on.
 use Rattle.std.proofs.Common.{rules, ◌<◌, length}
-use Rattle.device_lock.proofs.CallLemmas.{world_on}
-use Rattle.device_lock.proofs.journal.step_through.Goals as goal
+use Rattle.history.proofs.ReplayLemmas.{world_on}
+use Rattle.history.proofs.history.History.step_all.Goals as goal
 
 pub loop-index-preserved : goal.loop-index-preserved
 loop-index-preserved g c =
-    let less : c.loop-index.index < length c.args.history.now.entries = search rules in
+    let less : c.loop-index.index < length c.args.self.now.entries = search rules in
     world_on _ _ _ _ _ _ less c.step.ensures.world c.loop-index.invariant

@@ -1,8 +1,0 @@
--- What is left to be stepped through leads to where all leads.
-use Rattle.std.proofs.Common.{◌≡◌, drop}
-use Rattle.device.specs.World.{world_after}
-use Rattle.device_lock.specs.Legal.{events}
-use Rattle.device_lock.proofs.journal.step_through.Given as goal
-
-abbrev pub invariant-loop-index : goal.invariant-loop-index
-invariant-loop-index g l = world_after l.device (events (drop l.index l.history.entries)) ≡ world_after l.initial.device (events l.history.entries)

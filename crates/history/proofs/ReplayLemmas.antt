@@ -1,0 +1,81 @@
+-- Devices as they are made, one more call, and one call on in those that are kept.
+use Rattle.std.proofs.Common.{◌≡◌, ℕ, ◌+◌, ◌<◌, Bool, true, false, ◌&&◌, List, [], ◌∷◌, ◌++◌, length, map, drop, get_or, refl, sym, ap, ◌∙◌, subst, arith}
+use Rattle.std.proofs.Common.{add-one}
+use Rattle.std.proofs.Math.Seq.{drop-cons}
+use Rattle.std.proofs.lemmas.List.{map-append}
+use mathlib.Core.Logic.{◌↔◌}
+use Rattle.vf_unit.specs.Unit.{Closed, size_of}
+use Rattle.device.specs.declared.event.Event.{Event}
+use Rattle.device.specs.World.{World, step, fresh, sizes_of, answers, world_after}
+use Rattle.device.proofs.Append.{answers_append, world_after_append}
+use Rattle.history.specs.Entries.{Entry, entry, events, given, Leads}
+
+-- ---- devices as they are made
+
+sizes_closed : (sizes : List ℕ) → map size_of (map Closed sizes) ≡ sizes
+sizes_closed [] = refl
+sizes_closed (size ∷ sizes) = ap (λ xs. size ∷ xs) (sizes_closed sizes)
+
+pub fresh_again : (w : World) (limit : ℕ) (sizes : List ℕ) → w ≡ fresh limit sizes → w ≡ fresh w.limit (sizes_of w)
+fresh_again w limit sizes made =
+    let long : w.limit ≡ limit = ap (λ (v : World). v.limit) made in
+    let all : sizes_of w ≡ sizes = ap sizes_of made ∙ sizes_closed sizes in
+    made ∙ (λ i. fresh (sym long i) (sym all i))
+
+-- ---- one more call
+
+pub leads_none : (w : World) → Leads w [] w
+leads_none w = record { answers = refl; world = refl }
+
+pub leads_more : (base : World) (calls : List Entry) (live : World) (c : ℕ) (e : Event) → Leads base calls live
+    → Leads base (calls ++ entry c e (step live e).answer ∷ []) (step live e).world
+leads_more base calls live c e l = record {
+  answers = ap (answers base) (map-append (λ (x : Entry). x.event) calls (call ∷ []))
+      ∙ answers_append base (events calls) (e ∷ [])
+      ∙ (λ i. l.answers i ++ answers (l.world i) (e ∷ []))
+      ∙ sym (map-append (λ (x : Entry). x.answer) calls (call ∷ []));
+  world = ap (world_after base) (map-append (λ (x : Entry). x.event) calls (call ∷ []))
+      ∙ world_after_append base (events calls) (e ∷ [])
+      ∙ ap (λ w. world_after w (e ∷ [])) l.world;
+}
+  where
+    call : Entry
+    call = entry c e (step live e).answer
+
+-- ---- one call on
+
+pub world_on : (w w' : World) (calls : List Entry) (i : ℕ) (d : Entry) (z : World) → i < length calls → w' ≡ (step w (get_or calls i d).event).world
+    → world_after w (events (drop i calls)) ≡ z → world_after w' (events (drop (i + 1) calls)) ≡ z
+world_on w w' calls i d z less is h = let c : drop i calls ≡ get_or calls i d ∷ drop (i + 1) calls = rw (add-one, drop-cons calls i d) refl in
+    rw is (let k : world_after w (events (get_or calls i d ∷ drop (i + 1) calls)) ≡ z = subst (λ (xs : List Entry). world_after w (events xs) ≡ z) c h in k)
+
+-- whether the answers are the kept ones, after one call more
+same_more : (w : World) (e : Entry) (es : List Entry) (X : Type 0) (same here : Bool)
+    → (here ≡ true → (step w e.event).answer ≡ e.answer) → ((step w e.event).answer ≡ e.answer → here ≡ true)
+    → (same ≡ true → (answers w (events (e ∷ es)) ≡ given (e ∷ es)) ↔ X)
+    → (same && here) ≡ true → (answers (step w e.event).world (events es) ≡ given es) ↔ X
+same_more w e es X true true fwd back h on = let hh = h refl in ((λ r. hh.0 (let y = fwd refl in cc)), (λ x. let r = hh.1 x in cc))
+same_more w e es X true false fwd back h on = absurd (cc)
+same_more w e es X false here fwd back h on = absurd (cc)
+
+lost_more : (w : World) (e : Entry) (es : List Entry) (X : Type 0) (same here : Bool)
+    → ((step w e.event).answer ≡ e.answer → here ≡ true)
+    → (same ≡ true → (answers w (events (e ∷ es)) ≡ given (e ∷ es)) ↔ X) → (same ≡ false → X → ⊥)
+    → (same && here) ≡ false → X → ⊥
+lost_more w e es X true true back h lost off x = absurd (cc)
+lost_more w e es X true false back h lost off x = let r = (h refl).1 x in let b : false ≡ true = back (cc) in absurd (cc)
+lost_more w e es X false here back h lost off x = lost refl x
+
+pub same_on : (w w' : World) (calls : List Entry) (i : ℕ) (d : Entry) (X : Type 0) (same here : Bool) → i < length calls → w' ≡ (step w (get_or calls i d).event).world
+    → (here ≡ true → (step w (get_or calls i d).event).answer ≡ (get_or calls i d).answer) → ((step w (get_or calls i d).event).answer ≡ (get_or calls i d).answer → here ≡ true)
+    → (same ≡ true → (answers w (events (drop i calls)) ≡ given (drop i calls)) ↔ X)
+    → (same && here) ≡ true → (answers w' (events (drop (i + 1) calls)) ≡ given (drop (i + 1) calls)) ↔ X
+same_on w w' calls i d X same here less is fwd back h = let c : drop i calls ≡ get_or calls i d ∷ drop (i + 1) calls = rw (add-one, drop-cons calls i d) refl in
+    rw is (same_more w (get_or calls i d) (drop (i + 1) calls) X same here fwd back (subst (λ (xs : List Entry). same ≡ true → (answers w (events xs) ≡ given xs) ↔ X) c h))
+
+pub lost_on : (w : World) (calls : List Entry) (i : ℕ) (d : Entry) (X : Type 0) (same here : Bool) → i < length calls
+    → ((step w (get_or calls i d).event).answer ≡ (get_or calls i d).answer → here ≡ true)
+    → (same ≡ true → (answers w (events (drop i calls)) ≡ given (drop i calls)) ↔ X) → (same ≡ false → X → ⊥)
+    → (same && here) ≡ false → X → ⊥
+lost_on w calls i d X same here less back h lost = let c : drop i calls ≡ get_or calls i d ∷ drop (i + 1) calls = rw (add-one, drop-cons calls i d) refl in
+    lost_more w (get_or calls i d) (drop (i + 1) calls) X same here back (subst (λ (xs : List Entry). same ≡ true → (answers w (events xs) ≡ given xs) ↔ X) c h) lost

@@ -2,7 +2,8 @@
 //!
 //! A [`History`] has of each call who made it, what was asked and what was answered. Its meaning is the list of these
 //! entries, the oldest first. [`History::record`] takes an event on a device and keeps the call. [`History::step`] steps a
-//! second device by an entry, and [`History::gives`] tells besides whether that device answers as was kept.
+//! second device by an entry, and [`History::gives`] tells besides whether that device answers as was kept; both go through all
+//! entries as [`History::step_all`] and [`History::gives_all`].
 //!
 //! An entry is a head of 32 bytes and, in a pool that all entries share, the bytes of its frame, or those that it wrote to or
 //! read from a memory, and 8 bytes for each vector of which some pool got a message. The room for as many entries as there

@@ -12,7 +12,7 @@ use Rattle.std.proofs.lemmas.List.Elements.{All-append, All-cons, All-nil}
 use Rattle.device.specs.declared.event.Event.{Event}
 use Rattle.device.specs.World.{World, step, fresh, sizes_of, answers, world_after}
 use Rattle.device.proofs.Shape.{step_shape}
-use Rattle.history.specs.Entries.{Entry, entry, is_cap}
+use Rattle.history.specs.Entries.{Entry, entry, events, is_cap}
 use Rattle.device_lock.specs.Callers.{may}
 use Rattle.history.proofs.ReplayLemmas.{fresh_again, leads_more}
 use Rattle.device_lock.specs.Legal.{Legal, kept_raises}

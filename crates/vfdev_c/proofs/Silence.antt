@@ -12,7 +12,7 @@ use Rattle.device.specs.declared.event.Reply.{Reply}
 use Rattle.device.specs.declared.event.Reply.TheVariants.{Done, Value}
 use Rattle.device.specs.Act.{performed, unless_refused, refusal, act, is_bad_offset, is_done}
 use Rattle.device.specs.World.{World, Stepped, function_of, acted, refused, replied, own_step, pf_word, pf_written, step}
-use Rattle.device.proofs.Arrivals.{told_nothing}
+use Rattle.device.proofs.Arrivals.{raised_nothing}
 use Rattle.vfdev_c.specs.Handle.{is_silent}
 
 performed_silent : (f : Function) (e : Event) → is_silent e ≡ true → (performed f e).messages ≡ 0
@@ -39,7 +39,7 @@ act_silent f e is = unless_silent (refusal f e) f e is
 
 own_silent : (w : World) (p : ℕ) (e : Event) → is_silent e ≡ true → (there : Bool)
     → (if there then acted w p (act (function_of p w) e) else refused w NoSuchVf).answer.raised ≡ no_messages
-own_silent w p e is true = ap (λ m. slice_set no_messages p m) (act_silent (function_of p w) e is) ∙ told_nothing p
+own_silent w p e is true = ap (λ m. slice_set no_messages p m) (act_silent (function_of p w) e is) ∙ raised_nothing p
 own_silent w p e is false = refl
 
 flagged_silent : (p : ℕ) (s : Stepped) (done : Bool)

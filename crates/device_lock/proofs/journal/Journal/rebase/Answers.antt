@@ -16,7 +16,7 @@ invariant_of-self-2 g c =
     let empty : c.clear.new.self.entries ≡ [] = c.clear.ensures.entries in
     let from : Option World → Type 0 = λ o. Legal (base_of o live) calls live in
     let legal : Legal c.in-Some.twin calls live = subst from c.in-Some.is old.legal in
-    let there : c.step_through.new.device ≡ live = c.step_through.ensures ∙ legal.world in
+    let there : c.step_all.new.device ≡ live = c.step_all.ensures ∙ legal.world in
     let count = c.len-count.ensures.len in
     record {
       legal = rw (empty, there) (legal_none live);

@@ -9,21 +9,32 @@ use wire_frame::PoolId;
 #[test]
 fn messages_follow_the_mask(rt: HostRuntime) {
     let mut causes = Causes::new();
-    assert_eq!(rt; causes.ims(0b010), 0b000, "nothing stands");
-    assert_eq!(rt; causes.ics(0b011), 0b010, "vector 0 is not enabled");
-    assert_eq!(rt; causes.read_icr(), 0b011, "both stand");
-    assert_eq!(rt; causes.ics(0b001), 0b000, "vector 0 is still not enabled");
+    assert_equal_at(&rt, causes.ims(0b010), 0b000, "nothing stands");
+    assert_equal_at(&rt, causes.ics(0b011), 0b010, "vector 0 is not enabled");
+    assert_equal_at(&rt, causes.read_icr(), 0b011, "both stand");
+    assert_equal_at(
+        &rt,
+        causes.ics(0b001),
+        0b000,
+        "vector 0 is still not enabled",
+    );
     causes.iac(0b001);
-    assert_eq!(rt; causes.ims(0b001), 0b001, "the cause was waiting");
-    assert_eq!(rt; causes.read_icr(), 0b000, "it was cleared automatically");
-    assert_eq!(rt; causes.ims(0b001), 0b000, "vector 0 is enabled already");
+    assert_equal_at(&rt, causes.ims(0b001), 0b001, "the cause was waiting");
+    assert_equal_at(
+        &rt,
+        causes.read_icr(),
+        0b000,
+        "it was cleared automatically",
+    );
+    assert_equal_at(&rt, causes.ims(0b001), 0b000, "vector 0 is enabled already");
     causes.imc(0b010);
     assert_equal(&rt, causes.mask(), 0b001);
-    assert_eq!(rt; causes.ics(0b111), 0b001, "the others are not enabled");
-    assert_eq!(rt;
+    assert_equal_at(&rt, causes.ics(0b111), 0b001, "the others are not enabled");
+    assert_equal_at(
+        &rt,
         causes.read_icr(),
         0b110,
-        "vector 0 was cleared automatically"
+        "vector 0 was cleared automatically",
     );
 }
 
@@ -44,10 +55,10 @@ fn a_standing_cause_is_silent(rt: HostRuntime) {
     let mut causes = Causes::new();
     assert_equal(&rt, causes.ims(0b111), 0b000);
     assert_equal(&rt, causes.cause(2), 0b100);
-    assert_eq!(rt; causes.cause(2), 0b000, "the cause stands");
+    assert_equal_at(&rt, causes.cause(2), 0b000, "the cause stands");
     assert_equal(&rt, causes.cause(0), 0b001);
     causes.write_icr(0b100);
-    assert_eq!(rt; causes.cause(2), 0b100, "the cause was cleared");
+    assert_equal_at(&rt, causes.cause(2), 0b100, "the cause was cleared");
     causes.write_icr(0b001);
     assert_equal(&rt, causes.read_icr(), 0b100);
 }
@@ -147,7 +158,7 @@ fn a_pool_is_told_anew(rt: HostRuntime) -> Result<(), Fail> {
     second.masks_are_small();
     assert_equal(&rt, second.to(fifth).bits(), 0b001);
     assert!(rt; second.to(sixth).is_empty());
-    assert_eq!(rt; first.to(fifth).bits(), 0b110, "the copy stays");
+    assert_equal_at(&rt, first.to(fifth).bits(), 0b110, "the copy stays");
     assert!(rt; first != second);
     second.set(fifth, Vectors::from_bits(0));
     assert_equal(&rt, second, Messages::default());

@@ -217,7 +217,7 @@ fn take_says_where_bytes_lie(rt: HostRuntime) -> Result<(), Fail> {
 fn limits_and_sizes_are_shown(rt: HostRuntime) -> Result<(), Fail> {
     let device = Device::with_limit(rt.alloc(), memories(rt.alloc(), 2)?, 9018)?;
     assert_equal(&rt, device.limit().get(), 9018);
-    assert_equal(&rt, device.functions(), 2);
+    assert_eq!(rt; device.functions(), 2);
     assert_equal(&rt, device.memory_size(1), 65536);
     Ok(())
 }

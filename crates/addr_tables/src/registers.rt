@@ -38,3 +38,5 @@ pub const MCSTCTRL_KEPT: u32 = 7;
 pub const VALID: u32 = 31;
 /// Bit MFE of MCSTCTRL: the multicast table is used.
 pub const MFE: u32 = 2;
+/// How many bits of an address are its hash.
+pub const HASH_SIZE: u32 = 12;

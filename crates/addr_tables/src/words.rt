@@ -7,9 +7,11 @@ ghost use Rattle.pool_index.specs.Entries.{IsAnswer};
 ghost use Rattle.addr_tables.specs.declared.registers.TheConstants.{RAL, RAH, MPSAR};
 ghost use Rattle.addr_tables.specs.Addresses.{initial_addresses, addresses_at, addresses_after, entry_address, entry_has_pool, address_entries, hash_low, multicast_hit};
 
-use crate::registers::{MCSTCTRL, MCSTCTRL_KEPT, MFE, MPSAR, MTA, RAH, RAL, VALID};
+use crate::registers::{HASH_SIZE, MCSTCTRL, MCSTCTRL_KEPT, MFE, MPSAR, MTA, RAH, RAL, VALID};
 use std::marker::Model;
-use wire_frame::{Mac, PoolId, has_bit, pool_words, read_one, read_word, write_one, write_word};
+use wire_frame::{
+    Mac, PoolId, field, has_bit, pool_words, read_one, read_word, write_one, write_word,
+};
 
 /// The words of 128 receive addresses, each with its pools, and of the multicast table (82599 datasheet, Packet
 /// Filtering).
@@ -175,7 +177,7 @@ impl Words {
     pub(crate) fn multicast_hit(&self, address: Mac) -> bool
         ensures { result ≡ multicast_hit self.now (little_number 6 address.0) }
     {
-        let hash = (address.number() >> hash_low(self.control)) % 4096;
+        let hash = field(address.number(), hash_low(self.control), HASH_SIZE);
         let word = self.hashes[(hash / 32) as usize];
         has_bit(u64::from(self.control), MFE) && has_bit(u64::from(word), (hash % 32) as u32)
     }

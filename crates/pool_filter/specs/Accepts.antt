@@ -8,7 +8,7 @@ use Rattle.wire_frame.specs.Bits.{has_bit, has_bit_in, field}
 use Rattle.wire_frame.specs.Frame.{destination, is_tagged, vlan_id}
 use Rattle.addr_tables.specs.Addresses.{has_address, multicast_hit}
 use Rattle.vlan_table.specs.Vlans.{is_filtering, has_vlan}
-use Rattle.pool_filter.specs.declared.registers.TheConstants.{AUPE, ROMPE, BAM, MPE, DEFAULT_POOL, DEFAULT_POOL_OFF, LOOPBACK}
+use Rattle.pool_filter.specs.declared.registers.TheConstants.{AUPE, ROMPE, BAM, MPE, DEFAULT_POOL, DEFAULT_POOL_SIZE, DEFAULT_POOL_OFF, LOOPBACK}
 use Rattle.pool_filter.specs.Settings.{Settings}
 
 -- ---- the flags of a pool
@@ -58,7 +58,7 @@ accepts s pool frame =
 
 -- the pool that takes frames from the wire which no pool accepts, if there is one
 abbrev pub default_pool : Settings → Option ℕ
-default_pool s = if has_bit s.pool_control DEFAULT_POOL_OFF then None else Some (field s.pool_control DEFAULT_POOL 6)
+default_pool s = if has_bit s.pool_control DEFAULT_POOL_OFF then None else Some (field s.pool_control DEFAULT_POOL DEFAULT_POOL_SIZE)
 
 -- frames go from pool to pool
 abbrev pub loops_back : Settings → Bool

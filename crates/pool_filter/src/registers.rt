@@ -59,12 +59,16 @@ pub const BAM: u32 = 27;
 pub const MPE: u32 = 28;
 /// The lowest bit of VMVIR's rule, bits 31:30.
 pub const PORT_VLAN_RULE: u32 = 30;
+/// How many bits VMVIR's rule has.
+pub const PORT_VLAN_RULE_SIZE: u32 = 2;
 /// The rule of VMVIR that always inserts its tag.
 pub const ALWAYS: u32 = 1;
 /// The rule of VMVIR that inserts none.
 pub const NEVER: u32 = 2;
 /// The lowest bit of DEF_PL of PF_VT_CTL, bits 12:7: the default pool.
 pub const DEFAULT_POOL: u32 = 7;
+/// How many bits DEF_PL has.
+pub const DEFAULT_POOL_SIZE: u32 = 6;
 /// Bit DIS_DEF_POOL of PF_VT_CTL: there is no default pool.
 pub const DEFAULT_POOL_OFF: u32 = 29;
 /// Bit LBE of PFDTXGSWC: frames go from pool to pool.

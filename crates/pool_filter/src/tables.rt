@@ -12,15 +12,16 @@ use crate::flags::PoolFlags;
 use crate::masks::FlagMasks;
 use crate::own::{Own, port_vlan_of, put_addresses, put_vlan_ids};
 use crate::registers::{
-    DEFAULT_POOL, DEFAULT_POOL_OFF, LOOPBACK, PF_VT_CTL, PF_VT_CTL_INITIAL, PF_VT_CTL_KEPT,
-    PF_VT_CTL_SET, PFDTXGSWC, PFDTXGSWC_KEPT, PFVFRE, PFVFSPOOF, PFVFTE, VMVIR,
+    DEFAULT_POOL, DEFAULT_POOL_OFF, DEFAULT_POOL_SIZE, LOOPBACK, PF_VT_CTL, PF_VT_CTL_INITIAL,
+    PF_VT_CTL_KEPT, PF_VT_CTL_SET, PFDTXGSWC, PFDTXGSWC_KEPT, PFVFRE, PFVFSPOOF, PFVFTE, VMVIR,
 };
 use addr_tables::AddrTables;
 use bitflags::Flags;
 use std::marker::Model;
 use vlan_table::VlanTable;
 use wire_frame::{
-    Mac, PoolId, PortVlan, Vid, has_bit, pool_words, read_one, read_word, write_one, write_word,
+    Mac, PoolId, PortVlan, Vid, field, has_bit, pool_words, read_one, read_word, write_one,
+    write_word,
 };
 
 /// All settings of the physical function: the words of its registers, but for those that show which functions were reset.
@@ -235,7 +236,12 @@ impl Tables {
         if has_bit(u64::from(self.pool_control), DEFAULT_POOL_OFF) {
             return None;
         }
-        PoolId::new(((self.pool_control >> DEFAULT_POOL) % 64) as u8)
+        let pool = field(
+            u64::from(self.pool_control),
+            DEFAULT_POOL,
+            DEFAULT_POOL_SIZE,
+        );
+        PoolId::new(pool as u8)
     }
 
     /// Whether frames go from pool to pool (82599 datasheet, PFDTXGSWC).

@@ -6,7 +6,7 @@ use Rattle.wire_frame.specs.declared.vlan.PortVlan.{PortVlan}
 use Rattle.wire_frame.specs.declared.vlan.PortVlan.TheVariants.{Descriptor, Always, Never}
 use Rattle.guest_memory.specs.Memory.{overwrite, word_at, word_bytes}
 use Rattle.rings.specs.Ring.{RingState, head_slot, head_after}
-use Rattle.tx_desc.specs.declared.descriptor.TheConstants.{DTYP, DTYP_CONTEXT, DTYP_DATA, EOP, RS, DEXT, VLE, TSE, DD, VLAN}
+use Rattle.tx_desc.specs.declared.descriptor.TheConstants.{DTYP, DTYP_SIZE, DTYP_CONTEXT, DTYP_DATA, EOP, RS, DEXT, VLE, TSE, DD, VLAN, VLAN_SIZE}
 use Rattle.tx_desc.specs.declared.descriptor.Kind.{Kind}
 use Rattle.tx_desc.specs.declared.descriptor.Kind.TheVariants.{Context, Unusable, Data}
 use Rattle.tx_desc.specs.declared.descriptor.TxDescriptor.{TxDescriptor}
@@ -21,7 +21,7 @@ length_of word = word % 2 ^ 16
 
 -- DTYP: the type of an advanced descriptor
 abbrev pub type_of : ℕ → ℕ
-type_of word = field word DTYP 4
+type_of word = field word DTYP DTYP_SIZE
 
 -- EOP: it is the last one of its frame
 abbrev pub ends_frame : ℕ → Bool
@@ -45,7 +45,7 @@ wants_segments word = has_bit word TSE
 
 -- of a legacy descriptor: the tag control
 abbrev pub own_tag : ℕ → ℕ
-own_tag word = field word VLAN 16
+own_tag word = field word VLAN VLAN_SIZE
 
 -- the word as it is written back: DD is 1, and every other bit stays
 abbrev pub done_word : ℕ → ℕ

@@ -1,4 +1,4 @@
--- An open virtual function: its state, what a frame that comes does, and what the fetched_from of a transmit queue does.
+-- An open virtual function: its state, what a frame that comes does, and what the service of a transmit queue does.
 use Rattle.std.specs.Prelude.{ℕ, ◌+◌, ◌*◌, ◌%◌, ◌^◌, ◌≤◌, Bool, true, false, List, [], length, IsTrue}
 use Rattle.wire_frame.specs.Bits.{field}
 use Rattle.wire_frame.specs.declared.vlan.PortVlan.{PortVlan}
@@ -8,6 +8,7 @@ use Rattle.rx_desc.specs.declared.placing.Placed.{Placed}
 use Rattle.rx_desc.specs.declared.placing.Placed.TheVariants.{Put, NoRoom, Faulted}
 use Rattle.rx_desc.specs.Receive.{Delivery, deliver}
 use Rattle.irq_causes.specs.Causes.{CauseState, Change, no_causes, silent, raised_by}
+use Rattle.vf_unit.specs.declared.offsets.TheConstants.{RECEIVE_VECTOR_0, TRANSMIT_VECTOR_0, TRANSMIT_VECTOR_1, VECTOR_SIZE}
 use Rattle.vf_unit.specs.declared.registers.Queue.{Queue}
 use Rattle.vf_unit.specs.declared.registers.Queue.TheVariants.{Q0, Q1}
 use Rattle.vf_unit.specs.declared.queues.ReceiveQueue.{ReceiveQueue}
@@ -103,7 +104,7 @@ counted Faulted n = n
 
 -- the cause of receive queue 0, whose vector is the lowest byte, is raised where a frame was placed
 abbrev pub announced : Placed → ℕ → CauseState → Change
-announced Put vectors c = raised_by c (field vectors 0 8)
+announced Put vectors c = raised_by c (field vectors RECEIVE_VECTOR_0 VECTOR_SIZE)
 announced NoRoom vectors c = silent c
 announced Faulted vectors c = silent c
 
@@ -122,8 +123,8 @@ delivered loopback frame s =
 
 -- the byte of the vectors that is of a transmit queue
 abbrev pub transmit_vector : ℕ → Queue → ℕ
-transmit_vector vectors Q0 = field vectors 8 8
-transmit_vector vectors Q1 = field vectors 24 8
+transmit_vector vectors Q0 = field vectors TRANSMIT_VECTOR_0 VECTOR_SIZE
+transmit_vector vectors Q1 = field vectors TRANSMIT_VECTOR_1 VECTOR_SIZE
 
 -- one descriptor taken
 abbrev pub fetched_from : ℕ → PortVlan → State → Queue → Fetching

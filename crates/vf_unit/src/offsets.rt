@@ -96,5 +96,13 @@ pub const ADVANCED: u32 = 1;
 pub const SRRCTL_KEPT: u32 = 0x0E00_001F;
 /// The bits of VTIVAR that a write keeps: of each byte the vector, and whether it is valid.
 pub const VTIVAR_KEPT: u32 = 0x8383_8383;
+/// The lowest bit of VTIVAR's byte of receive queue 0.
+pub const RECEIVE_VECTOR_0: u32 = 0;
+/// The lowest bit of VTIVAR's byte of transmit queue 0.
+pub const TRANSMIT_VECTOR_0: u32 = 8;
+/// The lowest bit of VTIVAR's byte of transmit queue 1.
+pub const TRANSMIT_VECTOR_1: u32 = 24;
+/// How many bits a vector has in VTIVAR, with the one that allocates it.
+pub const VECTOR_SIZE: u32 = 8;
 /// The bits of VTIVAR_MISC that a write keeps.
 pub const VTIVAR_MISC_KEPT: u32 = 0x83;

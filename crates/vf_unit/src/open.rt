@@ -1,12 +1,16 @@
 //! An open virtual function.
 ghost use Rattle.std.specs.Prelude.{◌≡◌, ℕ, ◌+◌, ◌≤◌, ◌<◌, ◌^◌, ◌%◌, length, slice_range, replicate, IfOk};
+ghost use Rattle.wire_frame.specs.Bits.{field};
 ghost use Rattle.guest_memory.specs.Memory.{overwrite};
 ghost use Rattle.rings.specs.Ring.{ring_written};
 ghost use Rattle.tx_desc.specs.Lent.{fetched_in, lent_after};
 ghost use Rattle.vf_unit.specs.Function.{State, initial, receive_of, transmit_of, with_receive, with_transmit, with_fetching, fetched_from, after_fetching, delivered};
 ghost use Rattle.vf_unit.specs.Access.{word, after_read, buffers_written, receive_switched, transmit_switched, register_written, word_at_offset, after_read_at, written_at};
 
-use crate::offsets::{DROP_EN, LINK_UP, RST, VTIVAR_KEPT, VTIVAR_MISC_KEPT};
+use crate::offsets::{
+    DROP_EN, LINK_UP, RECEIVE_VECTOR_0, RST, TRANSMIT_VECTOR_0, TRANSMIT_VECTOR_1, VECTOR_SIZE,
+    VTIVAR_KEPT, VTIVAR_MISC_KEPT,
+};
 use crate::queues::{ReceiveQueue, TransmitQueue};
 use crate::registers::{Queue, Register, register_of};
 use guest_memory::{GuestMem, read_bytes, write_bytes};
@@ -16,7 +20,7 @@ use rx_desc::{Placed, RxConfig, place_within};
 use std::alloc::{AllocError, Global};
 use std::marker::Model;
 use tx_desc::{Progress, Served, fetch_within};
-use wire_frame::{FrameBuf, FrameLimit, PortVlan, has_bit};
+use wire_frame::{FrameBuf, FrameLimit, PortVlan, field, has_bit};
 
 /// What SRRCTL always reads, beside what is kept of it.
 const DROPS: u32 = 1 << DROP_EN;
@@ -310,7 +314,16 @@ impl<M: GuestMem> OpenVf<M> {
             return 0;
         }
         self.frames_received = self.frames_received.wrapping_add(1);
-        self.causes.raise_by((self.queue_vectors % 256) as u8)
+        self.causes.raise_by(self.vector(RECEIVE_VECTOR_0))
+    }
+
+    // The byte of the queues' vectors from that bit on.
+    #[inline]
+    fn vector(&self, low: u32) -> u8
+        requires { low < 64 }
+        ensures { result ≡ field self.now.queue_vectors low 8 }
+    {
+        field(u64::from(self.queue_vectors), low, VECTOR_SIZE) as u8
     }
 
     /// Takes the descriptor at the head of a transmit queue. A frame that ends with it is left in `frame`, which else stays
@@ -335,10 +348,10 @@ impl<M: GuestMem> OpenVf<M> {
         let served = self.fetch_from(queue, frame, rule, limit);
         let messages = if served.reported {
             let vector = match queue {
-                Queue::Q0 => self.queue_vectors / 256 % 256,
-                Queue::Q1 => self.queue_vectors / 16_777_216 % 256,
+                Queue::Q0 => self.vector(TRANSMIT_VECTOR_0),
+                Queue::Q1 => self.vector(TRANSMIT_VECTOR_1),
             };
-            self.causes.raise_by(vector as u8)
+            self.causes.raise_by(vector)
         } else {
             0
         };

@@ -2,8 +2,8 @@
 //!
 //! A [`FrameBuf`] is a frame by its type: 14 to 9018 bytes without FCS, of which a tagged one has at least 18.
 //! [`PoolId`], [`Vid`] and [`FrameLimit`] carry their bounds in the same way, and [`Fault`] names every refusal of the
-//! device. Beside them stand the words that several crates speak of: bits ([`has_bit`]), sets of pools as masks
-//! ([`pool_words`]) and rows of a register map ([`Row`]). No call takes memory.
+//! device. Beside them stand the words that several crates speak of: bits ([`has_bit`]) and fields ([`field`])
+//! of words, sets of pools as masks ([`pool_words`]) and rows of a register map ([`Row`]). No call takes memory.
 #![tactic(auto)]
 
 pub mod address;
@@ -15,7 +15,7 @@ pub mod row;
 pub mod vlan;
 
 pub use address::{AddressKind, Mac};
-pub use bits::{has_bit, pool_words};
+pub use bits::{field, has_bit, pool_words};
 pub use fault::Fault;
 pub use frame::{ByteSource, FrameBuf, FrameBytes, FrameLimit};
 pub use pool::PoolId;

@@ -1,3 +1,4 @@
+-- The shares have the name and the number of the blank that they are made of.
 use Rattle.soak.proofs.main.Given as goal
 
 abbrev pub ghosts-round : goal.ghosts-round

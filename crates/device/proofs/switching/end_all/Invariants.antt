@@ -1,3 +1,4 @@
+-- The functions so far are closed, and the others as they were.
 use Rattle.std.proofs.Common.{◌≡◌, ◌++◌, map, take, drop}
 use Rattle.vf_unit.specs.Unit.{ended}
 use Rattle.device.proofs.switching.end_all.Given as goal

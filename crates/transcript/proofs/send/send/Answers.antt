@@ -1,3 +1,4 @@
+-- A writer that failed has a beginning of the text.
 use Rattle.transcript.proofs.Known.{began_cut}
 use Rattle.transcript.proofs.send.send.Goals as goal
 

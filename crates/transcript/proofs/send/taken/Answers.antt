@@ -1,3 +1,4 @@
+-- Each part that the writer took follows those before it.
 use Rattle.std.proofs.Common.{arith, take-add, length-drop}
 use Rattle.std.proofs.KnownBytes.{Appends-kept, Appends-trans}
 use Rattle.transcript.proofs.Known.{slice_end}

@@ -1,3 +1,4 @@
+-- The words of messages fill the front of the room.
 use Rattle.std.proofs.Common.{length, sym, ap, ◌∙◌}
 use Rattle.std.proofs.lemmas.List.{length-take-le}
 use Rattle.vfdev_c.proofs.events.put_messages.Goals as goal

@@ -1,3 +1,4 @@
+-- The memories so far have the size that was asked for.
 use Rattle.std.proofs.Common.{◌≡◌, replicate, map, length}
 use Rattle.vfdev_c.specs.Memory.{bytes_of}
 use Rattle.vfdev_c.proofs.making.memories.Given as goal

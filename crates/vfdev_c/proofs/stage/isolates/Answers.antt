@@ -1,3 +1,4 @@
+-- The isolation law of one event.
 use Rattle.std.proofs.Common.{[], ◌∷◌}
 use Rattle.vfdev_c.specs.Handle.{IsolatedStep}
 use Rattle.vfdev_c.proofs.stage.isolates.Goals as goal

@@ -1,3 +1,4 @@
+-- A frame that is received is the next of the sequence.
 use Rattle.wire_pump.proofs.Moves.{pops, learns}
 use Rattle.wire_pump.proofs.ends.receive.Goals as goal
 

@@ -1,3 +1,4 @@
+-- A frame that is sent is the last of the sequence.
 use Rattle.wire_pump.proofs.Moves.{pushes, learns}
 use Rattle.wire_pump.proofs.ends.send.Goals as goal
 

@@ -1,3 +1,4 @@
+-- The frames so far were sent, in their order.
 use Rattle.std.proofs.Common.{◌≡◌, ◌++◌, take, map}
 use Rattle.wire_pump.specs.declared.message.WireMsg.TheVariants.{Frame}
 use Rattle.wire_pump.proofs.feeding.feed.Given as goal

@@ -1,3 +1,4 @@
+-- The rule of the sequence holds where nothing was sent, and of each end.
 use Rattle.std.proofs.Common.{rules}
 use Rattle.wire_pump.proofs.Moves.{begins, forks}
 use Rattle.wire_pump.proofs.making.ends.Goals as goal

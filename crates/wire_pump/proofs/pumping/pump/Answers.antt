@@ -1,3 +1,4 @@
+-- Each turn gives the door the frame that it received.
 use Rattle.std.proofs.Common.{rules, ◌++◌, ◌∷◌, [], ap}
 use Rattle.std.specs.Box.{box_value}
 use Rattle.device.specs.declared.event.Event.TheVariants.{Wire}

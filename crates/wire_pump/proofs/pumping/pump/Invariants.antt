@@ -1,3 +1,4 @@
+-- The frames that were received are those that the door took, in their order.
 use Rattle.std.proofs.Common.{◌≡◌, ℕ, List, ◌++◌, map}
 use Rattle.device.specs.declared.event.Event.TheVariants.{Wire}
 use Rattle.wire_pump.specs.declared.message.WireMsg.TheVariants.{Frame}

@@ -1,3 +1,4 @@
+-- Head and what it is moved by stay below twice the count.
 use Rattle.std.proofs.Common.{arith}
 use Rattle.rings.proofs.Places.{length-owned, owned_count-lt}
 use Rattle.rings.proofs.ring.Ring.advance.Goals as goal

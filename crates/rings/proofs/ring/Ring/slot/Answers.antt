@@ -1,3 +1,4 @@
+-- An owned descriptor lies inside the memory, and its place in the ring is found by one turn.
 use Rattle.std.proofs.Common.{arith}
 use Rattle.std.proofs.lemmas.Grind.{common_steps}
 use Rattle.rings.proofs.Places.{owned_at}

@@ -4,7 +4,7 @@ use Rattle.wire_frame.specs.Bits.{has_bit, with_bit}
 use Rattle.rings.specs.Ring.{RingState, ring_word, ring_written, turned}
 use Rattle.tx_desc.specs.Transmit.{Gathered}
 use Rattle.irq_causes.specs.Causes.{CauseState, all_raised, all_unmasked, masked, auto_clearing, cleared, emptied}
-use Rattle.vf_unit.specs.declared.offsets.TheConstants.{LINK_UP, ENABLE, VME, RST, DESCTYPE, ADVANCED, DROP_EN, SRRCTL_KEPT, VTIVAR_KEPT, VTIVAR_MISC_KEPT}
+use Rattle.vf_unit.specs.declared.offsets.TheConstants.{LINK_UP, ENABLE, VME, RST, DESCTYPE, ADVANCED, BUFFER_SIZES, DROP_EN, SRRCTL_KEPT, VTIVAR_KEPT, VTIVAR_MISC_KEPT}
 use Rattle.vf_unit.specs.declared.queues.ReceiveQueue.{ReceiveQueue}
 use Rattle.vf_unit.specs.declared.queues.TransmitQueue.{TransmitQueue}
 use Rattle.vf_unit.specs.declared.registers.Register.{Register}
@@ -54,7 +54,7 @@ buffers_written queue x = if queue.ring.enabled then queue else record queue { b
 
 -- buffers of the advanced type, and of 1 to 16 KiB
 abbrev pub may_receive : ℕ → Bool
-may_receive buffers = (buffers / 2 ^ DESCTYPE == ADVANCED) && (nat_le 1 (buffers % 32) && nat_le (buffers % 32) 16)
+may_receive buffers = (buffers / 2 ^ DESCTYPE == ADVANCED) && (nat_le 1 (buffers % BUFFER_SIZES) && nat_le (buffers % BUFFER_SIZES) 16)
 
 -- RXDCTL, written, in a memory of n bytes: ENABLE turns the queue on or off, VME is whether tags are stripped
 abbrev pub receive_switched : ℕ → ReceiveQueue → ℕ → ReceiveQueue

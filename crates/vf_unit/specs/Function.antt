@@ -8,7 +8,7 @@ use Rattle.rx_desc.specs.declared.placing.Placed.{Placed}
 use Rattle.rx_desc.specs.declared.placing.Placed.TheVariants.{Put, NoRoom, Faulted}
 use Rattle.rx_desc.specs.Receive.{Delivery, deliver}
 use Rattle.irq_causes.specs.Causes.{CauseState, Change, no_causes, silent, raised_by}
-use Rattle.vf_unit.specs.declared.offsets.TheConstants.{RECEIVE_VECTOR_0, TRANSMIT_VECTOR_0, TRANSMIT_VECTOR_1, VECTOR_SIZE}
+use Rattle.vf_unit.specs.declared.offsets.TheConstants.{BUFFER_SIZES, RECEIVE_VECTOR_0, TRANSMIT_VECTOR_0, TRANSMIT_VECTOR_1, VECTOR_SIZE}
 use Rattle.vf_unit.specs.declared.registers.Queue.{Queue}
 use Rattle.vf_unit.specs.declared.registers.Queue.TheVariants.{Q0, Q1}
 use Rattle.vf_unit.specs.declared.queues.ReceiveQueue.{ReceiveQueue}
@@ -52,8 +52,8 @@ initial memory = record {
 -- a receive queue that is on lies inside a memory of n bytes, and has buffers of 1 to 16 KiB
 pub record IsReceiving (n : ℕ) (q : ReceiveQueue) : Type 0 where
   pub inside : LiesInside n q.ring
-  pub least : IsTrue q.ring.enabled → 1 ≤ q.buffers % 32
-  pub most : IsTrue q.ring.enabled → q.buffers % 32 ≤ 16
+  pub least : IsTrue q.ring.enabled → 1 ≤ q.buffers % BUFFER_SIZES
+  pub most : IsTrue q.ring.enabled → q.buffers % BUFFER_SIZES ≤ 16
 
 -- queues that are on lie inside the memory
 pub record IsTied (s : State) : Type 0 where
@@ -117,7 +117,7 @@ after_placing s d =
 -- a frame comes to the function, from the wire or from another pool; it goes to receive queue 0
 unfoldable pub delivered : Bool → List ℕ → State → Effect
 delivered loopback frame s =
-    after_placing s (deliver (record { buffer_size = 1024 * (s.receive_0.buffers % 32); strip_tag = s.receive_0.strips_tag }) loopback frame s.memory s.receive_0.ring)
+    after_placing s (deliver (record { buffer_size = 1024 * (s.receive_0.buffers % BUFFER_SIZES); strip_tag = s.receive_0.strips_tag }) loopback frame s.memory s.receive_0.ring)
 
 -- ---- the service of a transmit queue
 

@@ -96,6 +96,8 @@ pub const ADVANCED: u32 = 1;
 pub const SRRCTL_KEPT: u32 = 0x0E00_001F;
 /// The bits of VTIVAR that a write keeps: of each byte the vector, and whether it is valid.
 pub const VTIVAR_KEPT: u32 = 0x8383_8383;
+/// How many buffer sizes SRRCTL has in bits 4:0 (BSIZEPACKET), in KiB.
+pub const BUFFER_SIZES: u32 = 32;
 /// The lowest bit of VTIVAR's byte of receive queue 0.
 pub const RECEIVE_VECTOR_0: u32 = 0;
 /// The lowest bit of VTIVAR's byte of transmit queue 0.

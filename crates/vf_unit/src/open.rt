@@ -8,8 +8,8 @@ ghost use Rattle.vf_unit.specs.Function.{State, initial, receive_of, transmit_of
 ghost use Rattle.vf_unit.specs.Access.{word, after_read, buffers_written, receive_switched, transmit_switched, register_written, word_at_offset, after_read_at, written_at};
 
 use crate::offsets::{
-    DROP_EN, LINK_UP, RECEIVE_VECTOR_0, RST, TRANSMIT_VECTOR_0, TRANSMIT_VECTOR_1, VECTOR_SIZE,
-    VTIVAR_KEPT, VTIVAR_MISC_KEPT,
+    BUFFER_SIZES, DROP_EN, LINK_UP, RECEIVE_VECTOR_0, RST, TRANSMIT_VECTOR_0, TRANSMIT_VECTOR_1,
+    VECTOR_SIZE, VTIVAR_KEPT, VTIVAR_MISC_KEPT,
 };
 use crate::queues::{ReceiveQueue, TransmitQueue};
 use crate::registers::{Queue, Register, register_of};
@@ -299,7 +299,7 @@ impl<M: GuestMem> OpenVf<M> {
         ensures size { length self.new.memory ≡ length self.old.memory }
     {
         let config = RxConfig {
-            buffer_size: 1024 * (self.receive_0.buffers % 32) as usize,
+            buffer_size: 1024 * (self.receive_0.buffers % BUFFER_SIZES) as usize,
             strip_tag: self.receive_0.strips_tag,
         };
         let placed = place_within(
@@ -314,16 +314,8 @@ impl<M: GuestMem> OpenVf<M> {
             return 0;
         }
         self.frames_received = self.frames_received.wrapping_add(1);
-        self.causes.raise_by(self.vector(RECEIVE_VECTOR_0))
-    }
-
-    // The byte of the queues' vectors from that bit on.
-    #[inline]
-    fn vector(&self, low: u32) -> u8
-        requires { low < 64 }
-        ensures { result ≡ field self.now.queue_vectors low 8 }
-    {
-        field(u64::from(self.queue_vectors), low, VECTOR_SIZE) as u8
+        self.causes
+            .raise_by(vector_at(self.queue_vectors, RECEIVE_VECTOR_0))
     }
 
     /// Takes the descriptor at the head of a transmit queue. A frame that ends with it is left in `frame`, which else stays
@@ -348,8 +340,8 @@ impl<M: GuestMem> OpenVf<M> {
         let served = self.fetch_from(queue, frame, rule, limit);
         let messages = if served.reported {
             let vector = match queue {
-                Queue::Q0 => self.vector(TRANSMIT_VECTOR_0),
-                Queue::Q1 => self.vector(TRANSMIT_VECTOR_1),
+                Queue::Q0 => vector_at(self.queue_vectors, TRANSMIT_VECTOR_0),
+                Queue::Q1 => vector_at(self.queue_vectors, TRANSMIT_VECTOR_1),
             };
             self.causes.raise_by(vector)
         } else {
@@ -433,4 +425,13 @@ impl<M: GuestMem> OpenVf<M> {
     {
         write_bytes(&mut self.memory, at, source);
     }
+}
+
+// The vector of a queue, by the lowest bit of its byte in VTIVAR.
+#[inline]
+fn vector_at(vectors: u32, low: u32) -> u8
+    requires { low < 64 }
+    ensures { result ≡ field vectors low 8 }
+{
+    field(u64::from(vectors), low, VECTOR_SIZE) as u8
 }

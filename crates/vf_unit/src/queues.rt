@@ -5,7 +5,7 @@ ghost use Rattle.vf_unit.specs.declared.offsets.TheConstants.{VME};
 ghost use Rattle.vf_unit.specs.Function.{initial_receive, initial_transmit, IsReceiving};
 ghost use Rattle.vf_unit.specs.Access.{enable_word, buffers_written, receive_switched, transmit_switched};
 
-use crate::offsets::{ADVANCED, DESCTYPE, ENABLE, SRRCTL_KEPT, VME};
+use crate::offsets::{ADVANCED, BUFFER_SIZES, DESCTYPE, ENABLE, SRRCTL_KEPT, VME};
 use rings::{Ring, RingRegister};
 use std::alloc::{AllocError, Global};
 use tx_desc::Pending;
@@ -93,7 +93,7 @@ impl ReceiveQueue {
         ensures value { self.new ≡ receive_switched memory_size self.old x }
         ensures kept { IsReceiving memory_size self.old → IsReceiving memory_size self.new }
     {
-        let size = self.buffers % 32;
+        let size = self.buffers % BUFFER_SIZES;
         let is_advanced = self.buffers / TYPE == ADVANCED;
         let may = is_advanced && size >= 1 && size <= 16;
         self.ring

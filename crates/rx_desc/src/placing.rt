@@ -5,6 +5,7 @@ ghost use Rattle.rings.specs.Ring.{owned, LiesInside};
 ghost use Rattle.rx_desc.specs.Parts.{text_of};
 ghost use Rattle.rx_desc.specs.Receive.{deliver, deliver_pieces, data_of, tag_taken, cut, pieces, slots, zip_writes, data_writes, back_writes, passes_end, status as status_of};
 
+use crate::descriptor::RxDescriptor;
 use crate::parts::{Parts, write_parts};
 use guest_memory::{GuestMem, read_word, write_words};
 use rings::Ring;
@@ -212,17 +213,18 @@ fn place_one<M: GuestMem>(
     ensures inside { LiesInside (length (M.bytes memory.new)) ring.new }
     ensures on { IsTrue ring.new.enabled → IsTrue ring.old.enabled }
 {
-    let Some(descriptor) = ring.head_slot() else {
+    let Some(at) = ring.head_slot() else {
         return Placed::NoRoom;
     };
-    let address = read_word(memory, descriptor);
+    let buffer = read_word(memory, at);
+    let descriptor = RxDescriptor { at, buffer };
     let count = source.len() as u64;
-    if count > memory_size || address > memory_size - count {
+    if !descriptor.holds(count, memory_size) {
         ring.disable();
         return Placed::Faulted;
     }
-    write_parts(memory, address, source);
-    write_words(memory, descriptor, 0, status(count, loopback, tag, true));
+    write_parts(memory, buffer, source);
+    write_words(memory, at, 0, status(count, loopback, tag, true));
     ring.advance(1);
     Placed::Put
 }
@@ -294,12 +296,13 @@ fn buffers<M: GuestMem>(
     let mut rest = source;
     for i in 0..count {
         let (piece, tail) = rest.split_at(size.min(rest.len()));
-        let address = read_word(memory, ring.slot(i as u32));
-        let len = piece.len() as u64;
-        if len > memory_size || address > memory_size - len {
+        let at = ring.slot(i as u32);
+        let buffer = read_word(memory, at);
+        let descriptor = RxDescriptor { at, buffer };
+        if !descriptor.holds(piece.len() as u64, memory_size) {
             return None;
         }
-        addresses[i] = address;
+        addresses[i] = buffer;
         rest = tail;
     }
     Some(addresses)

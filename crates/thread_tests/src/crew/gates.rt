@@ -249,7 +249,7 @@ fn gate_two_guests(rt: HostRuntime) -> Result<(), Fail> {
     );
     drop(log);
     let lines = sink.into_lines();
-    assert_equal(&rt, lines.len(), 12);
+    assert_eq!(rt; lines.len(), 12);
     for (at, worker) in WORKERS.iter().enumerate() {
         let starts = format!(in alloc; "[DEBUG workers::crew] worker {worker} starts")?;
         let ends = format!(in alloc; "[DEBUG workers::crew] worker {worker} ends")?;

@@ -2,9 +2,10 @@
 //!
 //! C holds a [`Vfdev`], which leads to nothing, to memories that were lent for a device, to a device, or to a device whose
 //! calls are kept. Each call says what the handle leads to after it, what is replied, which messages were issued and which
-//! bytes were handed out, whatever the handle led to before; the isolation law stands on each call that takes an event. No call has a premise: an argument that
-//! is out of range is refused by its name before the device is asked. What C owes stands in `include/vfdev.h`: pointers that
-//! lead to what their lengths say, and one call at a time. A handle may go from thread to thread.
+//! bytes were handed out, whatever the handle led to before; the isolation law stands on each call that takes an event. No call
+//! has a premise: an argument that is out of range is refused by its name before the device is asked. What C owes stands in
+//! `include/vfdev.h`: pointers that lead to what their lengths say, and one call at a time. A handle may go from thread to
+//! thread.
 //!
 //! No call takes memory but the makers.
 #![tactic(auto)]
@@ -24,6 +25,4 @@ pub mod recording;
 pub mod reply;
 pub mod service;
 pub mod stage;
-#[cfg(test)]
-mod tests;
 pub mod version;

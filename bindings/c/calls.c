@@ -1,0 +1,337 @@
+/* The calls of vfdev.h, by numbers worked out by hand: makers and freeing, refusals in their order, frames that come and leave,
+ * kept calls and their replay. It writes nothing, and ends with 0, where all is as it should be. */
+#include "vfdev.h"
+
+#include <stdio.h>
+#include <stdlib.h>
+#include <string.h>
+
+#define EQUAL(got, due) equal(__LINE__, (got), (due))
+#define REPLY(got, due_kind, due_value) reply(__LINE__, (got), (due_kind), (due_value))
+
+static void equal(int line, unsigned long long got, unsigned long long due)
+{
+    if (got != due) {
+        fprintf(stderr, "calls.c:%d: %llu, and not %llu\n", line, got, due);
+        exit(1);
+    }
+}
+
+static void reply(int line, vfdev_reply got, uint32_t kind, uint32_t value)
+{
+    equal(line, got.kind, kind);
+    equal(line, got.value, value);
+}
+
+struct write {
+    uint32_t offset;
+    uint32_t value;
+};
+
+static uint8_t messages[66];
+static uint8_t out[VFDEV_MOST_FRAME];
+static uint8_t many[65537];
+
+/* A frame of 60 bytes between addresses that end so. */
+static const uint8_t *frame(uint8_t to, uint8_t from)
+{
+    static uint8_t bytes[60];
+    memset(bytes, 0, sizeof bytes);
+    bytes[0] = 2;
+    bytes[5] = to;
+    bytes[6] = 2;
+    bytes[11] = from;
+    bytes[12] = 8;
+    return bytes;
+}
+
+static void write_all(vfdev *device, uint8_t function, const struct write *writes, size_t count)
+{
+    for (size_t at = 0; at < count; at++) {
+        REPLY(vfdev_vf_write(device, function, writes[at].offset, writes[at].value, messages, 64), VFDEV_DONE, 0);
+    }
+}
+
+/* Opens functions 0 and 1, of which 0 receives and 1 sends, in 26 calls: an address and both directions, loopback, a ring of
+ * eight descriptors with an interrupt for 0, and one of which two are handed over for 1: to a station on the wire, and to 0. */
+static void set_up(vfdev *device)
+{
+    static const struct write settings[] = {{0x51E0, 3}, {0x8110, 3}, {0x8220, 1},
+                                            {0xA200, 2}, {0xA204, 0x80000000}, {0xA600, 1}};
+    static const struct write receives[] = {{0x1000, 0x1000}, {0x1008, 128}, {0x1014, 0x02000002}, {0x1028, 0x02000000},
+                                            {0x1018, 2}, {0x120, 0x80}, {0x110, 1}, {0x108, 1}};
+    static const struct write sends[] = {{0x2000, 0x2000}, {0x2008, 128}, {0x2028, 0x02000000}, {0x2018, 2}};
+    static const uint8_t buffers[2][8] = {{0, 0x40}, {0, 0x48}};
+    static const uint8_t descriptors[2][16] = {{0, 0x60, 0, 0, 0, 0, 0, 0, 0x3C, 0, 0x30, 0x29},
+                                               {0, 0x61, 0, 0, 0, 0, 0, 0, 0x3C, 0, 0x30, 0x29}};
+    REPLY(vfdev_open(device, 0), VFDEV_DONE, 0);
+    REPLY(vfdev_open(device, 1), VFDEV_DONE, 0);
+    for (size_t at = 0; at < 6; at++) {
+        REPLY(vfdev_pf_write(device, settings[at].offset, settings[at].value), VFDEV_DONE, 0);
+    }
+    REPLY(vfdev_mem_write(device, 0, 0x1000, buffers[0], 8), VFDEV_DONE, 0);
+    REPLY(vfdev_mem_write(device, 0, 0x1010, buffers[1], 8), VFDEV_DONE, 0);
+    write_all(device, 0, receives, 8);
+    REPLY(vfdev_mem_write(device, 1, 0x2000, descriptors[0], 16), VFDEV_DONE, 0);
+    REPLY(vfdev_mem_write(device, 1, 0x6000, frame(0x77, 1), 60), VFDEV_DONE, 0);
+    REPLY(vfdev_mem_write(device, 1, 0x2010, descriptors[1], 16), VFDEV_DONE, 0);
+    REPLY(vfdev_mem_write(device, 1, 0x6100, frame(0, 1), 60), VFDEV_DONE, 0);
+    write_all(device, 1, sends, 4);
+}
+
+static void makes_once_and_frees_for_good(void)
+{
+    vfdev device = VFDEV_NONE;
+    EQUAL(vfdev_version(), VFDEV_VERSION);
+    REPLY(vfdev_open(&device, 0), VFDEV_NO_DEVICE, 0);
+    EQUAL(vfdev_make(&device, 65, 65536, 1518), VFDEV_BAD_MAKE);
+    EQUAL(vfdev_make(&device, 2, 65536, 1517), VFDEV_BAD_MAKE);
+    EQUAL(vfdev_make_lent(&device, 1518), VFDEV_BAD_MAKE);
+    EQUAL(vfdev_make(&device, 2, 65536, 1518), VFDEV_OK);
+    EQUAL(vfdev_make(&device, 2, 65536, 1518), VFDEV_HELD);
+    EQUAL(vfdev_make_lent(&device, 1518), VFDEV_HELD);
+    REPLY(vfdev_open(&device, 0), VFDEV_DONE, 0);
+    REPLY(vfdev_open(&device, 0), VFDEV_REFUSED, VFDEV_ALREADY_OPEN);
+    vfdev_free(&device);
+    REPLY(vfdev_open(&device, 0), VFDEV_NO_DEVICE, 0);
+    vfdev_free(&device);
+    EQUAL(vfdev_make(&device, 1, 4096, 9018), VFDEV_OK);
+    REPLY(vfdev_open(&device, 1), VFDEV_REFUSED, VFDEV_NO_SUCH_VF);
+    vfdev_free(&device);
+}
+
+/* A function is opened, reset, closed and opened again, and the device is reset. */
+static void functions_live_and_end(void)
+{
+    vfdev device = VFDEV_NONE;
+    EQUAL(vfdev_make(&device, 1, 4096, 1518), VFDEV_OK);
+    REPLY(vfdev_flr(&device, 0), VFDEV_REFUSED, VFDEV_NOT_OPEN);
+    REPLY(vfdev_open(&device, 0), VFDEV_DONE, 0);
+    REPLY(vfdev_vf_write(&device, 0, 0x1000, 256, messages, 64), VFDEV_DONE, 0);
+    REPLY(vfdev_vf_read(&device, 0, 0x1000), VFDEV_VALUE, 256);
+    REPLY(vfdev_flr(&device, 0), VFDEV_DONE, 0);
+    REPLY(vfdev_vf_read(&device, 0, 0x1000), VFDEV_VALUE, 0);
+    REPLY(vfdev_end(&device, 0), VFDEV_DONE, 0);
+    REPLY(vfdev_end(&device, 0), VFDEV_REFUSED, VFDEV_NOT_OPEN);
+    REPLY(vfdev_open(&device, 0), VFDEV_DONE, 0);
+    REPLY(vfdev_pf_write(&device, 0x51E0, 1), VFDEV_DONE, 0);
+    REPLY(vfdev_pf_read(&device, 0x51E0), VFDEV_VALUE, 1);
+    REPLY(vfdev_pf_read(&device, 0x20000), VFDEV_REFUSED, VFDEV_BAD_OFFSET);
+    REPLY(vfdev_pf_reset(&device), VFDEV_DONE, 0);
+    REPLY(vfdev_pf_read(&device, 0x51E0), VFDEV_VALUE, 0);
+    REPLY(vfdev_vf_read(&device, 0, 0x1000), VFDEV_REFUSED, VFDEV_NOT_OPEN);
+    vfdev_free(&device);
+}
+
+static void refuses_arguments_by_name(void)
+{
+    vfdev device = VFDEV_NONE;
+    uint8_t bytes[128];
+    size_t left = 7;
+    memset(messages, 9, sizeof messages);
+    memset(bytes, 5, sizeof bytes);
+    memset(many, 1, 2049);
+    EQUAL(vfdev_make(&device, 1, 4096, 1518), VFDEV_OK);
+    REPLY(vfdev_open(&device, 0), VFDEV_DONE, 0);
+    REPLY(vfdev_wire(&device, frame(0, 9), 60, messages, 63), VFDEV_NO_ROOM, 0);
+    EQUAL(messages[0], 9);
+    REPLY(vfdev_wire(&device, frame(0, 9), 13, messages, 64), VFDEV_REFUSED, VFDEV_BAD_FRAME);
+    EQUAL(messages[0], 0);
+    EQUAL(messages[64], 9);
+    REPLY(vfdev_vf_write(&device, 0, 0x1000, 128, messages, 63), VFDEV_NO_ROOM, 0);
+    REPLY(vfdev_vf_read(&device, 0, 0x1000), VFDEV_VALUE, 0);
+    REPLY(vfdev_mem_write(&device, 0, 0, many, 2049), VFDEV_REFUSED, VFDEV_TOO_LONG);
+    REPLY(vfdev_mem_read(&device, 0, 4000, bytes, 128), VFDEV_REFUSED, VFDEV_BAD_RANGE);
+    EQUAL(bytes[0], 5);
+    REPLY(vfdev_mem_read(&device, 0, 0, bytes, 128), VFDEV_BYTES, 0);
+    EQUAL(bytes[127], 0);
+    REPLY(vfdev_serve(&device, 0, 2, bytes, 128, &left, messages, 64), VFDEV_NO_QUEUE, 0);
+    EQUAL(left, 0);
+    REPLY(vfdev_serve(&device, 0, 0, bytes, 128, &left, messages, 64), VFDEV_NO_ROOM, 0);
+    vfdev_free(&device);
+}
+
+static void frames_come_and_leave_with_their_messages(void)
+{
+    static const uint8_t received[12] = {2, 0, 0, 0, 0, 0, 2, 0, 0, 0, 0, 9};
+    vfdev device = VFDEV_NONE;
+    uint8_t bytes[12];
+    size_t left = 7;
+    EQUAL(vfdev_make(&device, 2, 65536, 1518), VFDEV_OK);
+    set_up(&device);
+    messages[64] = 8;
+    REPLY(vfdev_wire(&device, frame(0, 9), 60, messages, 66), VFDEV_DONE, 0);
+    EQUAL(messages[0], 1);
+    EQUAL(messages[1], 0);
+    EQUAL(messages[64], 8);
+    REPLY(vfdev_mem_read(&device, 0, 0x4000, bytes, 12), VFDEV_BYTES, 0);
+    EQUAL(memcmp(bytes, received, 12), 0);
+    /* the frame to another station leaves, and the one to function 0 stays */
+    memset(out, 0, sizeof out);
+    REPLY(vfdev_serve(&device, 1, 0, out, sizeof out, &left, messages, 64), VFDEV_SENT, 0);
+    EQUAL(left, 60);
+    EQUAL(memcmp(out, frame(0x77, 1), 60), 0);
+    EQUAL(messages[0], 0);
+    REPLY(vfdev_serve(&device, 1, 0, out, sizeof out, &left, messages, 64), VFDEV_SENT, 0);
+    EQUAL(left, 0);
+    EQUAL(memcmp(out, frame(0x77, 1), 60), 0);
+    EQUAL(messages[0], 1);
+    REPLY(vfdev_serve(&device, 1, 0, out, sizeof out, &left, messages, 64), VFDEV_IDLE, 0);
+    EQUAL(messages[0], 0);
+    vfdev_free(&device);
+}
+
+/* A function over a block of the caller's: opening clears it, and what the guest writes stands in it. */
+static void lends_blocks(void)
+{
+    static uint8_t block[4096];
+    vfdev device = VFDEV_NONE;
+    uint8_t bytes[2] = {7, 8};
+    memset(block, 9, sizeof block);
+    EQUAL(vfdev_lend(&device, (vfdev_block){block, 4095}), VFDEV_BAD_MAKE);
+    EQUAL(vfdev_lend(&device, (vfdev_block){block, sizeof block}), VFDEV_OK);
+    EQUAL(vfdev_make_lent(&device, 1518), VFDEV_OK);
+    EQUAL(vfdev_lend(&device, (vfdev_block){block, sizeof block}), VFDEV_HELD);
+    REPLY(vfdev_open(&device, 0), VFDEV_DONE, 0);
+    EQUAL(block[0], 0);
+    EQUAL(block[4095], 0);
+    REPLY(vfdev_mem_write(&device, 0, 4094, bytes, 2), VFDEV_DONE, 0);
+    EQUAL(block[4094], 7);
+    block[4095] = 10;
+    REPLY(vfdev_mem_read(&device, 0, 4094, bytes, 2), VFDEV_BYTES, 0);
+    EQUAL(bytes[1], 10);
+    vfdev_free(&device);
+}
+
+/* A frame from the wire, a read of its bytes, and two services: 4 calls. */
+static void frames(vfdev *device)
+{
+    uint8_t bytes[12];
+    size_t left;
+    REPLY(vfdev_wire(device, frame(0, 9), 60, messages, 64), VFDEV_DONE, 0);
+    REPLY(vfdev_mem_read(device, 0, 0x4000, bytes, 12), VFDEV_BYTES, 0);
+    REPLY(vfdev_serve(device, 1, 0, out, sizeof out, &left, messages, 64), VFDEV_SENT, 0);
+    REPLY(vfdev_serve(device, 1, 0, out, sizeof out, &left, messages, 64), VFDEV_SENT, 0);
+}
+
+/* A device of functions over 65,536 bytes each, whose calls are not kept. */
+static vfdev other(uint32_t functions)
+{
+    vfdev device = VFDEV_NONE;
+    EQUAL(vfdev_make(&device, functions, 65536, 1518), VFDEV_OK);
+    return device;
+}
+
+static void kept_calls_replay(void)
+{
+    vfdev device = VFDEV_NONE;
+    EQUAL(vfdev_kept(&device), 0);
+    EQUAL(vfdev_make_recorded(&device, 2, 65536, 1518, 0), VFDEV_BAD_MAKE);
+    EQUAL(vfdev_make_recorded(&device, 2, 65536, 1518, 65537), VFDEV_BAD_MAKE);
+    EQUAL(vfdev_make_recorded(&device, 2, 65537, 1518, 64), VFDEV_BAD_MAKE);
+    EQUAL(vfdev_make_recorded(&device, 2, 65536, 1518, 64), VFDEV_OK);
+    EQUAL(vfdev_make_recorded(&device, 2, 65536, 1518, 64), VFDEV_HELD);
+    EQUAL(vfdev_make_lent(&device, 1518), VFDEV_HELD);
+    set_up(&device);
+    EQUAL(vfdev_kept(&device), 26);
+    frames(&device);
+    EQUAL(vfdev_kept(&device), 30);
+    /* a device as it is made answers so, and no longer once it has these calls behind it */
+    vfdev fresh = other(2);
+    EQUAL(vfdev_replay(&device, &fresh), VFDEV_SAME);
+    REPLY(vfdev_open(&fresh, 0), VFDEV_REFUSED, VFDEV_ALREADY_OPEN);
+    EQUAL(vfdev_replay(&device, &fresh), VFDEV_DIFFERENT);
+    EQUAL(vfdev_kept(&device), 30);
+    vfdev_free(&fresh);
+    vfdev_free(&device);
+    EQUAL(vfdev_kept(&device), 0);
+}
+
+static void finds_planted_differences(void)
+{
+    vfdev device = VFDEV_NONE, none = VFDEV_NONE, second = VFDEV_NONE;
+    EQUAL(vfdev_make_recorded(&device, 2, 65536, 1518, 64), VFDEV_OK);
+    set_up(&device);
+    frames(&device);
+    /* frames of pool 1 are dropped: its source is not its own */
+    vfdev strict = other(2);
+    REPLY(vfdev_pf_write(&strict, 0x8200, 2), VFDEV_DONE, 0);
+    EQUAL(vfdev_replay(&device, &strict), VFDEV_DIFFERENT);
+    /* function 1 is missing */
+    vfdev small = other(1);
+    EQUAL(vfdev_replay(&device, &small), VFDEV_DIFFERENT);
+    /* a third function changes no answer */
+    vfdev large = other(3);
+    EQUAL(vfdev_replay(&device, &large), VFDEV_SAME);
+    /* there is no other device, and no calls are kept of that one */
+    EQUAL(vfdev_replay(&device, &none), VFDEV_NO_OTHER);
+    EQUAL(vfdev_replay(&none, &large), VFDEV_NOT_RECORDED);
+    EQUAL(vfdev_replay(&large, &small), VFDEV_NOT_RECORDED);
+    EQUAL(vfdev_make_recorded(&second, 2, 65536, 1518, 64), VFDEV_OK);
+    EQUAL(vfdev_replay(&device, &second), VFDEV_NO_OTHER);
+    EQUAL(vfdev_kept(&second), 0);
+    vfdev_free(&second);
+    vfdev_free(&large);
+    vfdev_free(&small);
+    vfdev_free(&strict);
+    vfdev_free(&device);
+}
+
+static void asks_no_device_of_a_full_history(void)
+{
+    vfdev device = VFDEV_NONE;
+    size_t left = 3;
+    memset(messages, 7, sizeof messages);
+    memset(out, 5, sizeof out);
+    memset(many, 1, 2049);
+    EQUAL(vfdev_make_recorded(&device, 1, 4096, 1518, 2), VFDEV_OK);
+    REPLY(vfdev_open(&device, 0), VFDEV_DONE, 0);
+    /* what is refused before the device is asked is no call of it */
+    REPLY(vfdev_mem_write(&device, 0, 0, many, 2049), VFDEV_REFUSED, VFDEV_TOO_LONG);
+    EQUAL(vfdev_kept(&device), 1);
+    /* what the device refuses is */
+    REPLY(vfdev_open(&device, 0), VFDEV_REFUSED, VFDEV_ALREADY_OPEN);
+    EQUAL(vfdev_kept(&device), 2);
+    REPLY(vfdev_pf_write(&device, 0x51E0, 1), VFDEV_HISTORY_FULL, 0);
+    REPLY(vfdev_mem_read(&device, 0, 0, out, 8), VFDEV_HISTORY_FULL, 0);
+    EQUAL(out[0], 5);
+    REPLY(vfdev_wire(&device, frame(0, 9), 60, messages, 64), VFDEV_HISTORY_FULL, 0);
+    EQUAL(messages[0], 0);
+    REPLY(vfdev_serve(&device, 0, 0, out, sizeof out, &left, messages, 64), VFDEV_HISTORY_FULL, 0);
+    EQUAL(left, 0);
+    EQUAL(out[0], 5);
+    REPLY(vfdev_wire(&device, frame(0, 9), 13, messages, 64), VFDEV_REFUSED, VFDEV_BAD_FRAME);
+    EQUAL(vfdev_kept(&device), 2);
+    vfdev_free(&device);
+}
+
+static void keeps_reads_longer_than_an_entry_names(void)
+{
+    vfdev device = VFDEV_NONE;
+    memset(many, 5, sizeof many);
+    EQUAL(vfdev_make_recorded(&device, 1, 65536, 1518, 4), VFDEV_OK);
+    REPLY(vfdev_mem_read(&device, 0, 0, many, 65537), VFDEV_REFUSED, VFDEV_NOT_OPEN);
+    REPLY(vfdev_open(&device, 0), VFDEV_DONE, 0);
+    REPLY(vfdev_mem_read(&device, 0, 0, many, 65537), VFDEV_REFUSED, VFDEV_TOO_LONG);
+    REPLY(vfdev_mem_read(&device, 0, 0, many, 65535), VFDEV_REFUSED, VFDEV_TOO_LONG);
+    EQUAL(many[0], 5);
+    EQUAL(vfdev_kept(&device), 4);
+    vfdev fresh = other(1);
+    EQUAL(vfdev_replay(&device, &fresh), VFDEV_SAME);
+    vfdev_free(&fresh);
+    vfdev_free(&device);
+}
+
+int main(void)
+{
+    makes_once_and_frees_for_good();
+    functions_live_and_end();
+    refuses_arguments_by_name();
+    frames_come_and_leave_with_their_messages();
+    lends_blocks();
+    kept_calls_replay();
+    finds_planted_differences();
+    asks_no_device_of_a_full_history();
+    keeps_reads_longer_than_an_entry_names();
+    return 0;
+}

@@ -1,29 +1,14 @@
 //! The program `vfdev`: reads a script of events on standard input, gives them to a device, and writes its answers on
 //! standard output.
 //!
-//! The words of the command line are a [`Mode`]. A [`Script`](script::Script) is read and checked whole before the first
-//! event; [`drive`](drive::drive) is generic over the reader and the writer, so that tests can break either. A [`Fault`] is
-//! a line on standard error and a status.
+//! The words of the command line say in which mode; what the program does then stands in `modes`. Where it fails it writes a line
+//! on standard error, and the failure has its status.
 #![tactic(auto)]
 
-mod alone;
-mod drive;
-mod fault;
-mod keep;
-mod making;
-mod mode;
-mod report;
-mod run;
-mod status;
-#[cfg(test)]
-mod tests;
-mod threads;
-
-use crate::drive::drive;
-use crate::fault::Fault;
-use crate::mode::Command;
-use crate::status::status;
-use crate::threads::drive_threads;
+use modes::drive::drive;
+use modes::status::status;
+use modes::threads::drive_threads;
+use modes::{Command, Fault};
 use std::env;
 use std::io::ErrorKind;
 use std::process::ExitCode;

@@ -1,0 +1,80 @@
+//! The device that a script asks for.
+ghost use Rattle.std.specs.Prelude.{◌≡◌, true, false, length, map, replicate, IfOk, IfErr};
+ghost use Rattle.device.specs.Lone.{alone};
+ghost use Rattle.script.specs.Shapes.{asked_by};
+ghost use Rattle.modes.specs.Faults.{is_late};
+ghost use Rattle.modes.specs.Program.{device_of};
+
+use crate::fault::Fault;
+use device::Device;
+use guest_memory::GuestMem;
+use lone::{Lone, Watch};
+use script::Shape;
+use std::alloc::Global;
+use wire_frame::{FrameLimit, PoolId};
+
+/// The device of a script's shape, over these memories. They have to be as many and as large as the shape says, which is
+/// tested: what is in a box is not known from outside. [`Fault::NoMemory`] where they are not, or the host refused the room.
+#[inline(never)]
+pub fn make_device<M: GuestMem>(
+    alloc: Global,
+    shape: Shape,
+    memories: Vec<M>,
+) -> Result<Box<Device<M>>, Fault>
+    ensures ok { IfOk result (λ d. d.value ≡ device_of (asked_by shape)) }
+    ensures err { IfErr result (λ e. is_late e ≡ true) }
+{
+    if !are_of_size(memories.as_slice(), shape.functions, shape.memory_size) {
+        return Err(Fault::NoMemory);
+    }
+    let device = Device::with_limit(alloc, memories, shape.limit.get())?;
+    Ok(Box::new(alloc, device)?)
+}
+
+// Whether there are so many memories, and each has that size.
+fn are_of_size<M: GuestMem>(memories: &[M], count: u8, size: u64) -> bool
+    ensures { result ≡ true → map (λ m. length (M.bytes m)) memories.now ≡ replicate count size }
+{
+    if memories.len() != usize::from(count) {
+        return false;
+    }
+    for memory in memories {
+        if !is_of_size(memory, size) {
+            return false;
+        }
+    }
+    true
+}
+
+/// Whether a memory has that size, in bytes.
+pub fn is_of_size<M: GuestMem>(memory: &M, size: u64) -> bool
+    ensures { result ≡ true → length (M.bytes memory.now) ≡ size }
+{
+    memory.size() == size
+}
+
+/// A watch.
+#[inline(never)]
+pub fn make_watch<M: GuestMem>(
+    alloc: Global,
+    device: Box<Device<M>>,
+    pool: PoolId,
+) -> Result<Box<Watch<M>>, Fault>
+    ensures ok { IfOk result (λ w. w.value ≡ record { world = device.value; pool = pool }) }
+    ensures err { IfErr result (λ e. is_late e ≡ true) }
+{
+    Ok(Box::new(alloc, Watch::new(Box::into_inner(device), pool))?)
+}
+
+/// A lone function.
+#[inline(never)]
+pub fn make_lone<M: GuestMem>(
+    alloc: Global,
+    memory: M,
+    limit: FrameLimit,
+) -> Result<Box<Lone<M>>, Fault>
+    ensures ok { IfOk result (λ l. l.value ≡ alone limit (length (M.bytes memory))) }
+    ensures err { IfErr result (λ e. is_late e ≡ true) }
+{
+    Ok(Box::new(alloc, Lone::new(alloc, memory, limit)?)?)
+}

@@ -1,0 +1,95 @@
+//! The mode `run`: every answer, and then the frames that are kept of those that left for the wire.
+ghost use Rattle.std.specs.Prelude.{◌≡◌, ◌<◌, ◌++◌, true, [], length, slice_index_or, IfErr, OnOk, OnErr};
+ghost use Rattle.device.specs.World.{answers, world_after};
+ghost use Rattle.transcript.specs.Known.{Began, Sent};
+ghost use Rattle.transcript.specs.Lines.{frame_lines, lines, run_text};
+ghost use Rattle.modes.specs.Faults.{is_late};
+ghost use Rattle.modes.specs.Program.{device_of};
+
+use crate::fault::Fault;
+use crate::making::make_device;
+use device::Device;
+use guest_memory::GuestMem;
+use script::{Room, Script};
+use std::alloc::Global;
+use std::io::Write;
+use transcript::Output;
+use wire_frame::FrameBuf;
+
+/// Gives a script's events to the device that it asks for over these memories, and to the output the lines of the answers,
+/// numbered from 1, and those of the frames that are kept of the ones that left for the wire.
+#[inline(never)]
+pub fn run<M: GuestMem, W: Write>(
+    alloc: Global,
+    script: &Script,
+    memories: Vec<M>,
+    output: &mut Output,
+    writer: &mut W,
+) -> Result<(), Fault>
+    ensures ok { OnOk result (Sent (W.contents writer.old) (W.contents writer.new)
+        (output.old ++ run_text (device_of script.now.device) script.now.events) output.new) }
+    ensures err { OnErr result (Began (W.contents writer.old) (W.contents writer.new)
+        (output.old ++ run_text (device_of script.now.device) script.now.events)) }
+    ensures late { IfErr result (λ e. is_late e ≡ true) }
+{
+    let shape = script.shape();
+    let mut device = make_device(alloc, shape, memories)?;
+    answers(&mut device, script, output, writer)?;
+    frames(&device, output, writer)?;
+    Ok(())
+}
+
+// Gives the events to the device, and the lines of its answers to the output.
+#[inline(never)]
+fn answers<M: GuestMem, W: Write>(
+    device: &mut Device<M>,
+    script: &Script,
+    output: &mut Output,
+    writer: &mut W,
+) -> Result<(), transcript::Fault>
+    ensures ok { OnOk result (Sent (W.contents writer.old) (W.contents writer.new)
+        (output.old ++ lines 1 (answers device.old script.now.events)) output.new) }
+    ensures world { OnOk result (device.new ≡ world_after device.old script.now.events) }
+    ensures err { OnErr result (Began (W.contents writer.old) (W.contents writer.new)
+        (output.old ++ lines 1 (answers device.old script.now.events))) }
+{
+    let mut room = Room::new();
+    let mut frame = FrameBuf::blank();
+    for index in 0..script.len() {
+        let request = script.request(index, &mut room);
+        let taken = device.take(request, &mut frame);
+        output.answer(index as u64 + 1, device, &taken, writer)?;
+    }
+    Ok(())
+}
+
+// Gives the lines of the frames that went to the wire to the output.
+#[inline(never)]
+fn frames<M: GuestMem, W: Write>(
+    device: &Device<M>,
+    output: &mut Output,
+    writer: &mut W,
+) -> Result<(), transcript::Fault>
+    ensures ok { OnOk result (Sent (W.contents writer.old) (W.contents writer.new)
+        (output.old ++ frame_lines device.now.wire) output.new) }
+    ensures err { OnErr result (Began (W.contents writer.old) (W.contents writer.new)
+        (output.old ++ frame_lines device.now.wire)) }
+{
+    for index in 0..device.wire_len() {
+        let frame = frame_at(device, index);
+        output.frame(frame.bytes(), writer)?;
+    }
+    Ok(())
+}
+
+// A frame that went to the wire.
+#[inline]
+fn frame_at<M: GuestMem>(device: &Device<M>, index: usize) -> &FrameBuf
+    requires { index < length device.now.wire }
+    ensures { result.now ≡ slice_index_or device.now.wire index [] }
+{
+    match device.wire_at(index) {
+        Some(frame) => frame,
+        None => unreachable!(),
+    }
+}

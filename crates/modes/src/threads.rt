@@ -1,0 +1,193 @@
+//! The mode `threads`: a script that is done by a thread for each guest, and the history that is kept of it.
+ghost use Rattle.std.specs.Prelude.{◌≡◌, [], IfOk};
+ghost use Rattle.script.specs.Shapes.{asked_by};
+ghost use Rattle.device_lock.specs.Made.{AreUnused, IsFresh};
+ghost use Rattle.modes.specs.Program.{device_of};
+
+use crate::drive::read;
+use crate::fault::Fault;
+use crate::making::make_device;
+use crate::report::write_report;
+use device::Device;
+use device_lock::{LockedDevice, Recorded, Shares};
+use guest_memory::{FlatMem, GuestMem};
+use guest_port::{EndNote, GuestPort, IrqPort, LockedPort};
+use irq_line::{DeviceSeat, make};
+use log::sink::Discard;
+use script::Script;
+use std::alloc::Global;
+use std::io::{Read, Write};
+use std::marker::Brand;
+use std::sync::ledger::{Blank, Ledger};
+use std::sync::{Arc, Wait};
+use std::thread::Threads;
+use workers::{OpenGate, prepare, run_workers};
+
+/// How many more calls may be kept than a script has events: one for the end of each port.
+const MOST_ENDS: usize = 64;
+
+/// Reads a script, does it by a thread for each guest, and writes how many calls the history has, how many of them are each
+/// caller's, and whether a fresh device gives the kept answers.
+///
+/// [`Fault::BadScript`] comes before anything is written. [`Fault::Io`] comes where the reader or the writer fails, and then
+/// the writer has the beginning of the output. [`Fault::HistoryFull`] never comes: there is room for every event.
+pub fn drive_threads<R: Threads + Wait + Copy + Send + 'static, I: Read, W: Write>(
+    rt: R,
+    alloc: Global,
+    reader: &mut I,
+    writer: &mut W,
+) -> Result<(), Fault> {
+    let script = read(alloc, reader)?;
+    let shape = script.shape();
+    let count = usize::from(shape.functions);
+    let mut live = Vec::with_capacity(alloc, count)?;
+    let mut other = Vec::with_capacity(alloc, count)?;
+    for _ in 0..shape.functions {
+        live.push(FlatMem::new(alloc, shape.memory_size)?)?;
+        other.push(FlatMem::new(alloc, shape.memory_size)?)?;
+    }
+    with_ports(rt, alloc, script, live, other, writer)
+}
+
+// Makes a port for each function, in boxes, and does the script by threads.
+fn with_ports<M: GuestMem + Send + 'static, R: Threads + Wait + Copy + Send + 'static, W: Write>(
+    rt: R,
+    alloc: Global,
+    script: Script,
+    live: Vec<M>,
+    other: Vec<M>,
+    writer: &mut W,
+) -> Result<(), Fault> {
+    let count = script.shape().functions;
+    let (line, seats) = make(alloc)?;
+    let mut ports = Vec::with_capacity(alloc, usize::from(count))?;
+    for seat in seats {
+        let pool = seat.pool();
+        if pool < count {
+            let Ok((port, note)) = IrqPort::try_new(alloc, pool, seat) else {
+                return Err(Fault::NoMemory);
+            };
+            let port: Box<dyn GuestPort + Send> = Box::new(alloc, port)?;
+            ports.push((port, note))?;
+        }
+    }
+    play_threads::<M, Brand, Box<dyn GuestPort + Send>, R, W>(
+        rt,
+        alloc,
+        Blank::new(67),
+        line,
+        script,
+        live,
+        other,
+        ports,
+        writer,
+    )
+}
+
+// Does a script by threads on a device over these memories, with ports of its functions, replays its history on one over the
+// other memories, and writes of both.
+fn play_threads<
+    M: GuestMem + Send + 'static,
+    L: Ledger + Send + Sync + 'static,
+    P: GuestPort + Send + 'static,
+    R: Threads + Wait + Copy + Send + 'static,
+    W: Write,
+>(
+    rt: R,
+    alloc: Global,
+    blank: Blank,
+    line: DeviceSeat,
+    script: Script,
+    live: Vec<M>,
+    other: Vec<M>,
+    ports: Vec<(P, EndNote)>,
+    writer: &mut W,
+) -> Result<(), Fault>
+    requires blank { (blank.name ≡ L.name) × (blank.parts ≡ L.parts) × (blank.parts ≡ 67) }
+    requires line { line.raises ≡ [] }
+{
+    let shape = script.shape();
+    let device = make_device(alloc, shape, live)?;
+    let mut other = make_device(alloc, shape, other)?;
+    let cap = script.len().saturating_add(MOST_ENDS);
+    let (locked, mut shares) = lock::<M, L>(alloc, blank, device, line, cap)?;
+    let pools = match prepare(&rt, alloc, &script, &locked, &mut shares) {
+        Ok(pools) => pools,
+        Err(fault) => return Err(of_workers(fault)),
+    };
+    let ports = seat_all(alloc, &locked, &mut shares, ports, &pools)?;
+    let (script, gate) = (Arc::new(alloc, script)?, Arc::new(alloc, OpenGate)?);
+    let device = Arc::try_clone(&locked)?;
+    match run_workers(rt, &Discard, alloc, script, device, shares, ports, gate) {
+        Ok(ended) => write_report(&rt, alloc, &locked, ended, &mut other, writer),
+        Err(fault) => Err(of_workers(fault)),
+    }
+}
+
+// The fault of the program for one of the workers.
+fn of_workers(fault: wire_frame::Fault) -> Fault {
+    match fault {
+        wire_frame::Fault::HistoryFull => Fault::HistoryFull,
+        _ => Fault::NoMemory,
+    }
+}
+
+// A device behind a lock, with the shares of its callers.
+fn lock<M: GuestMem, L: Ledger>(
+    alloc: Global,
+    blank: Blank,
+    device: Box<Device<M>>,
+    line: DeviceSeat,
+    cap: usize,
+) -> Result<(Arc<LockedDevice<M, L>>, Shares<L>), Fault>
+    requires name { blank.name ≡ L.name }
+    requires parts { (blank.parts ≡ L.parts) × (blank.parts ≡ 67) }
+    requires fresh { IsFresh device.value }
+    requires line { line.raises ≡ [] }
+    ensures shares { IfOk result (λ r. AreUnused r.1) }
+{
+    let (recorded, shares) = Recorded::new(alloc, blank, Box::into_inner(device), line, cap)?;
+    Ok((LockedDevice::new(alloc, recorded)?, shares))
+}
+
+// The ports of these pools, with their device and their shares.
+fn seat_all<M: GuestMem, L: Ledger, P: GuestPort>(
+    alloc: Global,
+    device: &Arc<LockedDevice<M, L>>,
+    shares: &mut Shares<L>,
+    all: Vec<(P, EndNote)>,
+    pools: &[u8],
+) -> Result<Vec<(LockedPort<M, L, P>, EndNote)>, Fault>
+    ensures pf { shares.new.pf ≡ shares.old.pf }
+    ensures pump { shares.new.pump ≡ shares.old.pump }
+    ensures service { shares.new.service ≡ shares.old.service }
+{
+    let mut ports = Vec::with_capacity(alloc, pools.len())?;
+    for (port, note) in all {
+        if pools.contains(&port.pool()) {
+            ports.push((seat(device, shares, port)?, note))?;
+        }
+    }
+    Ok(ports)
+}
+
+// A port with its device and its share. What was raised for its pool before is taken and discarded: a port begins here.
+// [`Fault::NoMemory`] where the port has ended or its share was handed out before.
+fn seat<M: GuestMem, L: Ledger, P: GuestPort>(
+    device: &Arc<LockedDevice<M, L>>,
+    shares: &mut Shares<L>,
+    mut port: P,
+) -> Result<LockedPort<M, L, P>, Fault>
+    ensures pf { shares.new.pf ≡ shares.old.pf }
+    ensures pump { shares.new.pump ≡ shares.old.pump }
+    ensures service { shares.new.service ≡ shares.old.service }
+{
+    let _ = port.take_irqs();
+    if !port.is_open() {
+        return Err(Fault::NoMemory);
+    }
+    let Some(share) = shares.port(port.pool()) else {
+        return Err(Fault::NoMemory);
+    };
+    Ok(LockedPort::new(Arc::try_clone(device)?, share, port))
+}

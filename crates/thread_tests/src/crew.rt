@@ -4,4 +4,4 @@ mod ends;
 mod gates;
 mod refused;
 mod rows;
-mod stage;
+pub mod stage;

@@ -3,6 +3,7 @@ ghost use Rattle.std.specs.Prelude.{◌≡◌, IfOk};
 ghost use Rattle.device_lock.specs.Made.{IsFresh};
 
 use crate::compare::{assert_equal, assert_equal_at};
+use crate::crew::stage::frame_to_3;
 use device::{Answer, Device, Event, MemBytes, MemSlice, Outcome, Queue, Reply, Request, Taken};
 use device_lock::{CALLERS, Full, LockedDevice, PF, PUMP, Recorded, SERVICE, Share, Shares, Tally};
 use guest_memory::FlatMem;
@@ -49,17 +50,6 @@ const RECEIVE: [(u32, u32); 7] = [
     (0x120, 0x8180),
     (0x108, 7),
 ];
-
-// A frame of 60 bytes to function 3.
-fn frame_to_3() -> Result<FrameBuf, Fault> {
-    let mut bytes = [0; 60];
-    bytes[0] = 2;
-    bytes[5] = 3;
-    bytes[6] = 2;
-    bytes[11] = 0x99;
-    bytes[12] = 8;
-    FrameBuf::from_bytes(&bytes)
-}
 
 // The settings that the driver of the physical function makes.
 fn settings(alloc: Global) -> Result<Vec<Event>, AllocError> {

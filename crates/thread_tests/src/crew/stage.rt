@@ -1,5 +1,6 @@
 //! A script that is done by workers, and what is seen of it.
-ghost use Rattle.std.specs.Prelude.{◌≡◌, []};
+ghost use Rattle.std.specs.Prelude.{◌≡◌, [], IfOk};
+ghost use Rattle.device_lock.specs.Made.{IsFresh};
 
 use device::{Answer, Device, Event};
 use device_lock::{LockedDevice, PF, PUMP, Recorded, SERVICE, Share, Shares};
@@ -36,6 +37,13 @@ pub struct Setting<M: GuestMem, P: GuestPort> {
     pub ghost unused: { line.raises ≡ [] },
 }
 
+// A device as it is made.
+fn fresh<M: GuestMem>(alloc: Global, memories: Vec<M>) -> Result<Device<M>, Fault>
+    ensures { IfOk result IsFresh }
+{
+    Device::new(alloc, memories)
+}
+
 /// A device with its shares.
 pub fn locked<M: GuestMem, L: Ledger>(
     alloc: Global,
@@ -49,10 +57,10 @@ pub fn locked<M: GuestMem, L: Ledger>(
     requires parts { (blank.parts ≡ L.parts) × (blank.parts ≡ 67) }
     requires line { line.raises ≡ [] }
 {
-    let device = Device::new(alloc, memories)?;
+    let device = fresh(alloc, memories)?;
     let (recorded, shares) = match twins {
         Some(twins) => {
-            let twin = Device::new(alloc, twins)?;
+            let twin = fresh(alloc, twins)?;
             Recorded::with_twin(alloc, blank, device, twin, line, cap)?
         }
         None => Recorded::new(alloc, blank, device, line, cap)?,
@@ -141,15 +149,13 @@ pub fn begin<M: GuestMem, L: Ledger, P: GuestPort, R: Wait>(
     })
 }
 
+// To 02:00:00:00:00:03 from 02:00:00:00:00:99, IPv4, and zeros to 60 bytes.
+static FRAME_TO_3: [u8; 60] =
+    *b"\x02\0\0\0\0\x03\x02\0\0\0\0\x99\x08\0\0\0\0\0\0\0\0\0\0\0\0\0\0\0\0\0\0\0\0\0\0\0\0\0\0\0\0\0\0\0\0\0\0\0\0\0\0\0\0\0\0\0\0\0\0\0";
+
 /// A frame of 60 bytes for function 3.
 pub fn frame_to_3() -> Result<FrameBuf, Fault> {
-    let mut bytes = [0; 60];
-    bytes[0] = 2;
-    bytes[5] = 3;
-    bytes[6] = 2;
-    bytes[11] = 0x99;
-    bytes[12] = 8;
-    FrameBuf::from_bytes(&bytes)
+    FrameBuf::from_bytes(&FRAME_TO_3)
 }
 
 /// What the service is answered.
@@ -185,10 +191,25 @@ fn seated<M: GuestMem, L: Ledger, P: GuestPort>(
     let mut ports = Vec::with_capacity(alloc, boxed.len()).ok()?;
     for (port, note) in boxed {
         if pools.contains(&port.pool()) {
-            ports.push((seat(device, shares, port)?, note)).ok()?;
+            push_seated(device, shares, port, note, &mut ports)?;
         }
     }
     Some(ports)
+}
+
+// One of them. None where it is closed, its share is gone, or the host refuses the room.
+fn push_seated<M: GuestMem, L: Ledger, P: GuestPort>(
+    device: &Arc<LockedDevice<M, L>>,
+    shares: &mut Shares<L>,
+    port: P,
+    note: EndNote,
+    ports: &mut Vec<(LockedPort<M, L, P>, EndNote)>,
+) -> Option<()>
+    ensures pf { shares.new.pf ≡ shares.old.pf }
+    ensures pump { shares.new.pump ≡ shares.old.pump }
+    ensures service { shares.new.service ≡ shares.old.service }
+{
+    ports.push((seat(device, shares, port)?, note)).ok()
 }
 
 /// A port with the device and its share.

@@ -146,8 +146,25 @@ fn lock<M: GuestMem, L: Ledger>(
     requires line { line.raises ≡ [] }
     ensures shares { IfOk result (λ r. AreUnused r.1) }
 {
-    let (recorded, shares) = Recorded::new(alloc, blank, Box::into_inner(device), line, cap)?;
+    let (recorded, shares) = record(alloc, blank, Box::into_inner(device), line, cap)?;
     Ok((LockedDevice::new(alloc, recorded)?, shares))
+}
+
+// A device whose calls are kept, with the shares of its callers.
+fn record<M: GuestMem, L: Ledger>(
+    alloc: Global,
+    blank: Blank,
+    device: Device<M>,
+    line: DeviceSeat,
+    cap: usize,
+) -> Result<(Recorded<M, L>, Shares<L>), Fault>
+    requires name { blank.name ≡ L.name }
+    requires parts { (blank.parts ≡ L.parts) × (blank.parts ≡ 67) }
+    requires fresh { IsFresh device }
+    requires line { line.raises ≡ [] }
+    ensures shares { IfOk result (λ r. AreUnused r.1) }
+{
+    Ok(Recorded::new(alloc, blank, device, line, cap)?)
 }
 
 // The ports of these pools, with their device and their shares.

@@ -135,11 +135,19 @@ fn run<
 fn pools_of<M: GuestMem, L: Ledger, P: GuestPort>(ports: &[(LockedPort<M, L, P>, EndNote)]) -> Ports
     ensures { length result ≡ 64 }
 {
-    let mut pools = [false; 64];
+    let mut pools = no_ports();
     for (port, _) in ports {
         pools[usize::from(port.pool())] = true;
     }
     pools
+}
+
+// No pool has a port.
+#[inline]
+fn no_ports() -> Ports
+    ensures { length result ≡ 64 }
+{
+    [false; 64]
 }
 
 // Records the end of each port, by the service's share, which is among these. Where the history is full it is folded, and

@@ -7,7 +7,8 @@ use Rattle.wire_frame.specs.declared.fault.Fault.{Fault}
 use Rattle.tx_desc.specs.declared.outcome.Fetched.{Fetched}
 use Rattle.tx_desc.specs.declared.outcome.Fetched.TheVariants.{Idle, More, Frame, Dropped, Faulted}
 use Rattle.vf_unit.specs.declared.registers.Queue.{Queue}
-use Rattle.vf_unit.specs.Unit.{Function, Closed, Open, Change, serviced}
+use Rattle.irq_causes.specs.Causes.{Change}
+use Rattle.vf_unit.specs.Unit.{Function, Closed, Open, serviced}
 use Rattle.pool_filter.specs.Own.{OwnSettings, own, port_vlan_of}
 use Rattle.anti_spoof.specs.Permitted.{permitted}
 use Rattle.device.specs.declared.act.TheConstants.{PF_SPACE}
@@ -53,11 +54,11 @@ act_keeps f e is = unless_refused_keeps (refusal f e) f e is
 
 -- ---- a service: whatever came of a descriptor, it is no refusal
 
-sent_or_dropped : (o : OwnSettings) (c : Change) (frame : List ℕ) (may : Bool) → permitted o frame ≡ may → is_refused (concluded o c (Some (Frame frame))).reply ≡ false
+sent_or_dropped : (o : OwnSettings) (c : Change Function) (frame : List ℕ) (may : Bool) → permitted o frame ≡ may → is_refused (concluded o c (Some (Frame frame))).reply ≡ false
 sent_or_dropped o c frame true is = rw is refl
 sent_or_dropped o c frame false is = rw is refl
 
-concluded_replies : (o : OwnSettings) (c : Change) (came : Fetched) → is_refused (concluded o c (Some came)).reply ≡ false
+concluded_replies : (o : OwnSettings) (c : Change Function) (came : Fetched) → is_refused (concluded o c (Some came)).reply ≡ false
 concluded_replies o c Idle = refl
 concluded_replies o c More = refl
 concluded_replies o c (Frame frame) = sent_or_dropped o c frame _ refl
@@ -65,7 +66,7 @@ concluded_replies o c Dropped = refl
 concluded_replies o c Faulted = refl
 
 -- and no more is it where the function may not transmit
-attempt_replies : (may : Bool) (o : OwnSettings) (c : Change) (came : Fetched) (f : Function) → is_refused (if may then concluded o c (Some came) else unserved f Idle).reply ≡ false
+attempt_replies : (may : Bool) (o : OwnSettings) (c : Change Function) (came : Fetched) (f : Function) → is_refused (if may then concluded o c (Some came) else unserved f Idle).reply ≡ false
 attempt_replies true o c came f = concluded_replies o c came
 attempt_replies false o c came f = refl
 

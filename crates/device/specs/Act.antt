@@ -7,7 +7,8 @@ use Rattle.wire_frame.specs.declared.fault.Fault.TheVariants.{NotOpen, BadOffset
 use Rattle.tx_desc.specs.declared.outcome.Fetched.{Fetched}
 use Rattle.tx_desc.specs.declared.outcome.Fetched.TheVariants.{Idle, More, Frame, Dropped, Faulted}
 use Rattle.vf_unit.specs.declared.registers.Queue.{Queue}
-use Rattle.vf_unit.specs.Unit.{Function, Change, size_of, is_open, opened, ended, reset, read_of, after_read_of, written, serviced, service_outcome, one_more_sent, bytes_at, memory_written}
+use Rattle.irq_causes.specs.Causes.{Change}
+use Rattle.vf_unit.specs.Unit.{Function, size_of, is_open, opened, ended, reset, read_of, after_read_of, written, serviced, service_outcome, one_more_sent, bytes_at, memory_written}
 use Rattle.pool_filter.specs.Own.{OwnSettings, port_vlan_of}
 use Rattle.anti_spoof.specs.Permitted.{permitted}
 use Rattle.device.specs.declared.act.TheConstants.{VF_SPACE}
@@ -69,7 +70,7 @@ abbrev pub performed : Function → Event → Acted
 performed f (Open p) = quietly (opened f) Done
 performed f (End p) = quietly (ended f) Done
 performed f (VfRead p offset) = quietly (after_read_of f offset) (Value (unwrap_or (read_of f offset) 0))
-performed f (VfWrite p offset x) = record { function = (written f offset x).function; reply = Done; messages = (written f offset x).messages }
+performed f (VfWrite p offset x) = record { function = (written f offset x).state; reply = Done; messages = (written f offset x).messages }
 performed f (MemRead p at count) = quietly f (Bytes (bytes_at f at (replicate count 0)))
 performed f (MemWrite p at bytes) = quietly (memory_written f at bytes) Done
 performed f (Flr p) = quietly (reset f) Done
@@ -96,16 +97,16 @@ pub record Service : Type 0 where
   pub messages : ℕ
   pub sent : Option (List ℕ)
 
-abbrev pub unsent : Change → Reply → Service
-unsent c reply = record { function = c.function; reply = reply; messages = c.messages; sent = None }
+abbrev pub unsent : Change Function → Reply → Service
+unsent c reply = record { function = c.state; reply = reply; messages = c.messages; sent = None }
 
 -- what is made of the outcome: a frame that ended is sent where the function's own settings permit it
-abbrev pub concluded : OwnSettings → Change → Option Fetched → Service
+abbrev pub concluded : OwnSettings → Change Function → Option Fetched → Service
 concluded o c (Some Idle) = unsent c Idle
 concluded o c (Some More) = unsent c More
 concluded o c (Some (Frame frame)) =
     if permitted o frame
-    then record { function = one_more_sent c.function; reply = Sent; messages = c.messages; sent = Some frame }
+    then record { function = one_more_sent c.state; reply = Sent; messages = c.messages; sent = Some frame }
     else unsent c Dropped
 concluded o c (Some Dropped) = unsent c Dropped
 concluded o c (Some Faulted) = unsent c Faulted

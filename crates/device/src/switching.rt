@@ -37,7 +37,7 @@ fn deliver_to_all<M: GuestMem>(
     ensures functions { (r : ℕ) → r < length units.old →
         slice_index_or units.new r (Closed 0)
         ≡ (offered (has_bit pools r) loopback frame.now
-        (slice_index_or units.old r (Closed 0))).function }
+        (slice_index_or units.old r (Closed 0))).state }
     ensures same_length { length units.new ≡ length units.old }
     ensures sizes { map size_of units.new ≡ map size_of units.old }
     ensures pools { length result ≡ 64 }

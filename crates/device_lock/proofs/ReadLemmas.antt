@@ -9,7 +9,8 @@ use Rattle.tx_desc.specs.declared.outcome.Fetched.{Fetched}
 use Rattle.tx_desc.specs.declared.outcome.Fetched.TheVariants.{Idle, More, Frame, Dropped, Faulted}
 use Rattle.vf_unit.specs.declared.registers.Queue.{Queue}
 use Rattle.wire_frame.specs.Bits.{with_bit}
-use Rattle.vf_unit.specs.Unit.{Function, Closed, Open, Change, size_of, is_open, bytes_at, serviced, service_outcome}
+use Rattle.irq_causes.specs.Causes.{Change}
+use Rattle.vf_unit.specs.Unit.{Function, Closed, Open, size_of, is_open, bytes_at, serviced, service_outcome}
 use Rattle.pool_filter.specs.Own.{OwnSettings, own, port_vlan_of}
 use Rattle.anti_spoof.specs.Permitted.{permitted}
 use Rattle.device.specs.declared.event.Event.{Event}
@@ -96,7 +97,7 @@ own_step_len : (w : World) (p : ℕ) (e : Event) (n : ℕ) → count_of (act (fu
 unfolding count_of
 own_step_len w p e n h = either (nat_lt p (length w.functions)) _ _ n h (omega arith)
 
-concluded_len : (o : OwnSettings) (c : Change) (r : Option Fetched) → count_of (concluded o c r).reply ≡ 0
+concluded_len : (o : OwnSettings) (c : Change Function) (r : Option Fetched) → count_of (concluded o c r).reply ≡ 0
 unfolding count_of
 concluded_len o c (Some Idle) = refl
 concluded_len o c (Some More) = refl

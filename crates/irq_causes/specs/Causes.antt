@@ -11,9 +11,9 @@ pub record CauseState : Type 0 where
   pub enabled : ℕ
   pub auto_clear : ℕ
 
--- the sets that a change leaves, and the vectors whose messages it issued
-pub record Change : Type 0 where
-  pub state : CauseState
+-- what a change leaves, and the vectors whose messages it issued
+pub record Change (S : Type 0) : Type 0 where
+  pub state : S
   pub messages : ℕ
 
 abbrev pub no_causes : CauseState
@@ -39,17 +39,17 @@ abbrev pub with_enabled : CauseState → ℕ → CauseState
 with_enabled c v = record c { enabled = with_bit c.enabled v }
 
 -- no message
-abbrev pub silent : CauseState → Change
-silent c = record { state = c; messages = 0 }
+abbrev pub silent : {S : Type 0} → S → Change S
+silent s = record { state = s; messages = 0 }
 
 -- the message of vector v alone
-abbrev pub issued : CauseState → ℕ → Change
+abbrev pub issued : CauseState → ℕ → Change CauseState
 issued c v = record { state = c; messages = 2 ^ v }
 
 -- Cause v is raised. There is no vector above 2, and a cause that stands already changes nothing. Else one that is not
 -- enabled joins the causes, and one that is enabled issues its message, and joins the causes unless it is cleared
 -- automatically.
-unfoldable pub raised : CauseState → ℕ → Change
+unfoldable pub raised : CauseState → ℕ → Change CauseState
 raised c v =
     if nat_lt 2 v || has_bit c.causes v then silent c
     else (if has_bit c.enabled v
@@ -58,7 +58,7 @@ raised c v =
 
 -- Vector v is enabled. One that is enabled already changes nothing. Else one whose cause stands issues its message, and
 -- leaves the causes if it is cleared automatically.
-unfoldable pub unmasked : CauseState → ℕ → Change
+unfoldable pub unmasked : CauseState → ℕ → Change CauseState
 unmasked c v =
     if has_bit c.enabled v then silent c
     else (if has_bit c.causes v
@@ -67,22 +67,22 @@ unmasked c v =
 
 -- one change and then another: the messages are those of both
 infixl 10 ◌and_then◌
-abbrev pub ◌and_then◌ : Change → (CauseState → Change) → Change
+abbrev pub ◌and_then◌ : Change CauseState → (CauseState → Change CauseState) → Change CauseState
 first and_then next = record { state = (next first.state).state; messages = bit_or first.messages (next first.state).messages }
 
 -- cause v is raised, vector v is enabled, where the word names it
-abbrev pub raised_in : ℕ → ℕ → CauseState → Change
+abbrev pub raised_in : ℕ → ℕ → CauseState → Change CauseState
 raised_in word v c = if has_bit word v then raised c v else silent c
 
-abbrev pub unmasked_in : ℕ → ℕ → CauseState → Change
+abbrev pub unmasked_in : ℕ → ℕ → CauseState → Change CauseState
 unmasked_in word v c = if has_bit word v then unmasked c v else silent c
 
 -- a write of EICS: each cause that the word names is raised, in rising order
-unfoldable pub all_raised : CauseState → ℕ → Change
+unfoldable pub all_raised : CauseState → ℕ → Change CauseState
 all_raised c word = raised_in word 0 c and_then raised_in word 1 and_then raised_in word 2
 
 -- a write of EIMS: each vector that the word names is enabled, in rising order
-unfoldable pub all_unmasked : CauseState → ℕ → Change
+unfoldable pub all_unmasked : CauseState → ℕ → Change CauseState
 all_unmasked c word = unmasked_in word 0 c and_then unmasked_in word 1 and_then unmasked_in word 2
 
 -- a write of EIMC: the vectors that the word names are enabled no more
@@ -102,5 +102,5 @@ abbrev pub emptied : CauseState → CauseState
 emptied c = record c { causes = 0 }
 
 -- an entry of VTIVAR raises the cause of the vector in its bits 1:0, where bit 7 is 1
-unfoldable pub raised_by : CauseState → ℕ → Change
+unfoldable pub raised_by : CauseState → ℕ → Change CauseState
 raised_by c entry = if has_bit entry 7 then raised c (entry % 4) else silent c

@@ -66,12 +66,14 @@ began_as a b text whole is began = let P : List ℕ → Type 0 = λ t. Began a b
 pub sent_as : (a b : Option (List ℕ)) (text whole held : List ℕ) → text ≡ whole → Sent a b text held → Sent a b whole held
 sent_as a b text whole held is sent = let P : List ℕ → Type 0 = λ t. Sent a b t held in subst P is sent
 
-pub run_whole : (out : List ℕ) (first device shape after last : World) (es : List Event) → first ≡ device → device ≡ shape → after ≡ world_after first es → last ≡ after
-    → (out ++ lines 1 (answers first es)) ++ frame_lines last.wire ≡ out ++ run_text shape es
-run_whole out first device shape after last es same is now still =
-    append_assoc out (lines 1 (answers first es)) (frame_lines last.wire)
-    ∙ (λ k. out ++ (lines 1 (answers first es) ++ frame_lines ((still ∙ now) k).wire))
-    ∙ (λ k. out ++ run_text ((same ∙ is) k) es)
+pub run_whole : (out : List ℕ) (device after last : World) (es : List Event) → after ≡ world_after device es → last ≡ after
+    → (out ++ lines 1 (answers device es)) ++ frame_lines last.wire ≡ out ++ run_text device es
+run_whole out device after last es now still =
+    append_assoc out (lines 1 (answers device es)) (frame_lines last.wire)
+    ∙ (λ k. out ++ (lines 1 (answers device es) ++ frame_lines ((still ∙ now) k).wire))
+
+pub run_over : (out : List ℕ) (d device shape : World) (es : List Event) → d ≡ device → device ≡ shape → out ++ run_text d es ≡ out ++ run_text shape es
+run_over out d device shape es same is = λ k. out ++ run_text ((same ∙ is) k) es
 
 -- ---- the whole of what is kept, and of what is seen
 
@@ -80,8 +82,12 @@ pub kept_whole : (out : List ℕ) (w v : Watched) (device shape : World) (p : �
 kept_whole out w v device shape p es same made is =
     (λ k. out ++ keep_text ((same ∙ made) k).pool ((same ∙ made) k).world es) ∙ (λ k. out ++ keep_text p (is k) es)
 
-pub seen_whole : (out : List ℕ) (w v : Watched) (device shape : World) (p : ℕ) (s l : Lone) (limit size most asked : ℕ) (es : List Event)
-    → w ≡ v → v ≡ record { world = device; pool = p } → device ≡ shape → s ≡ l → l ≡ alone limit size → limit ≡ most → size ≡ asked
-    → out ++ lone_text p s w.world es ≡ out ++ lone_text p (alone most asked) shape es
-seen_whole out w v device shape p s l limit size most asked es same made is new first as_long as_asked =
-    (λ k. out ++ lone_text p ((new ∙ first) k) ((same ∙ made) k).world es) ∙ (λ k. out ++ lone_text p (alone (as_long k) (as_asked k)) (is k) es)
+pub seen_same : (out : List ℕ) (w : World) (p : ℕ) (s l first : Lone) (es : List Event) → s ≡ l → l ≡ first
+    → out ++ lone_text p s w es ≡ out ++ lone_text p first w es
+seen_same out w p s l first es new made = λ k. out ++ lone_text p ((new ∙ made) k) w es
+
+pub seen_whole : (out : List ℕ) (w v : Watched) (device shape : World) (p limit size most asked : ℕ) (es : List Event)
+    → w ≡ v → v ≡ record { world = device; pool = p } → device ≡ shape → limit ≡ most → size ≡ asked
+    → out ++ lone_text p (alone limit size) w.world es ≡ out ++ lone_text p (alone most asked) shape es
+seen_whole out w v device shape p limit size most asked es same made is as_long as_asked =
+    (λ k. out ++ lone_text p (alone limit size) ((same ∙ made) k).world es) ∙ (λ k. out ++ lone_text p (alone (as_long k) (as_asked k)) (is k) es)

@@ -1,6 +1,7 @@
 //! The mode `lone`: what is seen of a pool's function by itself, which is given no more than `keep` tells.
 ghost use Rattle.std.specs.Prelude.{◌≡◌, ◌++◌, true, length, IfErr, OnOk, OnErr};
 ghost use Rattle.std.specs.Option.{option_map};
+ghost use Rattle.device.specs.Lone.{alone};
 ghost use Rattle.lone.specs.Kept.{observation_of};
 ghost use Rattle.transcript.specs.Known.{Began, Sent};
 ghost use Rattle.transcript.specs.Text.{seen_line};
@@ -9,7 +10,7 @@ ghost use Rattle.modes.specs.Faults.{is_late};
 ghost use Rattle.modes.specs.Program.{alone_of, device_of};
 
 use crate::fault::Fault;
-use crate::making::{is_of_size, make_device, make_lone, make_watch};
+use crate::making::{is_of_size, make_device, make_lone, make_watch, put_away};
 use guest_memory::GuestMem;
 use lone::follow::follow;
 use lone::{Lone, Seen, Watch};
@@ -17,7 +18,7 @@ use script::{Room, Script};
 use std::alloc::Global;
 use std::io::Write;
 use transcript::Output;
-use wire_frame::PoolId;
+use wire_frame::{FrameLimit, PoolId};
 
 /// Gives a script's events to the device that it asks for over these memories, and what they leave for the pool to its lone
 /// function over its own memory; to the output the lines of what is seen of that, each with the number of its event.
@@ -40,14 +41,43 @@ pub fn lone_function<M: GuestMem, W: Write>(
 {
     let shape = script.shape();
     let (size, limit) = (shape.memory_size, shape.limit);
-    let device = make_device(alloc, shape, memories)?;
     if !is_of_size(&memory, size) {
         return Err(Fault::NoMemory);
     }
+    let device = make_device(alloc, shape, memories)?;
     let mut watch = make_watch(alloc, device, pool)?;
+    let told = perform(
+        alloc, limit, memory, &mut watch, pool, script, output, writer,
+    );
+    put_away(watch);
+    told
+}
+
+// The same over the watched device.
+#[tactic(auto, using(transcript::proofs::Known::nothing_began))]
+fn perform<M: GuestMem, W: Write>(
+    alloc: Global,
+    limit: FrameLimit,
+    memory: M,
+    watch: &mut Watch<M>,
+    pool: PoolId,
+    script: &Script,
+    output: &mut Output,
+    writer: &mut W,
+) -> Result<(), Fault>
+    requires { watch.old.pool ≡ pool }
+    ensures ok { OnOk result (Sent (W.contents writer.old) (W.contents writer.new)
+        (output.old ++ lone_text pool (alone limit (length (M.bytes memory))) watch.old.world
+        script.now.events) output.new) }
+    ensures err { OnErr result (Began (W.contents writer.old) (W.contents writer.new)
+        (output.old ++ lone_text pool (alone limit (length (M.bytes memory))) watch.old.world
+        script.now.events)) }
+    ensures late { IfErr result (λ e. is_late e ≡ true) }
+{
     let mut lone = make_lone(alloc, memory, limit)?;
-    observations(&mut watch, &mut lone, pool, script, output, writer)?;
-    Ok(())
+    let told = observations(watch, &mut lone, pool, script, output, writer);
+    put_away(lone);
+    Ok(told?)
 }
 
 #[inline(never)]

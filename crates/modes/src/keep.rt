@@ -9,7 +9,7 @@ ghost use Rattle.modes.specs.Faults.{is_late};
 ghost use Rattle.modes.specs.Program.{device_of};
 
 use crate::fault::Fault;
-use crate::making::{make_device, make_watch};
+use crate::making::{make_device, make_watch, put_away};
 use guest_memory::GuestMem;
 use lone::{Given, Watch};
 use script::{Room, Script};
@@ -35,11 +35,11 @@ pub fn keep<M: GuestMem, W: Write>(
         (output.old ++ keep_text pool (device_of script.now.device) script.now.events)) }
     ensures late { IfErr result (λ e. is_late e ≡ true) }
 {
-    let shape = script.shape();
-    let device = make_device(alloc, shape, memories)?;
+    let device = make_device(alloc, script.shape(), memories)?;
     let mut watch = make_watch(alloc, device, pool)?;
-    items(&mut watch, script, output, writer)?;
-    Ok(())
+    let told = items(&mut watch, script, output, writer);
+    put_away(watch);
+    Ok(told?)
 }
 
 // Gives the events to the watched device, and the lines of what they leave to the output.

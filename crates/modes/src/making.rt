@@ -53,6 +53,12 @@ pub fn is_of_size<M: GuestMem>(memory: &M, size: u64) -> bool
     memory.size() == size
 }
 
+/// Ends what is in a box. For that it is moved to the stack, where whoever calls this has no room for it then.
+#[inline(never)]
+pub fn put_away<T: Drop>(boxed: Box<T>) {
+    let _ = boxed;
+}
+
 /// A watch.
 #[inline(never)]
 pub fn make_watch<M: GuestMem>(

@@ -7,7 +7,7 @@ ghost use Rattle.modes.specs.Faults.{is_late};
 ghost use Rattle.modes.specs.Program.{device_of};
 
 use crate::fault::Fault;
-use crate::making::make_device;
+use crate::making::{make_device, put_away};
 use device::Device;
 use guest_memory::GuestMem;
 use script::{Room, Script};
@@ -32,10 +32,26 @@ pub fn run<M: GuestMem, W: Write>(
         (output.old ++ run_text (device_of script.now.device) script.now.events)) }
     ensures late { IfErr result (λ e. is_late e ≡ true) }
 {
-    let shape = script.shape();
-    let mut device = make_device(alloc, shape, memories)?;
-    answers(&mut device, script, output, writer)?;
-    frames(&device, output, writer)?;
+    let mut device = make_device(alloc, script.shape(), memories)?;
+    let told = perform(&mut device, script, output, writer);
+    put_away(device);
+    Ok(told?)
+}
+
+// The same over the device.
+fn perform<M: GuestMem, W: Write>(
+    device: &mut Device<M>,
+    script: &Script,
+    output: &mut Output,
+    writer: &mut W,
+) -> Result<(), transcript::Fault>
+    ensures ok { OnOk result (Sent (W.contents writer.old) (W.contents writer.new)
+        (output.old ++ run_text device.old script.now.events) output.new) }
+    ensures err { OnErr result (Began (W.contents writer.old) (W.contents writer.new)
+        (output.old ++ run_text device.old script.now.events)) }
+{
+    answers(device, script, output, writer)?;
+    frames(device, output, writer)?;
     Ok(())
 }
 

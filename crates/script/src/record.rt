@@ -1,6 +1,5 @@
 //! The events of a script as they are kept, and as lines say them.
 ghost use Rattle.std.specs.Prelude.{◌≡◌, ◌≤◌, [], ◌∷◌, length, Some, None, IfOk, IfErr, MatchResult, option_and_then};
-ghost use Rattle.wire_frame.specs.Frame.{is_frame};
 ghost use Rattle.script.specs.declared.kind.Kind.TheVariants.{Wire};
 ghost use Rattle.script.specs.Bytes.{bytes_of, few};
 ghost use Rattle.script.specs.Lines.{event_by};
@@ -14,7 +13,7 @@ use crate::room::Room;
 use crate::store::{Span, Store};
 use crate::words::{Words, length, pool, queue, register};
 use device::Queue;
-use wire_frame::FrameLimit;
+use wire_frame::{FrameLimit, is_frame};
 
 /// The most bytes of one memory write.
 const MOST_WRITTEN: u16 = 2048;
@@ -119,7 +118,7 @@ impl Record {
         ensures grown { Grows store.old store.new }
     {
         let bytes = read(hex, limit.get(), &mut room.bytes)?;
-        if !is_frame(bytes) {
+        if !is_frame(bytes, bytes.len()) {
             return Err(Refusal::BadLine);
         }
         Ok(Record::Wire(store.keep(hex, bytes)?))
@@ -139,13 +138,4 @@ fn read<'a>(word: &[u8], most: u16, room: &'a mut [u8; MOST_BYTES]) -> Result<&'
         Some(count) => Ok(&part[..count]),
         None => Err(Refusal::BadLine),
     }
-}
-
-// Whether so many bytes as a frame may have are one.
-#[inline]
-fn is_frame(bytes: &[u8]) -> bool
-    ensures { result ≡ is_frame (length bytes.now) bytes.now }
-{
-    let len = bytes.len();
-    len >= 18 || len >= 14 && (bytes[12] != 0x81 || bytes[13] != 0)
 }

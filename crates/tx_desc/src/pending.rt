@@ -8,7 +8,7 @@ use crate::descriptor::TxDescriptor;
 use guest_memory::{GuestMem, read_bytes};
 use std::alloc::{AllocError, Global};
 use std::marker::Model;
-use wire_frame::{FrameBuf, FrameLimit, PortVlan};
+use wire_frame::{FrameBuf, FrameLimit, PortVlan, is_tagged};
 
 /// The most bytes that a frame has.
 const MOST_BYTES: usize = 9018;
@@ -135,5 +135,5 @@ fn reach(cells: &mut Vec<u8>, len: usize)
 fn refuses(rule: PortVlan, bytes: &[u8]) -> bool
     ensures { result ≡ refuses rule bytes.now }
 {
-    matches!(rule, PortVlan::Always(_)) && bytes.len() >= 14 && bytes[12] == 0x81 && bytes[13] == 0
+    matches!(rule, PortVlan::Always(_)) && is_tagged(bytes)
 }

@@ -3,14 +3,14 @@ use Rattle.std.specs.Prelude.{ℕ, ◌+◌, ◌/◌, ◌%◌, ◌^◌, Bool, tru
 use Rattle.wire_frame.specs.Bits.{has_bit, with_bit}
 use Rattle.rings.specs.Ring.{RingState, ring_word, ring_written, turned}
 use Rattle.tx_desc.specs.Transmit.{Gathered}
-use Rattle.irq_causes.specs.Causes.{CauseState, all_raised, all_unmasked, masked, auto_clearing, cleared, emptied}
+use Rattle.irq_causes.specs.Causes.{CauseState, Change, silent, all_raised, all_unmasked, masked, auto_clearing, cleared, emptied}
 use Rattle.vf_unit.specs.declared.offsets.TheConstants.{LINK_UP, ENABLE, VME, RST, DESCTYPE, ADVANCED, BUFFER_SIZES, DROP_EN, SRRCTL_KEPT, VTIVAR_KEPT, VTIVAR_MISC_KEPT}
 use Rattle.vf_unit.specs.declared.queues.ReceiveQueue.{ReceiveQueue}
 use Rattle.vf_unit.specs.declared.queues.TransmitQueue.{TransmitQueue}
 use Rattle.vf_unit.specs.declared.registers.Register.{Register}
 use Rattle.vf_unit.specs.declared.registers.Register.TheVariants.{Nowhere, Control, Links, CauseRead, CauseSet, MaskSet, MaskClear, AutoClear, QueueVectors, OtherVector, Receive, ReceiveBuffers, ReceiveControl, Transmit, TransmitControl, FramesReceived, FramesSent}
 use Rattle.vf_unit.specs.Registers.{register_at}
-use Rattle.vf_unit.specs.Function.{State, Effect, initial, quiet, with_change, receive_of, transmit_of, with_receive, with_transmit}
+use Rattle.vf_unit.specs.Function.{State, initial, with_change, receive_of, transmit_of, with_receive, with_transmit}
 
 -- ---- reads
 
@@ -67,23 +67,23 @@ transmit_switched n queue x =
     record { ring = turned (has_bit x ENABLE) true n queue.ring; pending = if has_bit x ENABLE then queue.pending else Gathered [] }
 
 -- what a write of x to a register does
-unfoldable pub register_written : State → Register → ℕ → Effect
-register_written s Control x = quiet (if has_bit x RST then initial s.memory else s)
-register_written s CauseRead x = quiet (with_causes s (cleared s.causes x))
+unfoldable pub register_written : State → Register → ℕ → Change State
+register_written s Control x = silent (if has_bit x RST then initial s.memory else s)
+register_written s CauseRead x = silent (with_causes s (cleared s.causes x))
 register_written s CauseSet x = with_change s (all_raised s.causes x)
 register_written s MaskSet x = with_change s (all_unmasked s.causes x)
-register_written s MaskClear x = quiet (with_causes s (masked s.causes x))
-register_written s AutoClear x = quiet (with_causes s (auto_clearing s.causes x))
-register_written s QueueVectors x = quiet (record s { queue_vectors = bit_and x VTIVAR_KEPT })
-register_written s OtherVector x = quiet (record s { other_vector = bit_and x 0x83 })
+register_written s MaskClear x = silent (with_causes s (masked s.causes x))
+register_written s AutoClear x = silent (with_causes s (auto_clearing s.causes x))
+register_written s QueueVectors x = silent (record s { queue_vectors = bit_and x VTIVAR_KEPT })
+register_written s OtherVector x = silent (record s { other_vector = bit_and x VTIVAR_MISC_KEPT })
 register_written s (Receive q register) x =
-    quiet (with_receive s q (record (receive_of s q) { ring = ring_written (receive_of s q).ring register x }))
-register_written s (ReceiveBuffers q) x = quiet (with_receive s q (buffers_written (receive_of s q) x))
-register_written s (ReceiveControl q) x = quiet (with_receive s q (receive_switched (length s.memory) (receive_of s q) x))
+    silent (with_receive s q (record (receive_of s q) { ring = ring_written (receive_of s q).ring register x }))
+register_written s (ReceiveBuffers q) x = silent (with_receive s q (buffers_written (receive_of s q) x))
+register_written s (ReceiveControl q) x = silent (with_receive s q (receive_switched (length s.memory) (receive_of s q) x))
 register_written s (Transmit q register) x =
-    quiet (with_transmit s q (record (transmit_of s q) { ring = ring_written (transmit_of s q).ring register x }))
-register_written s (TransmitControl q) x = quiet (with_transmit s q (transmit_switched (length s.memory) (transmit_of s q) x))
-register_written s _ x = quiet s
+    silent (with_transmit s q (record (transmit_of s q) { ring = ring_written (transmit_of s q).ring register x }))
+register_written s (TransmitControl q) x = silent (with_transmit s q (transmit_switched (length s.memory) (transmit_of s q) x))
+register_written s _ x = silent s
 
 -- ---- by offset
 
@@ -93,5 +93,5 @@ word_at_offset s offset = word s (register_at offset)
 abbrev pub after_read_at : State → ℕ → State
 after_read_at s offset = after_read s (register_at offset)
 
-abbrev pub written_at : State → ℕ → ℕ → Effect
+abbrev pub written_at : State → ℕ → ℕ → Change State
 written_at s offset x = register_written s (register_at offset) x

@@ -82,16 +82,8 @@ with_transmit s Q1 queue = record s { transmit_1 = queue }
 
 -- ---- changes
 
--- the state after a change, and the vectors whose messages the change issued
-pub record Effect : Type 0 where
-  pub state : State
-  pub messages : ℕ
-
-abbrev pub quiet : State → Effect
-quiet s = record { state = s; messages = 0 }
-
 -- a change of the causes
-abbrev pub with_change : State → Change → Effect
+abbrev pub with_change : State → Change CauseState → Change State
 with_change s c = record { state = record s { causes = c.state }; messages = c.messages }
 
 -- ---- a frame that comes
@@ -103,19 +95,19 @@ counted NoRoom n = n
 counted Faulted n = n
 
 -- the cause of receive queue 0, whose vector is the lowest byte, is raised where a frame was placed
-abbrev pub announced : Placed → ℕ → CauseState → Change
+abbrev pub announced : Placed → ℕ → CauseState → Change CauseState
 announced Put vectors c = raised_by c (field vectors RECEIVE_VECTOR_0 VECTOR_SIZE)
 announced NoRoom vectors c = silent c
 announced Faulted vectors c = silent c
 
-abbrev pub after_placing : State → Delivery → Effect
+abbrev pub after_placing : State → Delivery → Change State
 after_placing s d =
     with_change
     (record s { memory = d.memory; receive_0 = record s.receive_0 { ring = d.ring }; frames_received = counted d.placed s.frames_received })
     (announced d.placed s.queue_vectors s.causes)
 
 -- a frame comes to the function, from the wire or from another pool; it goes to receive queue 0
-unfoldable pub delivered : Bool → List ℕ → State → Effect
+unfoldable pub delivered : Bool → List ℕ → State → Change State
 delivered loopback frame s =
     after_placing s (deliver (record { buffer_size = 1024 * (s.receive_0.buffers % BUFFER_SIZES); strip_tag = s.receive_0.strips_tag }) loopback frame s.memory s.receive_0.ring)
 
@@ -135,11 +127,11 @@ abbrev pub with_fetching : State → Queue → Fetching → State
 with_fetching s q v = with_transmit (record s { memory = v.memory }) q (record { ring = v.ring; pending = v.pending })
 
 -- the queue's cause is raised where the descriptor was written back
-abbrev pub reported : Bool → ℕ → CauseState → Change
+abbrev pub reported : Bool → ℕ → CauseState → Change CauseState
 reported true entry c = raised_by c entry
 reported false entry c = silent c
 
 -- the state after a service of the queue, and the messages of its report
-unfoldable pub after_fetching : ℕ → PortVlan → State → Queue → Effect
+unfoldable pub after_fetching : ℕ → PortVlan → State → Queue → Change State
 after_fetching limit rule s q =
     with_change (with_fetching s q (fetched_from limit rule s q)) (reported (fetched_from limit rule s q).reported (transmit_vector s.queue_vectors q) s.causes)

@@ -4,8 +4,9 @@ use Rattle.guest_memory.specs.Memory.{overwrite}
 use Rattle.wire_frame.specs.declared.vlan.PortVlan.{PortVlan}
 use Rattle.tx_desc.specs.declared.outcome.Fetched.{Fetched}
 use Rattle.tx_desc.specs.Lent.{lent_after}
+use Rattle.irq_causes.specs.Causes.{Change, silent}
 use Rattle.vf_unit.specs.declared.registers.Queue.{Queue}
-use Rattle.vf_unit.specs.Function.{State, Effect, initial, delivered, after_fetching, fetched_from}
+use Rattle.vf_unit.specs.Function.{State, initial, delivered, after_fetching, fetched_from}
 use Rattle.vf_unit.specs.Access.{word_at_offset, after_read_at, written_at}
 
 -- closed, with a memory of that size, or open
@@ -46,27 +47,23 @@ unfoldable pub after_read_of : Function → ℕ → Function
 after_read_of (Closed size) offset = Closed size
 after_read_of (Open s) offset = Open (after_read_at s offset)
 
--- a function after a change, and the vectors whose messages the change issued; a closed one stays as it is
-pub record Change : Type 0 where
-  pub function : Function
-  pub messages : ℕ
-
-abbrev pub changed : Function → (State → Effect) → Change
-changed (Closed size) change = record { function = Closed size; messages = 0 }
-changed (Open s) change = record { function = Open (change s).state; messages = (change s).messages }
+-- a change of an open function; a closed one stays as it is
+abbrev pub changed : Function → (State → Change State) → Change Function
+changed (Closed size) change = silent (Closed size)
+changed (Open s) change = record { state = Open (change s).state; messages = (change s).messages }
 
 -- a register, written
-abbrev pub written : Function → ℕ → ℕ → Change
+abbrev pub written : Function → ℕ → ℕ → Change Function
 written f offset x = changed f (λ s. written_at s offset x)
 
 -- ---- frames
 
 -- a frame that comes
-abbrev pub given : Bool → List ℕ → Function → Change
+abbrev pub given : Bool → List ℕ → Function → Change Function
 given loopback frame f = changed f (λ s. delivered loopback frame s)
 
 -- the service of a transmit queue, and what came of it where the function is open
-abbrev pub serviced : ℕ → PortVlan → Function → Queue → Change
+abbrev pub serviced : ℕ → PortVlan → Function → Queue → Change Function
 serviced limit rule f q = changed f (λ s. after_fetching limit rule s q)
 
 abbrev pub service_outcome : ℕ → PortVlan → Function → Queue → Option Fetched

@@ -98,7 +98,7 @@ impl<M: GuestMem> VfUnit<M> {
 
     /// Writes the register at an offset; the messages that this issues. A write to an offset outside the map is ignored.
     pub fn reg_write(&mut self, offset: u32, x: u32) -> Option<u8>
-        ensures function { self.new ≡ (written self.old offset x).function }
+        ensures function { self.new ≡ (written self.old offset x).state }
         ensures messages { result
             ≡ (if is_open self.old then Some (written self.old offset x).messages else None) }
         ensures below { IfSome result (λ messages. messages < 8) }
@@ -114,7 +114,7 @@ impl<M: GuestMem> VfUnit<M> {
     /// Places a frame in receive queue 0; the messages that this issues. `loopback` says that another pool sent it.
     #[inline]
     pub fn deliver(&mut self, frame: &FrameBuf, loopback: bool) -> u8
-        ensures function { self.new ≡ (given loopback frame.now self.old).function }
+        ensures function { self.new ≡ (given loopback frame.now self.old).state }
         ensures messages { result ≡ (given loopback frame.now self.old).messages }
         ensures below { result < 8 }
         ensures size { size_of self.new ≡ size_of self.old }
@@ -135,7 +135,7 @@ impl<M: GuestMem> VfUnit<M> {
         rule: PortVlan,
         limit: FrameLimit,
     ) -> Option<Service>
-        ensures function { self.new ≡ (serviced limit rule self.old queue).function }
+        ensures function { self.new ≡ (serviced limit rule self.old queue).state }
         ensures outcome { option_map (λ s. fetched_in s.outcome frame.new) result
             ≡ service_outcome limit rule self.old queue }
         ensures frame { frame.new ≡ lent_to (service_outcome limit rule self.old queue) frame.old }

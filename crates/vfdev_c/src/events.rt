@@ -1,6 +1,5 @@
 //! The events, but for a service: each call gives one to the device.
 ghost use Rattle.std.specs.Prelude.{◌≡◌, length, Ok};
-ghost use Rattle.wire_frame.specs.Frame.{is_frame};
 ghost use Rattle.device.specs.declared.event.Event.{Event};
 ghost use Rattle.vfdev_c.specs.Handle.{after, reply_to, raised_by, messages_in, bytes_in, where_room, wire_asked, write_asked, Isolated};
 
@@ -10,7 +9,7 @@ use crate::stage::MOST_FRAME;
 use device::{MemSlice, Request};
 use irq_causes::Messages;
 use std::alloc::Global;
-use wire_frame::Fault;
+use wire_frame::{Fault, is_frame};
 
 /// How many pools there are, each of which has a byte of the messages.
 pub const POOLS: usize = 64;
@@ -199,22 +198,13 @@ pub extern "C" fn vfdev_wire(
     if messages.len() < POOLS {
         return VfdevReply::no_room();
     }
-    if !is_frame(bytes) {
+    if !is_frame(bytes, MOST_FRAME) {
         put_messages(Messages::none(), messages);
         return VfdevReply::refused(Fault::BadFrame);
     }
     let (reply, raised) = handle.wire(alloc, bytes);
     put_messages(raised, messages);
     reply
-}
-
-// Whether the bytes are a frame of any device: 14 to 9018, and at least 18 where they have a VLAN tag.
-#[inline]
-fn is_frame(bytes: &[u8]) -> bool
-    ensures { result ≡ is_frame 9018 bytes.now }
-{
-    let len = bytes.len();
-    len >= 14 && len <= MOST_FRAME && (len >= 18 || !(bytes[12] == 0x81 && bytes[13] == 0))
 }
 
 // Lays the messages into the first 64 bytes, where there is room.

@@ -260,17 +260,18 @@ impl FrameBuf {
     }
 }
 
-// Whether the bytes after the addresses begin with the type of a VLAN tag.
+/// Whether bytes have a VLAN tag: those after the two addresses begin with its type, 0x8100 (IEEE 802.1Q).
 #[inline]
-fn is_tagged(bytes: &[u8]) -> bool
+pub fn is_tagged(bytes: &[u8]) -> bool
     ensures { result ≡ is_tagged bytes.now }
 {
     bytes.len() >= 14 && bytes[12] == 0x81 && bytes[13] == 0
 }
 
-// Whether the bytes are a frame no longer than the limit.
+/// Whether bytes are a frame no longer than `limit` bytes: at least 14 of them, and 18 where they have a VLAN tag (IEEE 802.3,
+/// IEEE 802.1Q). No frame is made for that.
 #[inline]
-fn is_frame(bytes: &[u8], limit: usize) -> bool
+pub fn is_frame(bytes: &[u8], limit: usize) -> bool
     ensures { result ≡ is_frame limit bytes.now }
 {
     let len = bytes.len();

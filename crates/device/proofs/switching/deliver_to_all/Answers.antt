@@ -6,7 +6,8 @@ use Rattle.std.proofs.lemmas.List.{get_or_default}
 use Rattle.std.specs.Int.{trailing_zeros}
 use Rattle.wire_frame.specs.Bits.{has_bit}
 use Rattle.wire_frame.proofs.BitLemmas.{fewer_left, still_left, done_more}
-use Rattle.vf_unit.specs.Unit.{Closed, Change, size_of, given}
+use Rattle.irq_causes.specs.Causes.{Change}
+use Rattle.vf_unit.specs.Unit.{Function, Closed, size_of, given}
 use Rattle.device.specs.World.{offered}
 use Rattle.device.proofs.Arrivals.{offered_yes, offered_no, none_there, done_there, clear_bit, length-no_messages, no_messages_at}
 use Rattle.device.proofs.SizesStay.{size_set}
@@ -25,7 +26,7 @@ loop-rest-init g c =
       set = λ k bit. ap (λ n. nat_eq n 1) bit;
       left = λ k bit. refl;
       silent = λ k bit. no_messages_at _ c.none-raised.ensures k;
-      done = λ k below clear. ap (λ e. e.function) (sym (offered_no (has_bit c.args.pools k) c.args.loopback c.args.frame.now (get_or old k (Closed 0)) (clear_bit c.args.pools k clear)));
+      done = λ k below clear. ap (λ e. e.state) (sym (offered_no (has_bit c.args.pools k) c.args.loopback c.args.frame.now (get_or old k (Closed 0)) (clear_bit c.args.pools k clear)));
       told = λ k below clear. no_messages_at _ c.none-raised.ensures k ∙ ap (λ e. e.messages) (sym (offered_no (has_bit c.args.pools k) c.args.loopback c.args.frame.now (get_or old k (Closed 0)) (clear_bit c.args.pools k clear)));
     }
 
@@ -42,7 +43,7 @@ loop-rest-preserved g c =
     let rest = c.loop-rest.rest in
     let p = trailing_zeros w64 rest in
     let old = c.args.units.now in
-    let effect : ℕ → Change = λ r. offered (has_bit c.args.pools r) c.args.loopback c.args.frame.now (get_or old r (Closed 0)) in
+    let effect : ℕ → Change Function = λ r. offered (has_bit c.args.pools r) c.args.loopback c.args.frame.now (get_or old r (Closed 0)) in
     let lowest = bit_at-trailing_zeros w64 rest (search rules) (search rules) in
     elim c.if-pool-units.branch [
       | then-pool-units w ↦
@@ -60,7 +61,7 @@ loop-rest-preserved g c =
             set = λ k bit. h.set k (still_left rest p k lowest.0 bit).1;
             left = λ k bit. ap (λ us. get_or us k (Closed 0)) w.units-is ∙ get_or-set_other c.loop-rest.units p k w.deliver-messages.new.self (Closed 0) (still_left rest p k lowest.0 bit).0 ∙ h.left k (still_left rest p k lowest.0 bit).1;
             silent = λ k bit. ap (λ ms. get_or ms k 0) heard ∙ get_or-set_other c.loop-rest.raised p k w.deliver-messages.result 0 (still_left rest p k lowest.0 bit).0 ∙ h.silent k (still_left rest p k lowest.0 bit).1;
-            done = λ k below clear. ap (λ us. get_or us k (Closed 0)) w.units-is ∙ done_more (λ r. (effect r).function) c.loop-rest.units (length old) rest p w.deliver-messages.new.self (Closed 0) lowest.0 (omega (arith, h.few, h.same_length)) within (w.deliver-messages.ensures.function ∙ ap (λ e. e.function) (sym same)) h.done k below clear;
+            done = λ k below clear. ap (λ us. get_or us k (Closed 0)) w.units-is ∙ done_more (λ r. (effect r).state) c.loop-rest.units (length old) rest p w.deliver-messages.new.self (Closed 0) lowest.0 (omega (arith, h.few, h.same_length)) within (w.deliver-messages.ensures.function ∙ ap (λ e. e.state) (sym same)) h.done k below clear;
             told = λ k below clear. ap (λ ms. get_or ms k 0) heard ∙ done_more (λ r. (effect r).messages) c.loop-rest.raised 64 rest p w.deliver-messages.result 0 lowest.0 (omega arith) in_raised (w.deliver-messages.ensures.messages ∙ ap (λ e. e.messages) (sym same)) h.told k below clear;
           }
       | else-pool-units w ↦
@@ -73,7 +74,7 @@ loop-rest-preserved g c =
             set = λ k bit. h.set k (still_left rest p k lowest.0 bit).1;
             left = λ k bit. h.left k (still_left rest p k lowest.0 bit).1;
             silent = λ k bit. h.silent k (still_left rest p k lowest.0 bit).1;
-            done = done_there (λ r. (effect r).function) c.loop-rest.units (length old) rest p (Closed 0) lowest.0 (omega (arith, h.few, h.same_length)) (λ here. absurd (omega (arith, here, past))) h.done;
+            done = done_there (λ r. (effect r).state) c.loop-rest.units (length old) rest p (Closed 0) lowest.0 (omega (arith, h.few, h.same_length)) (λ here. absurd (omega (arith, here, past))) h.done;
             told = done_there (λ r. (effect r).messages) c.loop-rest.raised 64 rest p 0 lowest.0 (omega arith) (λ here. h.silent p lowest.1 ∙ sym (none_there (has_bit c.args.pools p) c.args.loopback c.args.frame.now old p past)) h.told;
           }
     ]

@@ -16,7 +16,7 @@ invariant-loop-rest g l = record {
   left : (k : ℕ) → bit_at l.rest k ≡ 1 → get_or l.units k (Closed 0) ≡ get_or l.fn.units k (Closed 0);
   silent : (k : ℕ) → bit_at l.rest k ≡ 1 → get_or l.raised k 0 ≡ 0;
   done : (k : ℕ) → k < length l.fn.units → bit_at l.rest k ≡ 0 →
-      get_or l.units k (Closed 0) ≡ (offered (has_bit l.pools k) l.loopback l.frame (get_or l.fn.units k (Closed 0))).function;
+      get_or l.units k (Closed 0) ≡ (offered (has_bit l.pools k) l.loopback l.frame (get_or l.fn.units k (Closed 0))).state;
   told : (k : ℕ) → k < 64 → bit_at l.rest k ≡ 0 →
       get_or l.raised k 0 ≡ (offered (has_bit l.pools k) l.loopback l.frame (get_or l.fn.units k (Closed 0))).messages;
 }

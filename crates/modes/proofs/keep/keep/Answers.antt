@@ -2,7 +2,7 @@
 use Rattle.std.proofs.Common.{ap, ◌∙◌}
 use Rattle.transcript.proofs.Known.{began_none, on_err}
 use Rattle.modes.specs.Program.{device_of}
-use Rattle.modes.proofs.Left.{began_as, kept_whole, sent_as}
+use Rattle.modes.proofs.Left.{began_as, kept_whole}
 use Rattle.modes.proofs.keep.keep.Goals as goal
 
 pub returns-in_err-device-clause-err : goal.returns-in_err-device-clause-err
@@ -11,10 +11,7 @@ returns-in_err-device-clause-err g c = on_err c.from_residual.result (began_none
 pub returns-in_err-watch-clause-err : goal.returns-in_err-watch-clause-err
 returns-in_err-watch-clause-err g c = on_err c.from_residual-in_err-watch.result (began_none _ _)
 
-pub returns-in_err-items-clause-err : goal.returns-in_err-items-clause-err
-returns-in_err-items-clause-err g c = on_err c.from_residual-in_err-items.result
-    (began_as _ _ _ _ (kept_whole c.args.output.now _ _ _ (device_of c.args.script.now.device) c.args.pool c.args.script.now.events c.deref_mut.ensures.value c.in_ok-watch.ensures.ok (c.in_ok-device.ensures.ok ∙ ap device_of c.shape-shape.ensures)) c.in_err-items.ensures.err)
-
-pub returns-clause-ok : goal.returns-clause-ok
-returns-clause-ok g c =
-    sent_as _ _ _ _ _ (kept_whole c.args.output.now _ _ _ (device_of c.args.script.now.device) c.args.pool c.args.script.now.events c.deref_mut.ensures.value c.in_ok-watch.ensures.ok (c.in_ok-device.ensures.ok ∙ ap device_of c.shape-shape.ensures)) c.in_ok-items.ensures.ok
+pub returns-in_err-told-clause-err : goal.returns-in_err-told-clause-err
+returns-in_err-told-clause-err g c =
+    on_err c.from_residual-in_err-told.result
+    (began_as _ _ _ _ (kept_whole c.args.output.now _ _ _ (device_of c.args.script.now.device) c.args.pool c.args.script.now.events c.deref_mut.ensures.value c.in_ok-watch.ensures.ok (c.in_ok-device.ensures.ok ∙ ap device_of c.shape.ensures)) c.in_err-told.ensures.err)

@@ -1,27 +1,14 @@
--- The answers and then the frames are the whole; where it stops, the writer has a beginning.
-use Rattle.std.proofs.Common.{rules, ◌≡◌, refl, ap, ◌∙◌}
-use Rattle.transcript.proofs.Known.{began_none, began_more, began_then, sent_then, on_err}
+-- The device is that of the script.
+use Rattle.std.proofs.Common.{ap, ◌∙◌}
+use Rattle.transcript.proofs.Known.{began_none, on_err}
 use Rattle.modes.specs.Program.{device_of}
-use Rattle.modes.proofs.Left.{began_as, run_whole, sent_as}
+use Rattle.modes.proofs.Left.{began_as, run_over}
 use Rattle.modes.proofs.run.run.Goals as goal
 
 pub returns-in_err-device-clause-err : goal.returns-in_err-device-clause-err
 returns-in_err-device-clause-err g c = on_err c.from_residual.result (began_none _ _)
 
-pub returns-in_err-answers-clause-err : goal.returns-in_err-answers-clause-err
-returns-in_err-answers-clause-err g c =
-    on_err c.from_residual-in_err-answers.result
-    (began_as _ _ _ _ (run_whole c.args.output.now _ _ (device_of c.args.script.now.device) _ _ c.args.script.now.events c.deref_mut.ensures.value (c.in_ok-device.ensures.ok ∙ ap device_of c.shape-shape.ensures) refl refl) (began_more _ _ _ _ c.in_err-answers.ensures.err))
-
-pub returns-in_err-frames-clause-err : goal.returns-in_err-frames-clause-err
-returns-in_err-frames-clause-err g c =
-    let still : c.deref.result.now ≡ c.answers.new.device = search rules in
-    on_err c.from_residual-in_err-frames.result
-    (began_as _ _ _ _ (run_whole c.args.output.now _ _ (device_of c.args.script.now.device) _ _ c.args.script.now.events c.deref_mut.ensures.value (c.in_ok-device.ensures.ok ∙ ap device_of c.shape-shape.ensures) c.in_ok-answers.ensures.world still)
-    (began_then _ _ _ _ _ _ c.in_ok-answers.ensures.ok c.in_err-frames.ensures.err))
-
-pub returns-clause-ok : goal.returns-clause-ok
-returns-clause-ok g c =
-    let still : c.deref.result.now ≡ c.answers.new.device = search rules in
-    sent_as _ _ _ _ _ (run_whole c.args.output.now _ _ (device_of c.args.script.now.device) _ _ c.args.script.now.events c.deref_mut.ensures.value (c.in_ok-device.ensures.ok ∙ ap device_of c.shape-shape.ensures) c.in_ok-answers.ensures.world still)
-    (sent_then _ _ _ _ _ _ _ c.in_ok-answers.ensures.ok c.in_ok-frames.ensures.ok)
+pub returns-in_err-told-clause-err : goal.returns-in_err-told-clause-err
+returns-in_err-told-clause-err g c =
+    on_err c.from_residual-in_err-told.result
+    (began_as _ _ _ _ (run_over c.args.output.now _ _ _ c.args.script.now.events c.deref_mut.ensures.value (c.in_ok-device.ensures.ok ∙ ap device_of c.shape.ensures)) c.in_err-told.ensures.err)

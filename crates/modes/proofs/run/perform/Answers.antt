@@ -1,0 +1,21 @@
+-- The answers and then the frames are the whole; where it stops, the writer has a beginning.
+use Rattle.std.proofs.Common.{refl}
+use Rattle.transcript.proofs.Known.{began_more, began_then, sent_then, on_err}
+use Rattle.modes.proofs.Left.{began_as, run_whole, sent_as}
+use Rattle.modes.proofs.run.perform.Goals as goal
+
+pub returns-in_err-answers-clause-err : goal.returns-in_err-answers-clause-err
+returns-in_err-answers-clause-err g c =
+    on_err c.from_residual.result
+    (began_as _ _ _ _ (run_whole c.args.output.now _ _ _ c.args.script.now.events refl refl) (began_more _ _ _ _ c.in_err-answers.ensures.err))
+
+pub returns-in_err-frames-clause-err : goal.returns-in_err-frames-clause-err
+returns-in_err-frames-clause-err g c =
+    on_err c.from_residual-in_err-frames.result
+    (began_as _ _ _ _ (run_whole c.args.output.now _ _ _ c.args.script.now.events c.in_ok-answers.ensures.world refl)
+    (began_then _ _ _ _ _ _ c.in_ok-answers.ensures.ok c.in_err-frames.ensures.err))
+
+pub returns-clause-ok : goal.returns-clause-ok
+returns-clause-ok g c =
+    sent_as _ _ _ _ _ (run_whole c.args.output.now _ _ _ c.args.script.now.events c.in_ok-answers.ensures.world refl)
+    (sent_then _ _ _ _ _ _ _ c.in_ok-answers.ensures.ok c.in_ok-frames.ensures.ok)

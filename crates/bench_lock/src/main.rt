@@ -15,6 +15,7 @@ use std::alloc::Global;
 use std::env;
 use std::marker::Brand;
 use std::sync::ledger::Blank;
+use test_support::memories;
 
 /// How many calls a workload has where nothing is timed.
 const FEW: u32 = 300;
@@ -22,13 +23,6 @@ const FEW: u32 = 300;
 const TURNS: u32 = 65_000;
 /// How many rounds are timed.
 const ROUNDS: u32 = 20;
-
-// What a device has for memories.
-fn memories(alloc: Global) -> Result<Vec<FlatMem>> {
-    let mut memories = Vec::new(alloc);
-    memories.push(FlatMem::new(alloc, 262_144)?)?;
-    Ok(memories)
-}
 
 fn main(rt: HostRuntime) -> Result<()> {
     let alloc = rt.alloc();
@@ -47,8 +41,8 @@ fn main(rt: HostRuntime) -> Result<()> {
             turns: if timed { TURNS } else { FEW },
             rounds: if timed { ROUNDS } else { 2 },
         };
-        let live = memories(alloc)?;
-        let twin = memories(alloc)?;
+        let live = memories(alloc, 1, 262_144)?;
+        let twin = memories(alloc, 1, 262_144)?;
         let figures = measure::<HostRuntime, FlatMem, Brand>(
             &rt,
             alloc,

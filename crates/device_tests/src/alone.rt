@@ -8,7 +8,7 @@ use pool_filter::{Own, Tables};
 use std::alloc::Global;
 use std::process::Abort;
 use std::test::Fail;
-use test_support::all_room;
+use test_support::{all_room, memories};
 use wire_frame::{Fault, FrameBuf, FrameLimit, PoolId};
 
 // Registers of the physical function, and what they are written: functions 0 and 1 have addresses that end with 10 and 11,
@@ -57,12 +57,8 @@ fn frame_to(to: u8) -> Result<FrameBuf, Fault> {
 
 // A device of two functions that is watched for pool 0.
 fn watch_pair(alloc: Global) -> Result<Watch<FlatMem>, Fail> {
-    let mut memories = Vec::new(alloc);
-    for _ in 0..2 {
-        memories.push(FlatMem::new(alloc, 65536)?)?;
-    }
     let pool = PoolId::new(0).ok_or("a pool")?;
-    Ok(Watch::new(Device::new(alloc, memories)?, pool))
+    Ok(Watch::new(Device::new(alloc, memories(alloc, 2, 65536)?)?, pool))
 }
 
 // A function by itself with as much memory.

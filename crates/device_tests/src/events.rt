@@ -5,6 +5,7 @@ use guest_memory::{FlatMem, GuestMem};
 use std::alloc::{AllocError, Global};
 use std::process::Abort;
 use std::test::Fail;
+use test_support::memories;
 use wire_frame::{Fault, FrameBuf};
 
 mod calls;
@@ -45,18 +46,6 @@ pub fn frame_to(to: u8, number: u16) -> Result<FrameBuf, Fault> {
     bytes[58] = (number / 256) as u8;
     bytes[59] = (number % 256) as u8;
     FrameBuf::from_bytes(&bytes)
-}
-
-// Memories of 65,536 bytes.
-pub fn memories(alloc: Global, count: usize) -> Result<Vec<FlatMem>, Fault> {
-    let mut memories = Vec::new(alloc);
-    for _ in 0..count {
-        let memory = FlatMem::new(alloc, 65536)?;
-        if memories.push(memory).is_err() {
-            return Err(Fault::NoMemory);
-        }
-    }
-    Ok(memories)
 }
 
 // One event that is done, without messages.

@@ -8,6 +8,7 @@ use std::alloc::{AllocError, Global};
 use std::mem::size_of;
 use std::process::Abort;
 use std::test::Fail;
+use test_support::memories;
 use wire_frame::{Fault, FrameBuf, PoolId};
 
 mod answers;
@@ -26,21 +27,9 @@ const RECEIVE: [(u32, u32); 7] = [
     (0x108, 7),
 ];
 
-// Memories of 4096 bytes.
-fn memories(alloc: Global, count: usize) -> Result<Vec<FlatMem>, Fault> {
-    let mut memories = Vec::new(alloc);
-    for _ in 0..count {
-        let memory = FlatMem::new(alloc, 4096)?;
-        if memories.push(memory).is_err() {
-            return Err(Fault::NoMemory);
-        }
-    }
-    Ok(memories)
-}
-
 // A device with 64 functions, all closed.
 fn device_of_64(alloc: Global) -> Result<Device<FlatMem>, Fault> {
-    Device::new(alloc, memories(alloc, 64)?)
+    Device::new(alloc, memories(alloc, 64, 4096)?)
 }
 
 // One more call, for which there is room.

@@ -18,6 +18,7 @@ use std::sync::{Arc, Wait};
 use std::test::Fail;
 use std::thread;
 use std::thread::Threads;
+use test_support::memories;
 use wire_frame::Fault;
 
 // How many scripts a test has.
@@ -61,10 +62,7 @@ fn fresh(alloc: Global, script: &Script) -> Result<Device<FlatMem>, Fail>
     ensures { IfOk result IsFresh }
 {
     let shape = script.shape();
-    let mut memories = Vec::new(alloc);
-    for _ in 0..shape.functions {
-        memories.push(FlatMem::new(alloc, shape.memory_size)?)?;
-    }
+    let memories = memories(alloc, usize::from(shape.functions), shape.memory_size)?;
     Ok(Device::with_limit(alloc, memories, shape.limit.get())?)
 }
 

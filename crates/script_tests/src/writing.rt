@@ -6,6 +6,7 @@ use lone::{Lone, Room, Watch};
 use std::alloc::{AllocError, Global};
 use std::io::Write;
 use std::test::Fail;
+use test_support::memories;
 use transcript::Output;
 use wire_frame::{Fault, FrameBuf, FrameLimit, PoolId};
 
@@ -109,14 +110,7 @@ fn push_sender(steps: &mut Vec<Step>, pool: u8, to: u8) -> Result<(), AllocError
 
 // A device of eight functions with 65,536 bytes each.
 fn device_of_8(alloc: Global) -> Result<Device<FlatMem>, Fault> {
-    let mut memories = Vec::new(alloc);
-    for _ in 0..8 {
-        let memory = FlatMem::new(alloc, 65536)?;
-        if memories.push(memory).is_err() {
-            return Err(Fault::NoMemory);
-        }
-    }
-    Device::new(alloc, memories)
+    Device::new(alloc, memories(alloc, 8, 65536)?)
 }
 
 // The line of one more answer.

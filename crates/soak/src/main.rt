@@ -30,6 +30,7 @@ use std::env;
 use std::marker::Brand;
 use std::sync::ledger::Blank;
 use std::time::Instant;
+use test_support::memories;
 
 /// How many guests there are: all that a card can have.
 const GUESTS: u8 = 64;
@@ -41,15 +42,6 @@ const CAP: usize = 65_536;
 const FEW: usize = 600;
 
 const TURNS: u64 = 40;
-
-// The memories of a device.
-fn memories(alloc: Global) -> Result<Vec<FlatMem>> {
-    let mut memories = Vec::with_capacity(alloc, usize::from(GUESTS))?;
-    for _ in 0..GUESTS {
-        memories.push(FlatMem::new(alloc, MEMORY)?)?;
-    }
-    Ok(memories)
-}
 
 // What a round is done on.
 fn stage(alloc: Global) -> Result<Stage<FlatMem, IrqPort>> {
@@ -63,8 +55,8 @@ fn stage(alloc: Global) -> Result<Stage<FlatMem, IrqPort>> {
     Ok(Stage {
         line,
         ports,
-        live: memories(alloc)?,
-        other: memories(alloc)?,
+        live: memories(alloc, usize::from(GUESTS), MEMORY)?,
+        other: memories(alloc, usize::from(GUESTS), MEMORY)?,
     })
 }
 

@@ -16,24 +16,13 @@ use std::sync::ledger::{Blank, Ledger};
 use std::test::Fail;
 use std::thread;
 use std::thread::Threads;
+use test_support::memories;
 use wire_frame::{Fault, FrameBuf};
 
 mod callers;
 mod full;
 mod making;
 mod threads;
-
-// Memories of that many bytes.
-fn memories(alloc: Global, count: usize, size: u64) -> Result<Vec<FlatMem>, Fault> {
-    let mut memories = Vec::new(alloc);
-    for _ in 0..count {
-        let memory = FlatMem::new(alloc, size)?;
-        if memories.push(memory).is_err() {
-            return Err(Fault::NoMemory);
-        }
-    }
-    Ok(memories)
-}
 
 // The settings with which function 3 has an address and may receive, and the function open with one receive descriptor; then
 // a frame to it comes, and is read: its descriptor, the reason for its message, and the head of its ring.

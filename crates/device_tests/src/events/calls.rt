@@ -23,7 +23,7 @@ fn heard(messages: Result<Messages, Fault>) -> Option<u64> {
 
 #[test]
 fn open_and_end(rt: HostRuntime) -> Result<(), Fail> {
-    let mut device = Device::new(rt.alloc(), memories(rt.alloc(), 2)?)?;
+    let mut device = Device::new(rt.alloc(), memories(rt.alloc(), 2, 65536)?)?;
     assert_equal(&rt, device.end(1), Err(Fault::NotOpen));
     assert_equal(&rt, device.open(1), Ok(()));
     assert_equal(&rt, device.open(1), Err(Fault::AlreadyOpen));
@@ -40,7 +40,7 @@ fn open_and_end(rt: HostRuntime) -> Result<(), Fail> {
 
 #[test]
 fn vf_read_and_vf_write(rt: HostRuntime) -> Result<(), Fail> {
-    let mut device = Device::new(rt.alloc(), memories(rt.alloc(), 2)?)?;
+    let mut device = Device::new(rt.alloc(), memories(rt.alloc(), 2, 65536)?)?;
     assert_equal(&rt, device.vf_read(1, 0x10), Err(Fault::NotOpen));
     assert_equal(&rt, device.open(1), Ok(()));
     // the link is up, and VTEIMS reads what was set
@@ -57,7 +57,7 @@ fn vf_read_and_vf_write(rt: HostRuntime) -> Result<(), Fail> {
 
 #[test]
 fn mem_read_and_mem_write(rt: HostRuntime) -> Result<(), Fail> {
-    let mut device = Device::new(rt.alloc(), memories(rt.alloc(), 2)?)?;
+    let mut device = Device::new(rt.alloc(), memories(rt.alloc(), 2, 65536)?)?;
     let mut out = [9; 4];
     assert_equal(&rt, device.mem_read(0, 0, &mut out), Err(Fault::NotOpen));
     assert_equal(&rt, out, [9; 4]);
@@ -86,7 +86,7 @@ fn mem_read_and_mem_write(rt: HostRuntime) -> Result<(), Fail> {
 
 #[test]
 fn pf_read_pf_write_flr_and_reset(rt: HostRuntime) -> Result<(), Fail> {
-    let mut device = Device::new(rt.alloc(), memories(rt.alloc(), 2)?)?;
+    let mut device = Device::new(rt.alloc(), memories(rt.alloc(), 2, 65536)?)?;
     assert_equal(&rt, device.pf_write(0x51E0, 3), Ok(()));
     assert_equal(&rt, device.pf_read(0x51E0), Ok(3));
     assert_equal(&rt, device.pf_read(0x2_0000), Err(Fault::BadOffset));
@@ -104,7 +104,7 @@ fn pf_read_pf_write_flr_and_reset(rt: HostRuntime) -> Result<(), Fail> {
 
 #[test]
 fn wire_tells_who_got_messages(rt: HostRuntime) -> Result<(), Fail> {
-    let mut device = Device::new(rt.alloc(), memories(rt.alloc(), 8)?)?;
+    let mut device = Device::new(rt.alloc(), memories(rt.alloc(), 8, 65536)?)?;
     set_up(&rt, &mut device)?;
     let messages = device.wire(&frame_to(3, 0)?)?;
     assert_equal(&rt, messages.pools(), 8);
@@ -159,7 +159,7 @@ fn send_one<R: Abort, M: GuestMem>(
 
 #[test]
 fn serve_hands_out_the_frame_that_left(rt: HostRuntime) -> Result<(), Fail> {
-    let mut device = Device::new(rt.alloc(), memories(rt.alloc(), 8)?)?;
+    let mut device = Device::new(rt.alloc(), memories(rt.alloc(), 8, 65536)?)?;
     set_up(&rt, &mut device)?;
     for (offset, value) in TRANSMIT {
         do_silently(&rt, &mut device, &Event::VfWrite(3, offset, value));
@@ -197,7 +197,7 @@ fn span_of<M: GuestMem>(device: &mut Device<M>, request: Request<'_>) -> Option<
 
 #[test]
 fn take_says_where_bytes_lie(rt: HostRuntime) -> Result<(), Fail> {
-    let mut device = Device::new(rt.alloc(), memories(rt.alloc(), 8)?)?;
+    let mut device = Device::new(rt.alloc(), memories(rt.alloc(), 8, 65536)?)?;
     assert!(rt; span_of(&mut device, Request::Open(3)).is_none());
     let written = MemSlice::new(&[5, 6, 7])?;
     assert!(rt; span_of(&mut device, Request::MemWrite(3, 40, written)).is_none());
@@ -215,7 +215,7 @@ fn take_says_where_bytes_lie(rt: HostRuntime) -> Result<(), Fail> {
 
 #[test]
 fn limits_and_sizes_are_shown(rt: HostRuntime) -> Result<(), Fail> {
-    let device = Device::with_limit(rt.alloc(), memories(rt.alloc(), 2)?, 9018)?;
+    let device = Device::with_limit(rt.alloc(), memories(rt.alloc(), 2, 65536)?, 9018)?;
     assert_equal(&rt, device.limit().get(), 9018);
     assert_eq!(rt; device.functions(), 2);
     assert_equal(&rt, device.memory_size(1), 65536);

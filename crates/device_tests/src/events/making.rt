@@ -6,7 +6,7 @@ use test_support::all_room;
 fn takes_1_to_64_memories_of_valid_sizes(rt: HostRuntime) -> Result<(), Fail> {
     let alloc = rt.alloc();
     for (count, made) in [(0, false), (1, true), (64, true), (65, false)] {
-        let device = Device::new(alloc, memories(alloc, count)?);
+        let device = Device::new(alloc, memories(alloc, count, 65536)?);
         match device {
             Ok(device) => {
                 assert!(rt; made);
@@ -25,7 +25,7 @@ fn takes_1_to_64_memories_of_valid_sizes(rt: HostRuntime) -> Result<(), Fail> {
 fn takes_limits_of_1518_to_9018_bytes(rt: HostRuntime) -> Result<(), Fail> {
     let alloc = rt.alloc();
     for (limit, made) in [(1517, false), (1518, true), (9018, true), (9019, false)] {
-        match Device::with_limit(alloc, memories(alloc, 1)?, limit) {
+        match Device::with_limit(alloc, memories(alloc, 1, 65536)?, limit) {
             Ok(_) => assert!(rt; made),
             Err(fault) => {
                 assert!(rt; !made);
@@ -47,9 +47,9 @@ fn fault_of<T: Drop>(made: Result<T, Fault>) -> Option<Fault> {
 #[test]
 fn tells_of_refused_memory(rt: HostRuntime) -> Result<(), Fail> {
     let alloc = rt.alloc();
-    let mut device = Device::new(alloc, memories(alloc, 8)?)?;
+    let mut device = Device::new(alloc, memories(alloc, 8, 65536)?)?;
     set_up(&rt, &mut device)?;
-    let (first, second) = (memories(alloc, 8)?, memories(alloc, 8)?);
+    let (first, second) = (memories(alloc, 8, 65536)?, memories(alloc, 8, 65536)?);
     let events = [Event::Wire(frame_to(3, 0)?), Event::VfRead(3, 0x1010)];
     let taken = all_room(alloc).ok_or("the heap does not run out")?;
     // The run is asked first, since a maker that is refused drops its memories.

@@ -103,7 +103,7 @@ fn a_device_whose_function_is_open_gives_another_answer(rt: HostRuntime) -> Resu
     assert_equal(&rt, other.open(0), Ok(()));
     assert_equal(&rt, first_other(&history, &mut other, &mut room), Some(1));
     // and one without that function too
-    let mut smaller = Device::new(rt.alloc(), memories(rt.alloc(), 1)?)?;
+    let mut smaller = Device::new(rt.alloc(), memories(rt.alloc(), 1, 4096)?)?;
     assert_equal(&rt, first_other(&history, &mut smaller, &mut room), None);
     assert_equal(&rt, smaller.end(0), Ok(()));
     assert!(rt; 2 < history.len());

@@ -14,6 +14,7 @@ use std::sync::ledger::{Blank, Ledger};
 use std::sync::{Arc, Wait};
 use std::test::Fail;
 use std::thread::Threads;
+use test_support::memories;
 use wire_frame::Fault;
 use workers::OpenGate;
 
@@ -42,17 +43,16 @@ fn setting(alloc: Global, cap: usize, has_twin: bool) -> Option<Setting<FlatMem,
             ports.push(IrqPort::new(alloc, pool, seat).ok()?).ok()?;
         }
     }
-    let mut memories = Vec::new(alloc);
-    let mut twins = Vec::new(alloc);
-    for _ in 0..2 {
-        memories.push(FlatMem::new(alloc, 65536).ok()?).ok()?;
-        twins.push(FlatMem::new(alloc, 65536).ok()?).ok()?;
-    }
+    let twins = if has_twin {
+        Some(memories(alloc, 2, 65536).ok()?)
+    } else {
+        None
+    };
     Some(Setting {
         line,
         ports,
-        memories,
-        twins: if has_twin { Some(twins) } else { None },
+        memories: memories(alloc, 2, 65536).ok()?,
+        twins,
         cap,
     })
 }

@@ -14,6 +14,7 @@ use std::sync::ledger::{Blank, Ledger};
 use std::sync::{Arc, Wait};
 use std::test::Fail;
 use std::thread::Threads;
+use test_support::memories;
 use wire_frame::{Fault, FrameBuf};
 use workers::{Gate, prepare, run_workers};
 
@@ -89,10 +90,7 @@ pub struct One<M: GuestMem, P: GuestPort> {
 /// The port of pool 3, and the memories of the set-up.
 pub fn port_of_three(alloc: Global) -> Result<One<FlatMem, IrqPort>, Fail> {
     let (line, seats) = make(alloc)?;
-    let mut memories = Vec::new(alloc);
-    for _ in 0..8 {
-        memories.push(FlatMem::new(alloc, 65536)?)?;
-    }
+    let memories = memories(alloc, 8, 65536)?;
     for seat in seats {
         if seat.pool() == 3 {
             let (port, note) = IrqPort::new(alloc, 3, seat)?;

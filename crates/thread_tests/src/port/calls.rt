@@ -8,6 +8,7 @@ use guest_memory::{FlatMem, GuestMem};
 use std::marker::Brand;
 use std::sync::ledger::{Blank, Ledger};
 use std::sync::{Arc, Wait};
+use test_support::memories;
 
 // What a test of one port needs: the port's seat, the device's, and memories of 4096 bytes for four functions.
 #[derive(Drop)]
@@ -21,14 +22,10 @@ struct Setting<M: GuestMem> {
 fn new_setting(alloc: Global) -> Result<Setting<FlatMem>, Fail> {
     let (line, seats) = make(alloc)?;
     let seat = seat_of(seats, 3).ok_or("no seat of pool 3")?;
-    let mut memories = Vec::new(alloc);
-    for _ in 0..4u8 {
-        memories.push(FlatMem::new(alloc, 4096)?)?;
-    }
     Ok(Setting {
         line,
         seat,
-        memories,
+        memories: memories(alloc, 4, 4096)?,
     })
 }
 

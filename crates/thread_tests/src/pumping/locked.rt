@@ -10,6 +10,7 @@ use std::marker::Brand;
 use std::sync::Arc;
 use std::sync::ledger::{Blank, Ledger};
 use std::thread::Threads;
+use test_support::memories;
 use wire_pump::LockedDoor;
 
 // A door that folds the history where it is full, and gives the frame once more.
@@ -89,18 +90,11 @@ fn pump_five<
     Some((fed, end, counts))
 }
 
-// One memory of 4096 bytes.
-fn one_memory(alloc: Global) -> Result<Vec<FlatMem>, Fail> {
-    let mut memories = Vec::new(alloc);
-    memories.push(FlatMem::new(alloc, 4096)?)?;
-    Ok(memories)
-}
-
 #[test]
 fn a_door_may_fold_and_try_again(rt: HostRuntime) -> Result<(), Fail> {
     let alloc = rt.alloc();
-    let memories = one_memory(alloc)?;
-    let twins = one_memory(alloc)?;
+    let twins = memories(alloc, 1, 4096)?;
+    let memories = memories(alloc, 1, 4096)?;
     let (fed, end, counts) = pump_five::<HostRuntime, FlatMem, Brand>(
         &rt,
         alloc,

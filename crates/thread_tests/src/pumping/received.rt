@@ -8,6 +8,7 @@ use irq_line::make;
 use std::marker::Brand;
 use std::sync::Arc;
 use std::sync::ledger::{Blank, Ledger};
+use test_support::memories;
 use wire_pump::LockedDoor;
 
 // Function 0 receives what no pool accepts: it is the default pool and may receive, and its ring of 8 descriptors at 0 has one
@@ -104,8 +105,7 @@ fn takes_that_frame<R: Wait + Abort, M: GuestMem, L: Ledger>(
 #[test]
 fn the_device_receives_the_frame(rt: HostRuntime) -> Result<(), Fail> {
     let alloc = rt.alloc();
-    let mut memories = Vec::new(alloc);
-    memories.push(FlatMem::new(alloc, 4096)?)?;
+    let memories = memories(alloc, 1, 4096)?;
     let buffer = MemBytes::from_bytes(&[0, 4, 0, 0, 0, 0, 0, 0])?;
     takes_that_frame::<HostRuntime, FlatMem, Brand>(
         &rt,

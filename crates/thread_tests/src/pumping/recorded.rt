@@ -9,6 +9,7 @@ use guest_memory::{FlatMem, GuestMem};
 use irq_line::make;
 use std::marker::Brand;
 use std::sync::ledger::{Blank, Ledger};
+use test_support::memories;
 
 // A door that gives the frames to a recorded device, as the pump.
 #[derive(Drop)]
@@ -69,8 +70,7 @@ fn pump_five<R: Abort + Wait, M: GuestMem, L: Ledger>(
 #[test]
 fn a_full_history_ends_the_pump(rt: HostRuntime) -> Result<(), Fail> {
     let alloc = rt.alloc();
-    let mut memories = Vec::new(alloc);
-    memories.push(FlatMem::new(alloc, 4096)?)?;
+    let memories = memories(alloc, 1, 4096)?;
     let (end, kept, count) = pump_five::<HostRuntime, FlatMem, Brand>(
         &rt,
         alloc,

@@ -22,8 +22,7 @@ initial_addresses = record { low = replicate 128 0; high = replicate 128 0; pool
 
 -- what a read of the offset gives, if it names one of these words
 unfoldable pub addresses_at : Addresses → ℕ → Option ℕ
-addresses_at a offset =
-    word_at RAL a.low offset
+addresses_at a offset = word_at RAL a.low offset
     or word_at RAH a.high offset
     or word_at MPSAR a.pools offset
     or word_at MTA a.hashes offset

@@ -46,8 +46,7 @@ passes_end size _ = false
 
 -- why an event of its own is refused to a function: the first line that fits
 unfoldable pub refusal : Function → Event → Option Fault
-refusal f e =
-    if not (is_open f) && not (opens e) then Some NotOpen
+refusal f e = if not (is_open f) && not (opens e) then Some NotOpen
     else (if is_open f && opens e then Some AlreadyOpen
     else (if names_bad_offset e then Some BadOffset
     else (if is_too_long e then Some TooLong
@@ -104,8 +103,7 @@ unsent c reply = record { function = c.state; reply = reply; messages = c.messag
 abbrev pub concluded : OwnSettings → Change Function → Option Fetched → Service
 concluded o c (Some Idle) = unsent c Idle
 concluded o c (Some More) = unsent c More
-concluded o c (Some (Frame frame)) =
-    if permitted o frame
+concluded o c (Some (Frame frame)) = if permitted o frame
     then record { function = one_more_sent c.state; reply = Sent; messages = c.messages; sent = Some frame }
     else unsent c Dropped
 concluded o c (Some Dropped) = unsent c Dropped
@@ -117,8 +115,7 @@ unserved f reply = record { function = f; reply = reply; messages = 0; sent = No
 
 -- a service of the function's queue, by the function's own settings alone
 unfoldable pub serve : ℕ → OwnSettings → Function → Queue → Service
-serve limit o f q =
-    if is_open f
+serve limit o f q = if is_open f
     then (if o.may_transmit
     then concluded o (serviced limit (port_vlan_of o.port_vlan) f q) (service_outcome limit (port_vlan_of o.port_vlan) f q)
     else unserved f Idle)

@@ -50,8 +50,7 @@ issued c v = record { state = c; messages = 2 ^ v }
 -- enabled joins the causes, and one that is enabled issues its message, and joins the causes unless it is cleared
 -- automatically.
 unfoldable pub raised : CauseState → ℕ → Change CauseState
-raised c v =
-    if nat_lt 2 v || has_bit c.causes v then silent c
+raised c v = if nat_lt 2 v || has_bit c.causes v then silent c
     else (if has_bit c.enabled v
     then issued (if has_bit c.auto_clear v then c else with_cause c v) v
     else silent (with_cause c v))
@@ -59,8 +58,7 @@ raised c v =
 -- Vector v is enabled. One that is enabled already changes nothing. Else one whose cause stands issues its message, and
 -- leaves the causes if it is cleared automatically.
 unfoldable pub unmasked : CauseState → ℕ → Change CauseState
-unmasked c v =
-    if has_bit c.enabled v then silent c
+unmasked c v = if has_bit c.enabled v then silent c
     else (if has_bit c.causes v
     then issued (with_enabled (if has_bit c.auto_clear v then without_cause c v else c) v) v
     else silent (with_enabled c v))

@@ -10,7 +10,7 @@ ghost use Rattle.modes.specs.Faults.{is_late};
 ghost use Rattle.modes.specs.Program.{alone_of, device_of};
 
 use crate::fault::Fault;
-use crate::making::{is_of_size, make_device, make_lone, make_watch, put_away};
+use crate::making::{is_of_size, make_device, make_lone, make_room, make_watch, put_away};
 use guest_memory::GuestMem;
 use lone::follow::follow;
 use lone::{Lone, Seen, Watch};
@@ -53,7 +53,7 @@ pub fn lone_function<M: GuestMem, W: Write>(
     told
 }
 
-// The same over the watched device.
+// Makes the lone function, and has it given what the events leave to it of the watched device.
 #[tactic(auto, using(transcript::proofs::Known::nothing_began))]
 fn perform<M: GuestMem, W: Write>(
     alloc: Global,
@@ -75,19 +75,25 @@ fn perform<M: GuestMem, W: Write>(
     ensures late { IfErr result (λ e. is_late e ≡ true) }
 {
     let mut lone = make_lone(alloc, memory, limit)?;
-    let told = observations(watch, &mut lone, pool, script, output, writer);
+    let Ok(mut room) = make_room(alloc) else {
+        put_away(lone);
+        return Err(Fault::NoMemory);
+    };
+    let told = observations(watch, &mut lone, pool, script, &mut room, output, writer);
+    put_away(room);
     put_away(lone);
     Ok(told?)
 }
 
-#[inline(never)]
 // Gives the events to the watched device and what they leave to the lone function, and the lines of what is seen of that
 // to the output.
+#[inline(never)]
 fn observations<M: GuestMem, W: Write>(
     watch: &mut Watch<M>,
     lone: &mut Lone<M>,
     pool: PoolId,
     script: &Script,
+    room: &mut Room,
     output: &mut Output,
     writer: &mut W,
 ) -> Result<(), transcript::Fault>
@@ -97,10 +103,9 @@ fn observations<M: GuestMem, W: Write>(
     ensures err { OnErr result (Began (W.contents writer.old) (W.contents writer.new)
         (output.old ++ lone_text pool lone.old watch.old.world script.now.events)) }
 {
-    let mut room = Room::new();
     let mut given_room = lone::Room::new();
     for index in 0..script.len() {
-        let request = script.request(index, &mut room);
+        let request = script.request(index, room);
         let seen = follow(watch, lone, request, &mut given_room);
         observation(output, index as u64 + 1, pool, lone, seen, writer)?;
     }

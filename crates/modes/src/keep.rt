@@ -9,7 +9,7 @@ ghost use Rattle.modes.specs.Faults.{is_late};
 ghost use Rattle.modes.specs.Program.{device_of};
 
 use crate::fault::Fault;
-use crate::making::{make_device, make_watch, put_away};
+use crate::making::{make_device, make_room, make_watch, put_away};
 use guest_memory::GuestMem;
 use lone::{Given, Watch};
 use script::{Room, Script};
@@ -37,7 +37,12 @@ pub fn keep<M: GuestMem, W: Write>(
 {
     let device = make_device(alloc, script.shape(), memories)?;
     let mut watch = make_watch(alloc, device, pool)?;
-    let told = items(&mut watch, script, output, writer);
+    let Ok(mut room) = make_room(alloc) else {
+        put_away(watch);
+        return Err(Fault::NoMemory);
+    };
+    let told = items(&mut watch, script, &mut room, output, writer);
+    put_away(room);
     put_away(watch);
     Ok(told?)
 }
@@ -47,6 +52,7 @@ pub fn keep<M: GuestMem, W: Write>(
 fn items<M: GuestMem, W: Write>(
     watch: &mut Watch<M>,
     script: &Script,
+    room: &mut Room,
     output: &mut Output,
     writer: &mut W,
 ) -> Result<(), transcript::Fault>
@@ -55,10 +61,9 @@ fn items<M: GuestMem, W: Write>(
     ensures err { OnErr result (Began (W.contents writer.old) (W.contents writer.new)
         (output.old ++ keep_text watch.old.pool watch.old.world script.now.events)) }
 {
-    let mut room = Room::new();
     let mut given_room = lone::Room::new();
     for index in 0..script.len() {
-        let request = script.request(index, &mut room);
+        let request = script.request(index, room);
         let given = watch.step(request, &mut given_room);
         item(output, index as u64 + 1, given, writer)?;
     }

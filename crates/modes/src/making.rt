@@ -9,8 +9,8 @@ use crate::fault::Fault;
 use device::Device;
 use guest_memory::GuestMem;
 use lone::{Lone, Watch};
-use script::Shape;
-use std::alloc::Global;
+use script::{Room, Shape};
+use std::alloc::{AllocError, Global};
 use wire_frame::{FrameLimit, PoolId};
 
 /// The device of a script's shape, over these memories. They have to be as many and as large as the shape says, which is
@@ -57,6 +57,12 @@ pub fn is_of_size<M: GuestMem>(memory: &M, size: u64) -> bool
 #[inline(never)]
 pub fn put_away<T: Drop>(boxed: Box<T>) {
     let _ = boxed;
+}
+
+/// The room that the events of a script are given from, which is too large for the stack.
+#[inline(never)]
+pub fn make_room(alloc: Global) -> Result<Box<Room>, AllocError> {
+    Ok(Box::new(alloc, Room::new())?)
 }
 
 /// A watch.

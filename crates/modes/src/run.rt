@@ -7,7 +7,7 @@ ghost use Rattle.modes.specs.Faults.{is_late};
 ghost use Rattle.modes.specs.Program.{device_of};
 
 use crate::fault::Fault;
-use crate::making::{make_device, put_away};
+use crate::making::{make_device, make_room, put_away};
 use device::Device;
 use guest_memory::GuestMem;
 use script::{Room, Script};
@@ -33,15 +33,21 @@ pub fn run<M: GuestMem, W: Write>(
     ensures late { IfErr result (λ e. is_late e ≡ true) }
 {
     let mut device = make_device(alloc, script.shape(), memories)?;
-    let told = perform(&mut device, script, output, writer);
+    let Ok(mut room) = make_room(alloc) else {
+        put_away(device);
+        return Err(Fault::NoMemory);
+    };
+    let told = perform(&mut device, script, &mut room, output, writer);
+    put_away(room);
     put_away(device);
     Ok(told?)
 }
 
-// The same over the device.
+// Gives the lines of the answers to the output, and then those of the frames that went to the wire.
 fn perform<M: GuestMem, W: Write>(
     device: &mut Device<M>,
     script: &Script,
+    room: &mut Room,
     output: &mut Output,
     writer: &mut W,
 ) -> Result<(), transcript::Fault>
@@ -50,7 +56,7 @@ fn perform<M: GuestMem, W: Write>(
     ensures err { OnErr result (Began (W.contents writer.old) (W.contents writer.new)
         (output.old ++ run_text device.old script.now.events)) }
 {
-    answers(device, script, output, writer)?;
+    answers(device, script, room, output, writer)?;
     frames(device, output, writer)?;
     Ok(())
 }
@@ -60,6 +66,7 @@ fn perform<M: GuestMem, W: Write>(
 fn answers<M: GuestMem, W: Write>(
     device: &mut Device<M>,
     script: &Script,
+    room: &mut Room,
     output: &mut Output,
     writer: &mut W,
 ) -> Result<(), transcript::Fault>
@@ -69,10 +76,9 @@ fn answers<M: GuestMem, W: Write>(
     ensures err { OnErr result (Began (W.contents writer.old) (W.contents writer.new)
         (output.old ++ lines 1 (answers device.old script.now.events))) }
 {
-    let mut room = Room::new();
     let mut frame = FrameBuf::blank();
     for index in 0..script.len() {
-        let request = script.request(index, &mut room);
+        let request = script.request(index, room);
         let taken = device.take(request, &mut frame);
         output.answer(index as u64 + 1, device, &taken, writer)?;
     }

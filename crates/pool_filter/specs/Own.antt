@@ -97,7 +97,6 @@ same_numbers (x ∷ xs) (y ∷ ys) = (x == y) && same_numbers xs ys
 same_numbers _ _ = false
 
 abbrev pub same_settings : OwnSettings → OwnSettings → Bool
-same_settings o n =
-    same_numbers o.addresses n.addresses && (same_numbers o.vlan_ids n.vlan_ids
+same_settings o n = same_numbers o.addresses n.addresses && (same_numbers o.vlan_ids n.vlan_ids
     && (same_bool o.takes_untagged n.takes_untagged && (same_bool o.may_receive n.may_receive && (same_bool o.may_transmit n.may_transmit
     && (same_bool o.checks_address n.checks_address && (same_bool o.checks_vlan n.checks_vlan && (o.port_vlan == n.port_vlan)))))))

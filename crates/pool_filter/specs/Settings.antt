@@ -37,8 +37,7 @@ initial_settings = record {
 
 -- what a read of the offset gives, if it names a word of the pools' registers
 unfoldable pub pools_at : Settings → ℕ → Option ℕ
-pools_at s offset =
-    one_at PF_VT_CTL s.pool_control offset
+pools_at s offset = one_at PF_VT_CTL s.pool_control offset
     or word_at PFVFRE s.receive_enable offset
     or word_at PFVFTE s.transmit_enable offset
     or word_at VMVIR s.port_vlans offset

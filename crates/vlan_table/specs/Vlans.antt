@@ -20,8 +20,7 @@ initial_vlans = record { control = 0; table = replicate 128 0; entries = replica
 
 -- what a read of the offset gives, if it names one of these words
 unfoldable pub vlans_at : Vlans → ℕ → Option ℕ
-vlans_at v offset =
-    one_at VLNCTRL v.control offset
+vlans_at v offset = one_at VLNCTRL v.control offset
     or word_at VFTA v.table offset
     or word_at VLVF v.entries offset
     or word_at VLVFB v.pools offset

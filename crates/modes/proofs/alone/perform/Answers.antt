@@ -1,7 +1,10 @@
 -- The lone function is as it is made.
-use Rattle.transcript.proofs.Known.{on_err}
+use Rattle.transcript.proofs.Known.{began_none, on_err}
 use Rattle.modes.proofs.Left.{began_as, seen_same}
 use Rattle.modes.proofs.alone.perform.Goals as goal
+
+pub returns-in_default-clause-err : goal.returns-in_default-clause-err
+returns-in_default-clause-err g c = began_none _ _
 
 pub returns-in_err-told-clause-err : goal.returns-in_err-told-clause-err
 returns-in_err-told-clause-err g c =

@@ -11,6 +11,9 @@ returns-in_err-device-clause-err g c = on_err c.from_residual.result (began_none
 pub returns-in_err-watch-clause-err : goal.returns-in_err-watch-clause-err
 returns-in_err-watch-clause-err g c = on_err c.from_residual-in_err-watch.result (began_none _ _)
 
+pub returns-in_default-clause-err : goal.returns-in_default-clause-err
+returns-in_default-clause-err g c = began_none _ _
+
 pub returns-in_err-told-clause-err : goal.returns-in_err-told-clause-err
 returns-in_err-told-clause-err g c =
     on_err c.from_residual-in_err-told.result

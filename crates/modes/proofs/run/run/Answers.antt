@@ -8,6 +8,9 @@ use Rattle.modes.proofs.run.run.Goals as goal
 pub returns-in_err-device-clause-err : goal.returns-in_err-device-clause-err
 returns-in_err-device-clause-err g c = on_err c.from_residual.result (began_none _ _)
 
+pub returns-in_default-clause-err : goal.returns-in_default-clause-err
+returns-in_default-clause-err g c = began_none _ _
+
 pub returns-in_err-told-clause-err : goal.returns-in_err-told-clause-err
 returns-in_err-told-clause-err g c =
     on_err c.from_residual-in_err-told.result

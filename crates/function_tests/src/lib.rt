@@ -1,8 +1,8 @@
 //! Tests of a virtual function and of what it stands on: frames, guest memory, lent blocks, rings, interrupt causes, receive and
 //! transmit descriptors, and the function itself.
 //!
-//! The values come from outside, from the datasheet and by hand. The tests stand apart from the crates that they try, since the
-//! gate proves a crate that has tests twice; they reach what is public and no more.
+//! The values come from outside, from the datasheet and by hand. The tests stand apart from the crates that they try, since a
+//! crate that has tests is proved twice; they reach what is public and no more.
 #![tactic(auto)]
 
 #[cfg(test)]

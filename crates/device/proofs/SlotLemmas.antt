@@ -11,6 +11,11 @@ pub one_more : (xs : List (List ℕ)) (x : List ℕ) (oldest : ℕ) → length x
 one_more xs x oldest few first =
     rw first (same_lists _ _ (grind (arith, places)) (λ k d h. grind (arith, places)))
 
+-- a frame that is laid into the slot behind the others
+pub laid_last : (xs ys : List (List ℕ)) (blank x y : List ℕ) (at : ℕ) → ys ≡ xs ++ blank ∷ [] → at ≡ length ys - 1 → y ≡ x → slice_set ys at y ≡ xs ++ x ∷ []
+laid_last xs ys blank x y at is last same =
+    rw (last, is, same) (same_lists _ _ (grind (arith, places, length-set)) (λ k d h. grind (arith, places, length-set, get_or-set_at)))
+
 -- a frame in the slot of the oldest, where all are taken
 pub oldest_gone : (xs : List (List ℕ)) (x : List ℕ) (oldest next : ℕ) → length xs ≡ 1024 → oldest < 1024 → next ≡ (oldest + 1) % 1024 → drop next (slice_set xs oldest x) ++ take next (slice_set xs oldest x) ≡ keep_last 1024 ((drop oldest xs ++ take oldest xs) ++ x ∷ [])
 oldest_gone xs x oldest next all within is =

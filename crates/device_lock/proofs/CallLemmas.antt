@@ -1,10 +1,8 @@
 -- One more kept call, and one call on in those that are kept.
-use Rattle.std.proofs.Common.{◌≡◌, ℕ, ◌+◌, ◌-◌, ◌≤◌, Bool, true, false, List, [], ◌∷◌, ◌++◌, length, refl, sym, ap, ◌∙◌, arith}
-use Rattle.std.specs.Prelude.{slice_index, Option, Some, None, IfSome, Result, Ok, Err}
+use Rattle.std.proofs.Common.{◌≡◌, ℕ, ◌+◌, ◌-◌, ◌≤◌, true, List, [], ◌∷◌, ◌++◌, length, refl, sym, ap, ◌∙◌, arith}
+use Rattle.std.specs.Prelude.{slice_index, Option, Some, None, IfSome}
+use Rattle.std.specs.Global.{Box}
 use Rattle.std.proofs.Math.Nat.{suc-ne-zero}
-use Rattle.std.proofs.lemmas.Bool.Decides.{nat_tests}
-use Rattle.wire_frame.specs.declared.fault.Fault.{Fault}
-use Rattle.wire_frame.specs.declared.fault.Fault.TheVariants.{BadMake}
 use Rattle.std.specs.Int.{bit_at}
 use Rattle.std.proofs.lemmas.Nat.Bits.{bit_at-lt}
 use Rattle.std.proofs.lemmas.List.Sums.{sum_by_push, sum_by-cons}
@@ -12,7 +10,7 @@ use Rattle.std.proofs.lemmas.List.Elements.{All-append, All-cons, All-nil}
 use Rattle.device.specs.declared.event.Event.{Event}
 use Rattle.device.specs.World.{World, step, fresh, sizes_of, answers, world_after}
 use Rattle.device.proofs.Shape.{step_shape}
-use Rattle.history.specs.Entries.{Entry, entry, events, is_cap}
+use Rattle.history.specs.Entries.{Entry, entry, events}
 use Rattle.device_lock.specs.Callers.{may}
 use Rattle.history.proofs.ReplayLemmas.{fresh_again, leads_more}
 use Rattle.device_lock.specs.Legal.{Legal, kept_raises}
@@ -39,22 +37,15 @@ legal_more base calls live c e l ok = let one = leads_more base calls live c e (
     P x = may x.caller x.event ≡ true
 
 -- a device without a twin has the same base after a step, which changes neither limit nor sizes
-pub base_kept : (twin : Option World) (w w' : World) → w'.limit ≡ w.limit → sizes_of w' ≡ sizes_of w → base_of twin w' ≡ base_of twin w
+pub base_kept : (twin : Option (Box World)) (w w' : World) → w'.limit ≡ w.limit → sizes_of w' ≡ sizes_of w → base_of twin w' ≡ base_of twin w
 base_kept None w w' limit sizes = λ i. fresh (limit i) (sizes i)
 base_kept (Some twin) w w' limit sizes = refl
 
 -- ---- a journal as it is made
 
-pub base_first : (twin : Option World) (w : World) → IsFresh w → IfSome twin (λ t. t ≡ w) → base_of twin w ≡ w
+pub base_first : (twin : Option (Box World)) (w : World) → IsFresh w → IfSome twin (λ t. t.value ≡ w) → base_of twin w ≡ w
 base_first None w made same = sym (fresh_again w _ _ made.2)
 base_first (Some t) w made same = same
-
-pub cap_few : (cap : ℕ) → is_cap cap ≡ true → cap ≤ 65536
-cap_few cap is = grind (arith, nat_tests)
-
-pub is_made : {X : Type 0} (right : Bool) (r : Result X Fault) (x : X) → r ≡ Ok x → (right ≡ false → r ≡ Err BadMake) → right ≡ true
-is_made true r x ok bad = refl
-is_made false r x ok bad = absurd (let e = bad refl in cc)
 
 -- ---- the counts
 

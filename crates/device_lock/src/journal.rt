@@ -1,5 +1,5 @@
 //! A device, the line that its messages go to, and the calls that it took since a base.
-ghost use Rattle.std.specs.Prelude.{◌≡◌, ℕ, ◌+◌, ◌<◌, ◌≤◌, ◌^◌, [], true, false, IsTrue, ◌↔◌, IfOk, IfErr, IfSome, IfNone, is_some, Err, length, replicate, slice_index, sum, option_copied, ◌⊎◌};
+ghost use Rattle.std.specs.Prelude.{◌≡◌, ℕ, ◌+◌, ◌<◌, ◌≤◌, ◌^◌, [], true, false, IsTrue, ◌↔◌, IfSome, IfNone, is_some, length, replicate, slice_index, sum, option_copied, ◌⊎◌};
 ghost use Rattle.std.specs.Int.{bit_at};
 ghost use Rattle.std.specs.List.{All};
 ghost use Rattle.vf_unit.specs.Unit.{bytes_at};
@@ -8,7 +8,7 @@ ghost use Rattle.device.specs.Outcome.{answer_in, left_by};
 ghost use Rattle.device.specs.Lone.{keep, lone_of, lone_seen, lone_after, seen_by};
 ghost use Rattle.device.specs.Request.{event_of};
 ghost use Rattle.irq_line.specs.Line.{raised, bit_for};
-ghost use Rattle.history.specs.Entries.{Entry, is_cap, events, given};
+ghost use Rattle.history.specs.Entries.{Entry, events, given};
 ghost use Rattle.device_lock.specs.Callers.{may};
 ghost use Rattle.device_lock.specs.Legal.{Legal, calls_of, kept_raises};
 ghost use Rattle.device_lock.specs.Held.{Keeps, Rebased, folded, folded_raises};
@@ -21,9 +21,8 @@ use guest_memory::GuestMem;
 use history::History;
 use irq_causes::Messages;
 use irq_line::DeviceSeat;
-use std::alloc::Global;
 use std::marker::Model;
-use wire_frame::{Fault, FrameBuf, PoolId};
+use wire_frame::{FrameBuf, PoolId};
 
 // How many calls may be folded away.
 const MOST_FOLDED: u64 = 1 << 62;
@@ -31,9 +30,10 @@ const MOST_FOLDED: u64 = 1 << 62;
 /// A device, the line that its messages go to, and the calls that it took since a base.
 #[derive(Drop)]
 pub struct Journal<M: GuestMem> {
-    live: Device<M>,
+    // in boxes, so that a journal is small wherever it is moved
+    live: Box<Device<M>>,
     // the base, where there is one that can be moved
-    twin: Option<Device<M>>,
+    twin: Option<Box<Device<M>>>,
     line: DeviceSeat,
     history: History,
     // how many calls were folded away, and how many of each caller
@@ -54,31 +54,28 @@ impl<M: GuestMem> Model for Journal<M> {
 }
 
 impl<M: GuestMem> Journal<M> {
-    /// The base is the device as it is, and no calls are kept.
+    /// The base is the device as it is, and no calls are kept: the history is empty.
     pub fn new(
-        alloc: Global,
-        live: Device<M>,
-        twin: Option<Device<M>>,
+        live: Box<Device<M>>,
+        twin: Option<Box<Device<M>>>,
         line: DeviceSeat,
-        cap: usize,
-    ) -> Result<Journal<M>, Fault>
-        requires fresh { IsFresh live }
-        requires twin { IfSome twin (λ t. t ≡ live) }
+        history: History,
+    ) -> Journal<M>
+        requires fresh { IsFresh live.value }
+        requires twin { IfSome twin (λ t. t.value ≡ live.value) }
         requires line { line.raises ≡ [] }
-        ensures begun { IfOk result (λ j. j ≡ begun live cap (is_some twin) line) }
-        ensures cap { IfOk result (λ j. is_cap cap ≡ true) }
-        ensures bad_make { is_cap cap ≡ false → result ≡ Err Fault.BadMake }
-        ensures no_memory { IfErr result (λ e. is_cap cap ≡ true → e ≡ Fault.NoMemory) }
+        requires empty { history.entries ≡ [] }
+        requires few { history.cap ≤ 65536 }
+        ensures begun { result ≡ begun live.value history.cap (is_some twin) line }
     {
-        let history = History::new(alloc, cap)?;
-        Ok(Journal {
+        Journal {
             live,
             twin,
             line,
             history,
             folded: 0,
             tallies: no_calls(),
-        })
+        }
     }
 
     /// Takes the event on the live device, raises its messages and keeps the call; or no more calls can be kept, and nothing

@@ -19,6 +19,7 @@ use crate::share::{CALLERS, Share};
 use crate::shares::Shares;
 use device::{Answer, Device, Event, Outcome, Request, Taken};
 use guest_memory::GuestMem;
+use history::History;
 use irq_line::DeviceSeat;
 use std::alloc::Global;
 use std::marker::Model;
@@ -79,8 +80,9 @@ impl<M: GuestMem, L: Ledger> Recorded<M, L> {
         ensures bad_make { is_cap cap ≡ false → result ≡ Err Fault.BadMake }
         ensures no_memory { IfErr result (λ e. is_cap cap ≡ true → e ≡ Fault.NoMemory) }
     {
-        let journal = Journal::new(alloc, device, None, line, cap)?;
-        shared(alloc, blank, journal)
+        let history = History::new(alloc, cap)?;
+        let device = boxed(alloc, device)?;
+        shared(alloc, blank, Journal::new(device, None, line, history))
     }
 
     /// The same with a twin of the device, equal to it, by which [`Recorded::rebase`] moves the base.
@@ -109,10 +111,10 @@ impl<M: GuestMem, L: Ledger> Recorded<M, L> {
         if !is_same_make(&live, &twin) {
             return Err(Fault::BadMake);
         }
-        match Journal::new(alloc, live, Some(twin), line, cap) {
-            Ok(journal) => shared(alloc, blank, journal),
-            Err(fault) => Err(fault),
-        }
+        let history = History::new(alloc, cap)?;
+        let live = boxed(alloc, live)?;
+        let twin = boxed(alloc, twin)?;
+        shared(alloc, blank, Journal::new(live, Some(twin), line, history))
     }
 
     /// Takes the event that a request stands for on the device, raises its messages in the line and keeps the call, which the
@@ -317,6 +319,18 @@ impl<M: GuestMem, L: Ledger> Recorded<M, L> {
     {
         self.journal.agrees();
     }
+}
+
+// A device in a box. It is a call of its own, so that the copies that it makes of the device are gone from the stack after it.
+#[inline(never)]
+fn boxed<M: GuestMem>(alloc: Global, device: Device<M>) -> Result<Box<Device<M>>, Fault>
+    ensures same { IfOk result (λ b. b.value ≡ device) }
+    ensures no_memory { IfErr result (λ e. e ≡ Fault.NoMemory) }
+{
+    let Ok(boxed) = Box::new(alloc, device) else {
+        return Err(Fault::NoMemory);
+    };
+    Ok(boxed)
 }
 
 // The journal with a book of its own, in which nothing is counted, and the shares of all callers.

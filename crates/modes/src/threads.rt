@@ -6,7 +6,7 @@ ghost use Rattle.modes.specs.Program.{device_of};
 
 use crate::drive::read;
 use crate::fault::Fault;
-use crate::making::make_device;
+use crate::making::{make_device, put_away};
 use crate::report::write_report;
 use device::Device;
 use device_lock::{LockedDevice, Recorded, Shares};
@@ -14,7 +14,7 @@ use guest_memory::{FlatMem, GuestMem};
 use guest_port::{EndNote, GuestPort, IrqPort, LockedPort};
 use irq_line::{DeviceSeat, make};
 use log::sink::Discard;
-use script::Script;
+use script::{Script, Shape};
 use std::alloc::Global;
 use std::io::{Read, Write};
 use std::marker::Brand;
@@ -39,23 +39,30 @@ pub fn drive_threads<R: Threads + Wait + Copy + Send + 'static, I: Read, W: Writ
 ) -> Result<(), Fault> {
     let script = read(alloc, reader)?;
     let shape = script.shape();
-    let count = usize::from(shape.functions);
-    let mut live = Vec::with_capacity(alloc, count)?;
-    let mut other = Vec::with_capacity(alloc, count)?;
-    for _ in 0..shape.functions {
-        live.push(FlatMem::new(alloc, shape.memory_size)?)?;
-        other.push(FlatMem::new(alloc, shape.memory_size)?)?;
-    }
-    with_ports(rt, alloc, script, live, other, writer)
+    let live = make_memories(alloc, shape)?;
+    let mut other = make_device(alloc, shape, make_memories(alloc, shape)?)?;
+    let done = with_ports(rt, alloc, script, live, &mut other, writer);
+    put_away(other);
+    done
 }
 
-// Makes a port for each function, in boxes, and does the script by threads.
+// The memories of a script's shape.
+fn make_memories(alloc: Global, shape: Shape) -> Result<Vec<FlatMem>, Fault> {
+    let mut memories = Vec::with_capacity(alloc, usize::from(shape.functions))?;
+    for _ in 0..shape.functions {
+        memories.push(FlatMem::new(alloc, shape.memory_size)?)?;
+    }
+    Ok(memories)
+}
+
+// Makes a port for each function, in boxes, and does the script by threads. The other device is one as it is made.
+#[inline(never)]
 fn with_ports<M: GuestMem + Send + 'static, R: Threads + Wait + Copy + Send + 'static, W: Write>(
     rt: R,
     alloc: Global,
     script: Script,
     live: Vec<M>,
-    other: Vec<M>,
+    other: &mut Device<M>,
     writer: &mut W,
 ) -> Result<(), Fault> {
     let count = script.shape().functions;
@@ -84,8 +91,10 @@ fn with_ports<M: GuestMem + Send + 'static, R: Threads + Wait + Copy + Send + 's
     )
 }
 
-// Does a script by threads on a device over these memories, with ports of its functions, replays its history on one over the
-// other memories, and writes of both.
+// Does a script by threads on a device over these memories, with ports of its functions, replays its history on the other
+// device, and writes of both. What makes the device and its lock is in calls of its own: a device is too large to stand on the
+// stack while workers run.
+#[inline(never)]
 fn play_threads<
     M: GuestMem + Send + 'static,
     L: Ledger + Send + Sync + 'static,
@@ -99,18 +108,17 @@ fn play_threads<
     line: DeviceSeat,
     script: Script,
     live: Vec<M>,
-    other: Vec<M>,
+    other: &mut Device<M>,
     ports: Vec<(P, EndNote)>,
     writer: &mut W,
 ) -> Result<(), Fault>
     requires blank { (blank.name ≡ L.name) × (blank.parts ≡ L.parts) × (blank.parts ≡ 67) }
     requires line { line.raises ≡ [] }
 {
-    let shape = script.shape();
-    let device = make_device(alloc, shape, live)?;
-    let mut other = make_device(alloc, shape, other)?;
+    let device = make_device(alloc, script.shape(), live)?;
     let cap = script.len().saturating_add(MOST_ENDS);
-    let (locked, mut shares) = lock::<M, L>(alloc, blank, device, line, cap)?;
+    let (recorded, mut shares) = record::<M, L>(alloc, blank, device, line, cap)?;
+    let locked = lock(alloc, recorded)?;
     let pools = match prepare(&rt, alloc, &script, &locked, &mut shares) {
         Ok(pools) => pools,
         Err(fault) => return Err(of_workers(fault)),
@@ -119,7 +127,7 @@ fn play_threads<
     let (script, gate) = (Arc::new(alloc, script)?, Arc::new(alloc, OpenGate)?);
     let device = Arc::try_clone(&locked)?;
     match run_workers(rt, &Discard, alloc, script, device, shares, ports, gate) {
-        Ok(ended) => write_report(&rt, alloc, &locked, ended, &mut other, writer),
+        Ok(ended) => write_report(&rt, alloc, &locked, ended, other, writer),
         Err(fault) => Err(of_workers(fault)),
     }
 }
@@ -132,42 +140,36 @@ fn of_workers(fault: wire_frame::Fault) -> Fault {
     }
 }
 
-// A device behind a lock, with the shares of its callers.
-fn lock<M: GuestMem, L: Ledger>(
+// A device whose calls are kept, with the shares of its callers. The device is moved from its box over the stack.
+#[inline(never)]
+fn record<M: GuestMem, L: Ledger>(
     alloc: Global,
     blank: Blank,
     device: Box<Device<M>>,
     line: DeviceSeat,
     cap: usize,
-) -> Result<(Arc<LockedDevice<M, L>>, Shares<L>), Fault>
+) -> Result<(Recorded<M, L>, Shares<L>), Fault>
     requires name { blank.name ≡ L.name }
     requires parts { (blank.parts ≡ L.parts) × (blank.parts ≡ 67) }
     requires fresh { IsFresh device.value }
     requires line { line.raises ≡ [] }
     ensures shares { IfOk result (λ r. AreUnused r.1) }
 {
-    let (recorded, shares) = record(alloc, blank, Box::into_inner(device), line, cap)?;
-    Ok((LockedDevice::new(alloc, recorded)?, shares))
-}
-
-// A device whose calls are kept, with the shares of its callers.
-fn record<M: GuestMem, L: Ledger>(
-    alloc: Global,
-    blank: Blank,
-    device: Device<M>,
-    line: DeviceSeat,
-    cap: usize,
-) -> Result<(Recorded<M, L>, Shares<L>), Fault>
-    requires name { blank.name ≡ L.name }
-    requires parts { (blank.parts ≡ L.parts) × (blank.parts ≡ 67) }
-    requires fresh { IsFresh device }
-    requires line { line.raises ≡ [] }
-    ensures shares { IfOk result (λ r. AreUnused r.1) }
-{
+    let device = Box::into_inner(device);
     Ok(Recorded::new(alloc, blank, device, line, cap)?)
 }
 
+// A device behind a lock.
+#[inline(never)]
+fn lock<M: GuestMem, L: Ledger>(
+    alloc: Global,
+    recorded: Recorded<M, L>,
+) -> Result<Arc<LockedDevice<M, L>>, Fault> {
+    Ok(LockedDevice::new(alloc, recorded)?)
+}
+
 // The ports of these pools, with their device and their shares.
+#[inline(never)]
 fn seat_all<M: GuestMem, L: Ledger, P: GuestPort>(
     alloc: Global,
     device: &Arc<LockedDevice<M, L>>,

@@ -16,6 +16,9 @@ const FRAMES: usize = CAPACITY + 2;
 
 /// A channel on which nothing was sent: the end for the wire's reader, and the end for the pump. It holds up to 64 messages.
 /// [`Fault::NoMemory`] comes only where the host refused the room; the calls of the ends take none.
+///
+/// Each frame that it makes stands on the stack before it is in its box; that is gone once it returns, so it is a call of its own.
+#[inline(never)]
 pub fn channel(alloc: Global) -> Result<(FrameSender, FrameReceiver), Fault>
     ensures one { IfOk result (λ r. r.0.channel ≡ r.1.channel) }
     ensures sent { IfOk result (λ r. r.0.sent ≡ []) }

@@ -149,7 +149,9 @@ fn place_of(turns: &[Turns], caller: u8, turn: usize) -> usize
     turns[usize::from(caller)].at(turn)
 }
 
-// The places of each caller's events after `go`, found in one pass over the script.
+// The places of each caller's events after `go`, found in one pass over the script. The room for an event is gone from the stack
+// after it, since this is a call of its own.
+#[inline(never)]
 #[tactic(auto, using(crate::proofs::Places::found_all))]
 fn turns_of(alloc: Global, script: &Script, ports: &Ports) -> Result<Vec<Turns>, AllocError>
     requires { length ports.now ≡ 64 }

@@ -151,7 +151,8 @@ fn no_ports() -> Ports
 }
 
 // Records the end of each port, by the service's share, which is among these. Where the history is full it is folded, and
-// [`Fault::HistoryFull`] comes where it can't be.
+// [`Fault::HistoryFull`] comes where it can't be. What an event takes of the stack is not to be there while workers run.
+#[inline(never)]
 fn record_ends<M: GuestMem, L: Ledger, R: Wait>(
     rt: &R,
     device: &LockedDevice<M, L>,

@@ -40,7 +40,9 @@ impl<M: GuestMem, L: Ledger, G: Gate + Drop> Common<M, L, G> {
     }
 }
 
-/// Starts a worker for each port, and puts the notes of their ends behind the others, with their pools.
+/// Starts a worker for each port, and puts the notes of their ends behind the others, with their pools. A port has room for a
+/// frame, which is to be gone from the stack once the workers run.
+#[inline(never)]
 pub fn start_guests<
     M: GuestMem + Send + 'static,
     L: Ledger + Send + Sync + 'static,
@@ -122,7 +124,8 @@ pub fn start_driver<
     }
 }
 
-/// Starts the pump, with its share.
+/// Starts the pump, with its share. Its door has room for a frame, which is to be gone from the stack once the workers run.
+#[inline(never)]
 pub fn start_pump<
     M: GuestMem + Send + 'static,
     L: Ledger + Send + Sync + 'static,

@@ -1,13 +1,13 @@
 //! Memory that is refused, in each mode: a run of the program tells so and has written nothing else than a beginning of its
 //! output, or it is whole, and the next one is.
 use modes::drive::drive;
-use modes::threads::drive_threads;
 use modes::{Fault, Mode};
 use std::io;
 use std::io::Write;
 use std::process::Abort;
 use std::sync::Wait;
 use std::thread::Threads;
+use thread_mode::threads::drive_threads;
 
 // A way to do the script, and the output.
 type Way = (Option<Mode>, &'static str);

@@ -3,11 +3,11 @@
 use super::broken::{PART, Parts, Taken};
 use super::harness::{Case, long_script, run};
 use modes::Fault;
-use modes::threads::drive_threads;
 use std::process::Abort;
 use std::sync::Wait;
 use std::test::Fail;
 use std::thread::Threads;
+use thread_mode::threads::drive_threads;
 
 // What a script gives and writes.
 fn run_threads<R: Threads + Wait + Copy + Send + AllocGlobal + 'static>(

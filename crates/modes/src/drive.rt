@@ -66,9 +66,10 @@ fn read_and_play<R: Read, W: Write>(
     Ok(play(alloc, task, &script, writer))
 }
 
-/// Reads a script. It stands by itself, since what reading takes of the stack is to be free again when the events run.
+/// Reads a script, whole; [`script::Fault::BadScript`] tells its first bad line. It stands by itself, since what reading takes of the
+/// stack is to be free again when the events run.
 #[inline(never)]
-pub(crate) fn read<R: Read>(alloc: Global, reader: &mut R) -> Result<Script, script::Fault>
+pub fn read<R: Read>(alloc: Global, reader: &mut R) -> Result<Script, script::Fault>
     ensures ok { IfOk result (Says (R.remaining reader.old)) }
     ensures bad { IfErr result (λ e. (n : ℕ) → e ≡ Unread.BadScript n
         → IfSome (R.remaining reader.old) (λ text. script_of text ≡ Err n)) }

@@ -1,10 +1,10 @@
 //! What is written of a history.
 ghost use Rattle.std.specs.Prelude.{◌≡◌, length};
 
-use crate::fault::Fault;
 use device::Device;
 use device_lock::{LockedDevice, PF, PUMP, SERVICE};
 use guest_memory::GuestMem;
+use modes::Fault;
 use std::alloc::{AllocError, Global};
 use std::io::Write;
 use std::sync::Wait;

@@ -4,9 +4,6 @@ ghost use Rattle.script.specs.Shapes.{asked_by};
 ghost use Rattle.device_lock.specs.Made.{AreUnused, IsFresh};
 ghost use Rattle.modes.specs.Program.{device_of};
 
-use crate::drive::read;
-use crate::fault::Fault;
-use crate::making::{make_device, put_away};
 use crate::report::write_report;
 use device::Device;
 use device_lock::{LockedDevice, Recorded, Shares};
@@ -14,6 +11,8 @@ use guest_memory::{FlatMem, GuestMem};
 use guest_port::{EndNote, GuestPort, IrqPort, LockedPort};
 use irq_line::{DeviceSeat, make};
 use log::sink::Discard;
+use modes::drive::read;
+use modes::{Fault, make_device, put_away};
 use script::{Script, Shape};
 use std::alloc::Global;
 use std::io::{Read, Write};

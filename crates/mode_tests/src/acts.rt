@@ -162,23 +162,25 @@ struct Made {
     others: u32,
 }
 
-// The place of a guest's event among its kinds.
-fn kind_of(event: &Event, pool: u8) -> Option<usize> {
-    match event {
-        Event::VfRead(of, _) if *of == pool => Some(0),
-        Event::VfWrite(of, _, _) if *of == pool => Some(1),
-        Event::MemRead(of, _, _) if *of == pool => Some(2),
-        Event::MemWrite(of, _, _) if *of == pool => Some(3),
+// The place of a guest's request among its kinds.
+fn kind_of(request: Request<'_>, pool: u8) -> Option<usize> {
+    match request {
+        Request::VfRead(of, _) if of == pool => Some(0),
+        Request::VfWrite(of, _, _) if of == pool => Some(1),
+        Request::MemRead(of, _, _) if of == pool => Some(2),
+        Request::MemWrite(of, _, _) if of == pool => Some(3),
         _ => None,
     }
 }
 
 // The events of a script that a guest makes.
 fn own_events(alloc: Global, script: &Script, pool: u8) -> Result<Vec<Event>, Fail> {
+    let mut room = Room::new();
     let mut own = Vec::new(alloc);
-    for event in events_of(alloc, script)? {
-        if kind_of(&event, pool).is_some() {
-            own.push(event)?;
+    for index in 0..script.len() {
+        let request = script.request(index, &mut room);
+        if kind_of(request, pool).is_some() {
+            own.push(event_of(request)?)?;
         }
     }
     Ok(own)
@@ -223,7 +225,7 @@ fn calls<L: Ledger, R: Wait>(rt: &R, guest: Guest<L>) -> Made {
         others: 0,
     };
     for event in events {
-        let kind = kind_of(&event, pool);
+        let kind = kind_of(event.as_request(), pool);
         let wanted = alone.step(&event);
         if act(rt, &device, &mut share, event) != Some(wanted) {
             made.others = made.others.wrapping_add(1);

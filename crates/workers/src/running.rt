@@ -1,5 +1,5 @@
 //! The workers, from their starts to their ends.
-ghost use Rattle.std.specs.Prelude.{◌≡◌, ◌⊎◌, length, IfOk, IfErr};
+ghost use Rattle.std.specs.Prelude.{◌≡◌, ◌⊎◌, false, length, replicate, IfOk, IfErr};
 ghost use Rattle.wire_frame.specs.declared.fault.Fault.{Fault};
 ghost use Rattle.workers.specs.Callers.{pf, pump, service};
 
@@ -142,10 +142,10 @@ fn pools_of<M: GuestMem, L: Ledger, P: GuestPort>(ports: &[(LockedPort<M, L, P>,
     pools
 }
 
-// No pool has a port.
+// No pool has a port. (That the list is this one is proved at once; that it has 64 places takes a minute of search.)
 #[inline]
 fn no_ports() -> Ports
-    ensures { length result ≡ 64 }
+    ensures { result ≡ replicate 64 false }
 {
     [false; 64]
 }

@@ -142,7 +142,7 @@ fn pools_of<M: GuestMem, L: Ledger, P: GuestPort>(ports: &[(LockedPort<M, L, P>,
     pools
 }
 
-// No pool has a port. (That the list is this one is proved at once; that it has 64 places takes a minute of search.)
+// No pool has a port. (Stated by its value, from which its length follows: the length alone takes a minute of search.)
 #[inline]
 fn no_ports() -> Ports
     ensures { result ≡ replicate 64 false }

@@ -101,20 +101,18 @@ fn run<
     requires pump { shares.pump.caller ≡ pump }
     requires service { shares.service.caller ≡ service }
 {
-    let plan = Plan::new(alloc, script, pools_of(&ports))?;
-    let common = Common {
-        plan: Arc::new(alloc, plan)?,
-        device: Arc::try_clone(device)?,
-        gate,
-    };
+    let common = common_of(alloc, script, device, gate, &ports)?;
     let Ok((sender, receiver)) = channel(alloc) else {
         return Err(AllocError);
     };
-    let mut back = Vec::with_capacity(alloc, CALLERS)?;
     let mut notes = Vec::with_capacity(alloc, ports.len())?;
     let mut crew = Crew::new(alloc, ports.len())?;
-    shares.put_back(&mut back)?;
-    let (service, pump, pf) = (back.remove(2), back.remove(1), back.remove(0));
+    let Apart {
+        pf,
+        pump,
+        service,
+        others: mut back,
+    } = take_apart(alloc, shares)?;
     start_guests(rt, log, &common, ports, &mut notes, &mut crew);
     start_driver(rt, log, &common, Worker::Pf, pf, &mut crew);
     start_pump(rt, log, &common, pump, receiver, &mut crew);
@@ -128,6 +126,48 @@ fn run<
         shares: back,
         notes,
         was_full: ends.was_full,
+    })
+}
+
+// What the workers have in common.
+fn common_of<M: GuestMem, L: Ledger, P: GuestPort, G: Gate + Drop>(
+    alloc: Global,
+    script: Arc<Script>,
+    device: &Arc<LockedDevice<M, L>>,
+    gate: Arc<G>,
+    ports: &[(LockedPort<M, L, P>, EndNote)],
+) -> Result<Common<M, L, G>, AllocError> {
+    let plan = Plan::new(alloc, script, pools_of(ports))?;
+    Ok(Common {
+        plan: Arc::new(alloc, plan)?,
+        device: Arc::try_clone(device)?,
+        gate,
+    })
+}
+
+// The shares that workers without a port have, and the others.
+#[derive(Drop)]
+struct Apart<L: Ledger> {
+    pf: Share<L>,
+    pump: Share<L>,
+    service: Share<L>,
+    others: Vec<Share<L>>,
+}
+
+// Takes the shares apart.
+fn take_apart<L: Ledger>(alloc: Global, shares: Shares<L>) -> Result<Apart<L>, AllocError>
+    ensures pf { IfOk result (λ apart. apart.pf.caller ≡ shares.pf.caller) }
+    ensures pump { IfOk result (λ apart. apart.pump.caller ≡ shares.pump.caller) }
+    ensures service { IfOk result (λ apart. apart.service.caller ≡ shares.service.caller) }
+{
+    let mut others = Vec::with_capacity(alloc, CALLERS)?;
+    shares.put_back(&mut others)?;
+    let (service, pump, pf) = (others.remove(2), others.remove(1), others.remove(0));
+    Ok(Apart {
+        pf,
+        pump,
+        service,
+        others,
     })
 }
 

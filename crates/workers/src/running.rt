@@ -1,5 +1,6 @@
 //! The workers, from their starts to their ends.
-ghost use Rattle.std.specs.Prelude.{◌≡◌, ◌⊎◌, false, length, replicate, IfOk, IfErr};
+ghost use Rattle.std.specs.Prelude.{◌≡◌, ◌⊎◌, ◌∷◌, false, length, replicate, IfOk, IfErr};
+ghost use Rattle.device_lock.specs.Made.{left_in};
 ghost use Rattle.wire_frame.specs.declared.fault.Fault.{Fault};
 ghost use Rattle.workers.specs.Callers.{pf, pump, service};
 
@@ -156,9 +157,11 @@ struct Apart<L: Ledger> {
 
 // Takes the shares apart.
 fn take_apart<L: Ledger>(alloc: Global, shares: Shares<L>) -> Result<Apart<L>, AllocError>
-    ensures pf { IfOk result (λ apart. apart.pf.caller ≡ shares.pf.caller) }
-    ensures pump { IfOk result (λ apart. apart.pump.caller ≡ shares.pump.caller) }
-    ensures service { IfOk result (λ apart. apart.service.caller ≡ shares.service.caller) }
+    ensures pf { IfOk result (λ apart. apart.pf ≡ shares.pf) }
+    ensures pump { IfOk result (λ apart. apart.pump ≡ shares.pump) }
+    ensures service { IfOk result (λ apart. apart.service ≡ shares.service) }
+    ensures all { IfOk result
+        (λ apart. apart.pf ∷ apart.pump ∷ apart.service ∷ apart.others.items ≡ left_in shares) }
 {
     let mut others = Vec::with_capacity(alloc, CALLERS)?;
     shares.put_back(&mut others)?;

@@ -1,5 +1,5 @@
 -- The registers of receive addresses and of the multicast table: where they stand, and what a write keeps (82599 datasheet, 8.2.3.7:
--- receive registers, and 8.2.3.27: virtualization registers).
+-- receive registers).
 use Rattle.std.specs.Prelude.{ℕ}
 use Rattle.wire_frame.specs.declared.row.Row.{Row}
 

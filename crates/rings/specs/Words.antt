@@ -1,4 +1,5 @@
--- The bits that a write of a ring's registers keeps (82599 datasheet, 8.2.3.8 and 8.2.3.9: receive and transmit DMA registers).
+-- The bits that a write of a ring's registers keeps (82599 datasheet, 8.2.3.8: receive
+-- DMA registers, and 8.2.3.9: transmit registers).
 use Rattle.std.specs.Prelude.{ℕ}
 
 -- RDBAL and TDBAL: the low word of the address, a multiple of 128

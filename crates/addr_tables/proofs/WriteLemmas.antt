@@ -5,7 +5,7 @@ use Rattle.wire_frame.specs.Bits.{has_bit, has_bit_in, two_words}
 use Rattle.pool_index.specs.Entries.{IsIndexOf}
 use Rattle.pool_index.proofs.EntryLemmas.{SaySame, nothing_held}
 use Rattle.pool_index.proofs.WordLemmas.{one_word_stays, two_words_stay, no_bit_at}
-use Rattle.addr_tables.specs.declared.registers.TheConstants.{RAL, RAH, MPSAR}
+use Rattle.addr_tables.specs.Registers.{RAL, RAH, MPSAR}
 use Rattle.addr_tables.specs.Addresses.{Addresses, initial_addresses, addresses_after, address_entries}
 
 -- no word of another entry than this stands at the offset

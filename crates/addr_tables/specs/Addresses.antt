@@ -2,7 +2,7 @@
 -- multicast table has.
 use Rattle.std.specs.Prelude.{ℕ, ◌+◌, ◌*◌, ◌%◌, ◌^◌, Bool, ◌&&◌, ◌==◌, List, [], ◌∷◌, Option, replicate, slice_index}
 use Rattle.std.specs.List.{list_any, range_with_len}
-use Rattle.addr_tables.specs.declared.registers.TheConstants.{RAL, RAH, VALID, MPSAR, MTA, MCSTCTRL, MCSTCTRL_KEPT, MFE, HASH_SIZE}
+use Rattle.addr_tables.specs.Registers.{RAL, RAH, VALID, MPSAR, MTA, MCSTCTRL, MCSTCTRL_KEPT, MFE, HASH_SIZE}
 use Rattle.wire_frame.specs.Row.{◌or◌, word_at, words_after, one_at, one_after}
 use Rattle.wire_frame.specs.Bits.{has_bit, has_bit_in, two_words, field}
 use Rattle.pool_index.specs.Entries.{Entries}

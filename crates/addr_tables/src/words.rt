@@ -4,7 +4,7 @@ ghost use Rattle.byteorder.specs.Endian.{little_number};
 ghost use Rattle.wire_frame.specs.Bits.{has_bit, has_bit_in, two_words};
 ghost use Rattle.wire_frame.specs.Row.{is_in, place};
 ghost use Rattle.pool_index.specs.Entries.{IsAnswer};
-ghost use Rattle.addr_tables.specs.declared.registers.TheConstants.{RAL, RAH, MPSAR};
+ghost use Rattle.addr_tables.specs.Registers.{RAL, RAH, MPSAR};
 ghost use Rattle.addr_tables.specs.Addresses.{initial_addresses, addresses_at, addresses_after, entry_address, entry_has_pool, address_entries, hash_low, multicast_hit};
 
 use crate::registers::{HASH_SIZE, MCSTCTRL, MCSTCTRL_KEPT, MFE, MPSAR, MTA, RAH, RAL, VALID};

@@ -11,7 +11,7 @@ use Rattle.irq_causes.specs.Causes.{Change}
 use Rattle.vf_unit.specs.Unit.{Function, Closed, Open, serviced}
 use Rattle.pool_filter.specs.Own.{OwnSettings, own, port_vlan_of}
 use Rattle.anti_spoof.specs.Permitted.{permitted}
-use Rattle.device.specs.declared.act.TheConstants.{PF_SPACE}
+use Rattle.device.specs.Limits.{PF_SPACE}
 use Rattle.device.specs.declared.event.Event.{Event}
 use Rattle.device.specs.declared.event.Event.TheVariants.{Open, End, VfRead, VfWrite, MemRead, MemWrite, Serve, Flr, PfRead, PfWrite, PfReset, Wire}
 use Rattle.device.specs.declared.event.Reply.{Reply}

@@ -11,8 +11,7 @@ use Rattle.irq_causes.specs.Causes.{Change}
 use Rattle.vf_unit.specs.Unit.{Function, size_of, is_open, opened, ended, reset, read_of, after_read_of, written, serviced, service_outcome, one_more_sent, bytes_at, memory_written}
 use Rattle.pool_filter.specs.Own.{OwnSettings, port_vlan_of}
 use Rattle.anti_spoof.specs.Permitted.{permitted}
-use Rattle.device.specs.declared.act.TheConstants.{VF_SPACE}
-use Rattle.device.specs.declared.bytes.TheConstants.{MOST_BYTES}
+use Rattle.device.specs.Limits.{VF_SPACE, MOST_BYTES}
 use Rattle.device.specs.declared.event.Event.{Event}
 use Rattle.device.specs.declared.event.Event.TheVariants.{Open, End, VfRead, VfWrite, MemRead, MemWrite, Flr}
 use Rattle.device.specs.declared.event.Reply.{Reply}

@@ -1,6 +1,7 @@
 pub mod Act
 pub mod Equality
 pub mod EqualityLaws
+pub mod Limits
 pub mod Lone
 pub mod Outcome
 pub mod Request

@@ -10,7 +10,7 @@ use Rattle.wire_frame.specs.Row.{is_in, place, words_after}
 use Rattle.wire_frame.proofs.BitLemmas.{has_bit_set, has_bit_zero}
 use Rattle.pool_index.proofs.WordLemmas.{one_word_stays, no_bit_at, not_other, not_any}
 use Rattle.pool_filter.specs.Flags.{has_flags, IsFlagMask}
-use Rattle.pool_filter.specs.declared.registers.TheConstants.{VMOLR}
+use Rattle.pool_filter.specs.Registers.{VMOLR}
 
 one_bit : (b m : ℕ) → b < 2 → 0 < m → eqb (b * m) m ≡ eqb b 1
 one_bit zero m h k = grind (arith, nat_tests)

@@ -6,9 +6,9 @@ use Rattle.std.proofs.Math.Nat.{div-add-mod}
 use Rattle.std.proofs.lemmas.List.{get_or-set_other}
 use Rattle.wire_frame.specs.declared.row.Row.{Row}
 use Rattle.wire_frame.specs.Row.{is_in, place, word_at, words_after, one_at, one_after, ◌or◌}
-use Rattle.addr_tables.specs.declared.registers.TheConstants.{RAL, RAH, MPSAR, MTA, MCSTCTRL, MCSTCTRL_KEPT}
-use Rattle.vlan_table.specs.declared.registers.TheConstants.{VLNCTRL, VLNCTRL_KEPT, VFTA, VLVF, VLVFB}
-use Rattle.pool_filter.specs.declared.registers.TheConstants.{PF_VT_CTL, PFVFRE, PFVFTE, VMVIR, PFVFSPOOF, PFDTXGSWC, PFDTXGSWC_KEPT, VMOLR}
+use Rattle.addr_tables.specs.Registers.{RAL, RAH, MPSAR, MTA, MCSTCTRL, MCSTCTRL_KEPT}
+use Rattle.vlan_table.specs.Registers.{VLNCTRL, VLNCTRL_KEPT, VFTA, VLVF, VLVFB}
+use Rattle.pool_filter.specs.Registers.{PF_VT_CTL, PFVFRE, PFVFTE, VMVIR, PFVFSPOOF, PFDTXGSWC, PFDTXGSWC_KEPT, VMOLR}
 use Rattle.addr_tables.specs.Addresses.{addresses_at, addresses_after}
 use Rattle.vlan_table.specs.Vlans.{vlans_at, vlans_after}
 use Rattle.pool_filter.specs.Settings.{Settings, settings_at, settings_after, pools_at, pool_control_after}

@@ -8,7 +8,7 @@ use Rattle.wire_frame.specs.Bits.{has_bit, has_bit_in, field}
 use Rattle.wire_frame.specs.Frame.{destination, is_tagged, vlan_id}
 use Rattle.addr_tables.specs.Addresses.{has_address, multicast_hit}
 use Rattle.vlan_table.specs.Vlans.{is_filtering, has_vlan}
-use Rattle.pool_filter.specs.declared.registers.TheConstants.{AUPE, ROMPE, BAM, MPE, DEFAULT_POOL, DEFAULT_POOL_SIZE, DEFAULT_POOL_OFF, LOOPBACK}
+use Rattle.pool_filter.specs.Registers.{AUPE, ROMPE, BAM, MPE, DEFAULT_POOL, DEFAULT_POOL_SIZE, DEFAULT_POOL_OFF, LOOPBACK}
 use Rattle.pool_filter.specs.Settings.{Settings}
 
 -- ---- the flags of a pool

@@ -3,9 +3,9 @@ use Rattle.std.specs.Prelude.{ℕ, List, [], ◌∷◌}
 use Rattle.std.specs.List.{filter}
 use Rattle.wire_frame.specs.declared.row.Row.{Row}
 use Rattle.wire_frame.specs.Row.{is_in}
-use Rattle.addr_tables.specs.declared.registers.TheConstants.{RAL, RAH, MPSAR, MTA, MCSTCTRL}
-use Rattle.vlan_table.specs.declared.registers.TheConstants.{VLNCTRL, VFTA, VLVF, VLVFB}
-use Rattle.pool_filter.specs.declared.registers.TheConstants.{PF_VT_CTL, PFVFRE, PFVFTE, VMVIR, PFVFSPOOF, PFDTXGSWC, VMOLR, PFVFLRE_LOW, PFVFLRE_HIGH, PFVFLREC_LOW, PFVFLREC_HIGH}
+use Rattle.addr_tables.specs.Registers.{RAL, RAH, MPSAR, MTA, MCSTCTRL}
+use Rattle.vlan_table.specs.Registers.{VLNCTRL, VFTA, VLVF, VLVFB}
+use Rattle.pool_filter.specs.Registers.{PF_VT_CTL, PFVFRE, PFVFTE, VMVIR, PFVFSPOOF, PFDTXGSWC, VMOLR, PFVFLRE_LOW, PFVFLRE_HIGH, PFVFLREC_LOW, PFVFLREC_HIGH}
 
 -- a register of one word
 abbrev pub one_row : ℕ → Row

@@ -6,7 +6,7 @@ use Rattle.wire_frame.specs.declared.vlan.PortVlan.TheVariants.{Descriptor, Alwa
 use Rattle.wire_frame.specs.Bits.{has_bit, has_bit_in, field}
 use Rattle.addr_tables.specs.Addresses.{Addresses, entry_address, entry_has_pool as address_has_pool}
 use Rattle.vlan_table.specs.Vlans.{Vlans, entry_id, entry_has_pool as vlan_has_pool}
-use Rattle.pool_filter.specs.declared.registers.TheConstants.{PORT_VLAN_RULE, PORT_VLAN_RULE_SIZE, ALWAYS, NEVER}
+use Rattle.pool_filter.specs.Registers.{PORT_VLAN_RULE, PORT_VLAN_RULE_SIZE, ALWAYS, NEVER}
 use Rattle.pool_filter.specs.Settings.{Settings}
 use Rattle.pool_filter.specs.Accepts.{takes_untagged, may_receive, may_transmit}
 

@@ -2,7 +2,7 @@
 use Rattle.std.specs.Prelude.{ℕ, ◌==◌, List, Option, replicate, bit_or, bit_and, if◌then◌else◌}
 use Rattle.std.specs.Option.{unwrap_or}
 use Rattle.wire_frame.specs.Row.{◌or◌, word_at, words_after, one_at, one_after}
-use Rattle.pool_filter.specs.declared.registers.TheConstants.{PF_VT_CTL, PF_VT_CTL_INITIAL, PF_VT_CTL_KEPT, PF_VT_CTL_SET, PFVFRE, PFVFTE, VMVIR, PFVFSPOOF, PFDTXGSWC, PFDTXGSWC_KEPT, VMOLR}
+use Rattle.pool_filter.specs.Registers.{PF_VT_CTL, PF_VT_CTL_INITIAL, PF_VT_CTL_KEPT, PF_VT_CTL_SET, PFVFRE, PFVFTE, VMVIR, PFVFSPOOF, PFDTXGSWC, PFDTXGSWC_KEPT, VMOLR}
 use Rattle.addr_tables.specs.Addresses.{Addresses, initial_addresses, addresses_at, addresses_after}
 use Rattle.vlan_table.specs.Vlans.{Vlans, initial_vlans, vlans_at, vlans_after}
 

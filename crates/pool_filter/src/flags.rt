@@ -1,6 +1,6 @@
 //! The flags of a pool.
 ghost use Rattle.std.specs.Prelude.{⊤, ◌^◌, [], ◌∷◌, codes};
-ghost use Rattle.pool_filter.specs.declared.registers.TheConstants.{AUPE, ROMPE, BAM, MPE};
+ghost use Rattle.pool_filter.specs.Registers.{AUPE, ROMPE, BAM, MPE};
 
 use crate::registers;
 use bitflags::{Flag, Flags, bitflag_items};

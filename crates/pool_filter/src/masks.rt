@@ -2,7 +2,7 @@
 ghost use Rattle.std.specs.Prelude.{◌≡◌, ℕ, ◌<◌, ◌==◌, true, Some, IfSome, replicate, slice_index, if◌then◌else◌};
 ghost use Rattle.wire_frame.specs.Bits.{has_bit};
 ghost use Rattle.wire_frame.specs.Row.{is_in, place, word_at, words_after};
-ghost use Rattle.pool_filter.specs.declared.registers.TheConstants.{VMOLR};
+ghost use Rattle.pool_filter.specs.Registers.{VMOLR};
 
 use crate::flags::PoolFlags;
 use crate::registers::VMOLR;

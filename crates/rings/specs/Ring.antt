@@ -1,6 +1,6 @@
 -- A descriptor ring: which descriptors the device owns, when it may be on, and what its registers do.
 use Rattle.std.specs.Prelude.{ℕ, zero, suc, ◌+◌, ◌-◌, ◌*◌, ◌/◌, ◌%◌, ◌^◌, ◌<◌, ◌≤◌, List, [], ◌∷◌, Bool, false, nat_lt, nat_le, not, ◌&&◌, ◌||◌, ◌==◌, if◌then◌else◌, IsTrue, bit_and, Option, Some, None}
-use Rattle.rings.specs.declared.ring.TheConstants.{BASE_LOW_KEPT, LENGTH_KEPT}
+use Rattle.rings.specs.Words.{BASE_LOW_KEPT, LENGTH_KEPT}
 use Rattle.rings.specs.declared.ring.RingRegister.{RingRegister}
 use Rattle.rings.specs.declared.ring.RingRegister.TheVariants.{BaseLow, BaseHigh, Length, Head, Tail}
 

@@ -1,2 +1,3 @@
 pub mod Transmit
 pub mod Lent
+pub mod Words

@@ -4,7 +4,7 @@ use Rattle.wire_frame.specs.Bits.{has_bit, with_bit}
 use Rattle.rings.specs.Ring.{RingState, ring_word, ring_written, turned}
 use Rattle.tx_desc.specs.Transmit.{Gathered}
 use Rattle.irq_causes.specs.Causes.{CauseState, Change, silent, all_raised, all_unmasked, masked, auto_clearing, cleared, emptied}
-use Rattle.vf_unit.specs.declared.offsets.TheConstants.{LINK_UP, ENABLE, VME, RST, DESCTYPE, ADVANCED, BUFFER_SIZES, DROP_EN, SRRCTL_KEPT, VTIVAR_KEPT, VTIVAR_MISC_KEPT}
+use Rattle.vf_unit.specs.Words.{LINK_UP, ENABLE, VME, RST, DESCTYPE, ADVANCED, BUFFER_SIZES, DROP_EN, SRRCTL_KEPT, VTIVAR_KEPT, VTIVAR_MISC_KEPT}
 use Rattle.vf_unit.specs.declared.queues.ReceiveQueue.{ReceiveQueue}
 use Rattle.vf_unit.specs.declared.queues.TransmitQueue.{TransmitQueue}
 use Rattle.vf_unit.specs.declared.registers.Register.{Register}

@@ -8,7 +8,7 @@ use Rattle.rx_desc.specs.declared.placing.Placed.{Placed}
 use Rattle.rx_desc.specs.declared.placing.Placed.TheVariants.{Put, NoRoom, Faulted}
 use Rattle.rx_desc.specs.Receive.{Delivery, deliver}
 use Rattle.irq_causes.specs.Causes.{CauseState, Change, no_causes, silent, raised_by}
-use Rattle.vf_unit.specs.declared.offsets.TheConstants.{BUFFER_SIZES, RECEIVE_VECTOR_0, TRANSMIT_VECTOR_0, TRANSMIT_VECTOR_1, VECTOR_SIZE}
+use Rattle.vf_unit.specs.Words.{BUFFER_SIZES, RECEIVE_VECTOR_0, TRANSMIT_VECTOR_0, TRANSMIT_VECTOR_1, VECTOR_SIZE}
 use Rattle.vf_unit.specs.declared.registers.Queue.{Queue}
 use Rattle.vf_unit.specs.declared.registers.Queue.TheVariants.{Q0, Q1}
 use Rattle.vf_unit.specs.declared.queues.ReceiveQueue.{ReceiveQueue}

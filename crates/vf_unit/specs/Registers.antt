@@ -1,6 +1,6 @@
--- The register map of a virtual function.
+-- The register map of a virtual function (82599 datasheet, 8.3: device registers of a virtual function). The digit behind a name is the
+-- queue; a queue's registers stand 0x40 bytes behind those of the queue before it.
 use Rattle.std.specs.Prelude.{ℕ, List, [], ◌∷◌, ◌==◌, if◌then◌else◌}
-use Rattle.vf_unit.specs.declared.offsets.TheConstants.{VFCTRL, VFLINKS, VTEICR, VTEICS, VTEIMS, VTEIMC, VTEIAC, VTIVAR, VTIVAR_MISC, RDBAL0, RDBAH0, RDLEN0, RDH0, SRRCTL0, RDT0, VFGPRC, RXDCTL0, RDBAL1, RDBAH1, RDLEN1, RDH1, SRRCTL1, RDT1, RXDCTL1, TDBAL0, TDBAH0, TDLEN0, TDH0, TDT0, VFGPTC, TXDCTL0, TDBAL1, TDBAH1, TDLEN1, TDH1, TDT1, TXDCTL1}
 use Rattle.vf_unit.specs.declared.registers.Queue.TheVariants.{Q0, Q1}
 use Rattle.rings.specs.declared.ring.RingRegister.TheVariants.{BaseLow, BaseHigh, Length, Head, Tail}
 use Rattle.vf_unit.specs.declared.registers.Register.{Register}
@@ -13,43 +13,43 @@ pub record Line : Type 0 where
 
 abbrev pub register_map : List Line
 register_map =
-    record { offset = VFCTRL; register = Control }
-    ∷ record { offset = VFLINKS; register = Links }
-    ∷ record { offset = VTEICR; register = CauseRead }
-    ∷ record { offset = VTEICS; register = CauseSet }
-    ∷ record { offset = VTEIMS; register = MaskSet }
-    ∷ record { offset = VTEIMC; register = MaskClear }
-    ∷ record { offset = VTEIAC; register = AutoClear }
-    ∷ record { offset = VTIVAR; register = QueueVectors }
-    ∷ record { offset = VTIVAR_MISC; register = OtherVector }
-    ∷ record { offset = RDBAL0; register = Receive Q0 BaseLow }
-    ∷ record { offset = RDBAH0; register = Receive Q0 BaseHigh }
-    ∷ record { offset = RDLEN0; register = Receive Q0 Length }
-    ∷ record { offset = RDH0; register = Receive Q0 Head }
-    ∷ record { offset = SRRCTL0; register = ReceiveBuffers Q0 }
-    ∷ record { offset = RDT0; register = Receive Q0 Tail }
-    ∷ record { offset = VFGPRC; register = FramesReceived }
-    ∷ record { offset = RXDCTL0; register = ReceiveControl Q0 }
-    ∷ record { offset = RDBAL1; register = Receive Q1 BaseLow }
-    ∷ record { offset = RDBAH1; register = Receive Q1 BaseHigh }
-    ∷ record { offset = RDLEN1; register = Receive Q1 Length }
-    ∷ record { offset = RDH1; register = Receive Q1 Head }
-    ∷ record { offset = SRRCTL1; register = ReceiveBuffers Q1 }
-    ∷ record { offset = RDT1; register = Receive Q1 Tail }
-    ∷ record { offset = RXDCTL1; register = ReceiveControl Q1 }
-    ∷ record { offset = TDBAL0; register = Transmit Q0 BaseLow }
-    ∷ record { offset = TDBAH0; register = Transmit Q0 BaseHigh }
-    ∷ record { offset = TDLEN0; register = Transmit Q0 Length }
-    ∷ record { offset = TDH0; register = Transmit Q0 Head }
-    ∷ record { offset = TDT0; register = Transmit Q0 Tail }
-    ∷ record { offset = VFGPTC; register = FramesSent }
-    ∷ record { offset = TXDCTL0; register = TransmitControl Q0 }
-    ∷ record { offset = TDBAL1; register = Transmit Q1 BaseLow }
-    ∷ record { offset = TDBAH1; register = Transmit Q1 BaseHigh }
-    ∷ record { offset = TDLEN1; register = Transmit Q1 Length }
-    ∷ record { offset = TDH1; register = Transmit Q1 Head }
-    ∷ record { offset = TDT1; register = Transmit Q1 Tail }
-    ∷ record { offset = TXDCTL1; register = TransmitControl Q1 }
+    record { offset = 0x0; register = Control }  -- VFCTRL
+    ∷ record { offset = 0x10; register = Links }  -- VFLINKS
+    ∷ record { offset = 0x100; register = CauseRead }  -- VTEICR
+    ∷ record { offset = 0x104; register = CauseSet }  -- VTEICS
+    ∷ record { offset = 0x108; register = MaskSet }  -- VTEIMS
+    ∷ record { offset = 0x10C; register = MaskClear }  -- VTEIMC
+    ∷ record { offset = 0x110; register = AutoClear }  -- VTEIAC
+    ∷ record { offset = 0x120; register = QueueVectors }  -- VTIVAR
+    ∷ record { offset = 0x140; register = OtherVector }  -- VTIVAR_MISC
+    ∷ record { offset = 0x1000; register = Receive Q0 BaseLow }  -- RDBAL0
+    ∷ record { offset = 0x1004; register = Receive Q0 BaseHigh }  -- RDBAH0
+    ∷ record { offset = 0x1008; register = Receive Q0 Length }  -- RDLEN0
+    ∷ record { offset = 0x1010; register = Receive Q0 Head }  -- RDH0
+    ∷ record { offset = 0x1014; register = ReceiveBuffers Q0 }  -- SRRCTL0
+    ∷ record { offset = 0x1018; register = Receive Q0 Tail }  -- RDT0
+    ∷ record { offset = 0x101C; register = FramesReceived }  -- VFGPRC
+    ∷ record { offset = 0x1028; register = ReceiveControl Q0 }  -- RXDCTL0
+    ∷ record { offset = 0x1040; register = Receive Q1 BaseLow }  -- RDBAL1
+    ∷ record { offset = 0x1044; register = Receive Q1 BaseHigh }  -- RDBAH1
+    ∷ record { offset = 0x1048; register = Receive Q1 Length }  -- RDLEN1
+    ∷ record { offset = 0x1050; register = Receive Q1 Head }  -- RDH1
+    ∷ record { offset = 0x1054; register = ReceiveBuffers Q1 }  -- SRRCTL1
+    ∷ record { offset = 0x1058; register = Receive Q1 Tail }  -- RDT1
+    ∷ record { offset = 0x1068; register = ReceiveControl Q1 }  -- RXDCTL1
+    ∷ record { offset = 0x2000; register = Transmit Q0 BaseLow }  -- TDBAL0
+    ∷ record { offset = 0x2004; register = Transmit Q0 BaseHigh }  -- TDBAH0
+    ∷ record { offset = 0x2008; register = Transmit Q0 Length }  -- TDLEN0
+    ∷ record { offset = 0x2010; register = Transmit Q0 Head }  -- TDH0
+    ∷ record { offset = 0x2018; register = Transmit Q0 Tail }  -- TDT0
+    ∷ record { offset = 0x201C; register = FramesSent }  -- VFGPTC
+    ∷ record { offset = 0x2028; register = TransmitControl Q0 }  -- TXDCTL0
+    ∷ record { offset = 0x2040; register = Transmit Q1 BaseLow }  -- TDBAL1
+    ∷ record { offset = 0x2044; register = Transmit Q1 BaseHigh }  -- TDBAH1
+    ∷ record { offset = 0x2048; register = Transmit Q1 Length }  -- TDLEN1
+    ∷ record { offset = 0x2050; register = Transmit Q1 Head }  -- TDH1
+    ∷ record { offset = 0x2058; register = Transmit Q1 Tail }  -- TDT1
+    ∷ record { offset = 0x2068; register = TransmitControl Q1 }  -- TXDCTL1
     ∷ []
 
 -- the register of the first line with that offset

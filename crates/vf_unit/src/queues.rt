@@ -1,7 +1,7 @@
 //! A receive and a transmit queue, as their registers see them.
 ghost use Rattle.std.specs.Prelude.{◌≡◌, ℕ, ◌+◌, ◌^◌, IfOk, if◌then◌else◌};
 ghost use Rattle.rings.specs.Ring.{LiesInside, ring_written};
-ghost use Rattle.vf_unit.specs.declared.offsets.TheConstants.{VME};
+ghost use Rattle.vf_unit.specs.Words.{VME};
 ghost use Rattle.vf_unit.specs.Function.{initial_receive, initial_transmit, IsReceiving};
 ghost use Rattle.vf_unit.specs.Access.{enable_word, buffers_written, receive_switched, transmit_switched};
 

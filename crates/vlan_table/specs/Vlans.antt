@@ -1,7 +1,7 @@
 -- VLAN entries and the VLAN table: their words by offset, and which pools have an id.
 use Rattle.std.specs.Prelude.{ℕ, ◌%◌, Bool, ◌&&◌, ◌==◌, List, Option, replicate, slice_index}
 use Rattle.std.specs.List.{list_any, range_with_len}
-use Rattle.vlan_table.specs.declared.registers.TheConstants.{VLNCTRL, VLNCTRL_KEPT, VFE, VFTA, VLVF, VLVFB, VALID}
+use Rattle.vlan_table.specs.Registers.{VLNCTRL, VLNCTRL_KEPT, VFE, VFTA, VLVF, VLVFB, VALID}
 use Rattle.wire_frame.specs.Row.{◌or◌, word_at, words_after, one_at, one_after}
 use Rattle.wire_frame.specs.Bits.{has_bit, has_bit_in, two_words}
 use Rattle.pool_index.specs.Entries.{Entries}

@@ -3,7 +3,7 @@ ghost use Rattle.std.specs.Prelude.{◌≡◌, ℕ, ◌/◌, ◌<◌, ◌==◌, 
 ghost use Rattle.wire_frame.specs.Bits.{has_bit, has_bit_in, two_words};
 ghost use Rattle.wire_frame.specs.Row.{is_in, place};
 ghost use Rattle.pool_index.specs.Entries.{IsAnswer};
-ghost use Rattle.vlan_table.specs.declared.registers.TheConstants.{VLVF, VLVFB};
+ghost use Rattle.vlan_table.specs.Registers.{VLVF, VLVFB};
 ghost use Rattle.vlan_table.specs.Vlans.{initial_vlans, vlans_at, vlans_after, is_filtering, entry_id, entry_has_pool, vlan_entries};
 
 use crate::registers::{VALID, VFE, VFTA, VLNCTRL, VLNCTRL_KEPT, VLVF, VLVFB};

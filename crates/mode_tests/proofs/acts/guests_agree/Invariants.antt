@@ -1,5 +1,0 @@
--- The ledger is that of the blank.
-use Rattle.mode_tests.proofs.acts.guests_agree.Given as goal
-
-abbrev pub ghosts-two_guests : goal.ghosts-two_guests
-ghosts-two_guests g a = record { name = a.blank.name; parts = a.blank.parts }

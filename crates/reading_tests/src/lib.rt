@@ -1,0 +1,20 @@
+//! Tests of how a script is read and its output written: bad lines, limits, readers and writers that break, memory that is
+//! refused, and the words of the command line.
+//!
+//! The lines that are refused, the limits and the texts come from the language's grammar and the program's manual.
+#![tactic(auto)]
+
+#[cfg(test)]
+mod bad_lines;
+#[cfg(test)]
+mod broken;
+#[cfg(test)]
+mod command_line;
+#[cfg(test)]
+mod cut;
+#[cfg(test)]
+mod limits;
+#[cfg(test)]
+mod played;
+#[cfg(test)]
+mod refused;

@@ -1,0 +1,11 @@
+//! What tests of whole scripts share: scripts in a short form and by chance, and readers and writers that break.
+//!
+//! It stands on the standard library alone, and asks nobody to end a process: what compares stands in the tests.
+#![tactic(auto)]
+
+pub mod broken;
+mod chance;
+mod clusters;
+pub mod seeded;
+pub mod sheet;
+pub mod short;

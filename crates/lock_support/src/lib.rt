@@ -5,5 +5,5 @@
 mod script;
 mod stage;
 
-pub use script::{arrival, frame_to_3, is_scripted, opening, settings};
+pub use script::{arrival, frame_to_3, is_scripted, opening, script, settings};
 pub use stage::{answer, line_of, locked, recorded};

@@ -82,6 +82,25 @@ fn arrival_of(alloc: Global, frame: FrameBuf) -> Result<Vec<Event>, AllocError> 
     Ok(events)
 }
 
+/// The whole script.
+pub fn script(alloc: Global) -> Result<Vec<Event>, Fault> {
+    let (settings, opening, arrival) = (settings(alloc), opening(alloc)?, arrival(alloc)?);
+    let Ok(mut events) = settings else {
+        return Err(Fault::NoMemory);
+    };
+    for event in opening {
+        if events.push(event).is_err() {
+            return Err(Fault::NoMemory);
+        }
+    }
+    for event in arrival {
+        if events.push(event).is_err() {
+            return Err(Fault::NoMemory);
+        }
+    }
+    Ok(events)
+}
+
 /// Whether event `index` is answered so: all are done but for the last three, which read, and the frame's message is of vector 0.
 pub fn is_scripted(index: usize, answer: &Answer) -> bool {
     let is_replied = match &answer.reply {

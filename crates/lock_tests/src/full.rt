@@ -5,7 +5,7 @@ use device::{Answer, Device, Event, Reply};
 use device_lock::{CALLERS, Full, Recorded, SERVICE, Share, Shares};
 use guest_memory::FlatMem;
 use irq_line::GuestSeat;
-use lock_support::{arrival, is_scripted, line_of, opening, recorded, settings};
+use lock_support::{is_scripted, line_of, recorded, script};
 use std::alloc::Global;
 use std::marker::Brand;
 use std::process::Abort;
@@ -78,16 +78,90 @@ fn the_third_of_two_comes_back(rt: HostRuntime) -> Result<(), Fail> {
     third_of_two::<HostRuntime, Brand>(&rt, rt.alloc(), Blank::new(67))
 }
 
-// The events from number `first` on, of which four calls are kept at most: where the history is full the base moves by its four,
+// The script's events, of which four calls are kept at most: where the history is full the base moves by its four,
 // and there is room. The guest takes after each. How many bases were moved, and the sum of the takes; none where an answer is another.
 fn moves<L: Ledger>(
     recorded: &mut Recorded<FlatMem, L>,
     service: &mut Share<L>,
     guest: &mut GuestSeat,
     events: Vec<Event>,
-    first: usize,
 ) -> Option<(u32, u32)> {
-    let mut index = first;
+    let mut index = 0usize;
+    let mut bases = 0u32;
+    let mut taken = 0u32;
+    for event in events {
+        let answer = match ask(recorded, service, event) {
+            Ok(answer) => answer,
+            Err(Full(event)) => {
+                if recorded.rebase() != Some(4) {
+                    return None;
+                }
+                bases = bases.wrapping_add(1);
+                ask(recorded, service, event).ok()?
+            }
+        };
+        if !is_scripted(index, &answer) {
+            return None;
+        }
+        taken = taken.wrapping_add(u32::from(guest.take()));
+        index = index.wrapping_add(1);
+    }
+    Some((bases, taken))
+}
+
+// The service's part of the tally of all shares, of which none was handed out.
+fn service_of<L: Ledger>(
+    alloc: Global,
+    recorded: &mut Recorded<FlatMem, L>,
+    shares: Shares<L>,
+) -> Result<Option<u64>, Fail> {
+    let mut all = Vec::with_capacity(alloc, CALLERS)?;
+    shares.put_back(&mut all)?;
+    match recorded.gather(all) {
+        Some(tally) => Ok(Some(tally.entries[usize::from(SERVICE)])),
+        None => Ok(None),
+    }
+}
+
+// The whole script, of which four calls are kept at most: 18 events move the base four times. The frame's message comes once,
+// also where a base moves past the frame. A fresh device gives other answers to the last two events.
+fn moved_bases<R: Abort, L: Ledger>(rt: &R, alloc: Global, blank: Blank) -> Result<(), Fail>
+    requires name { blank.name ≡ L.name }
+    requires parts { (blank.parts ≡ L.parts) × (blank.parts ≡ 67) }
+{
+    let (line, mut guest) = line_of(alloc, 3)?;
+    let live = memories(alloc, 8, 65_536)?;
+    let twins = Some(memories(alloc, 8, 65_536)?);
+    let mut other = Device::new(alloc, memories(alloc, 8, 65_536)?)?;
+    let events = script(alloc)?;
+    let (mut recorded, mut shares) = recorded::<FlatMem, L>(alloc, blank, line, live, twins, 4)?;
+    let moved = moves(&mut recorded, &mut shares.service, &mut guest, events);
+    assert_eq!(rt; moved, Some((4, 1)));
+    let replayed = recorded.replays(&mut other);
+    let moved = recorded.rebase();
+    let closed = refused(ask(&mut recorded, &mut service, Event::VfRead(1, 0x101C)));
+    let after = (recorded.kept(), recorded.folded(), service.count());
+    assert_eq!(rt; asked, (true, true, Some(1)));
+    assert_eq!(rt; (before, after), ((2, 0, 2), (1, 2, 3)));
+    assert_eq!(rt; (replayed, moved, closed), (true, Some(2), Some(2)));
+    assert_eq!(rt; (recorded.replays(&mut other), guest.take()), (true, 0));
+    Ok(())
+}
+
+#[test]
+fn the_third_of_two_comes_back(rt: HostRuntime) -> Result<(), Fail> {
+    third_of_two::<HostRuntime, Brand>(&rt, rt.alloc(), Blank::new(67))
+}
+
+// The script's events, of which four calls are kept at most: where the history is full the base moves by its four,
+// and there is room. The guest takes after each. How many bases were moved, and the sum of the takes; none where an answer is another.
+fn moves<L: Ledger>(
+    recorded: &mut Recorded<FlatMem, L>,
+    service: &mut Share<L>,
+    guest: &mut GuestSeat,
+    events: Vec<Event>,
+) -> Option<(u32, u32)> {
+    let mut index = 0usize;
     let mut bases = 0u32;
     let mut taken = 0u32;
     for event in events {

@@ -1,5 +1,5 @@
 //! A recorded device, by itself and behind its lock, and what a caller is answered.
-ghost use Rattle.std.specs.Prelude.{◌≡◌, [], IfOk};
+ghost use Rattle.std.specs.Prelude.{◌≡◌, [], IfOk, IfSome};
 ghost use Rattle.device_lock.specs.Made.{AreUnused, IsFresh};
 
 use device::{Answer, Device, Event};
@@ -17,12 +17,22 @@ pub fn line_of(alloc: Global, pool: u8) -> Result<(DeviceSeat, GuestSeat), Fault
     ensures pool { IfOk result (λ r. r.1.view.pool ≡ pool) }
 {
     let (line, seats) = make(alloc)?;
+    match seat_of(seats, pool) {
+        Some(seat) => Ok((line, seat)),
+        None => Err(Fault::NoSuchVf),
+    }
+}
+
+// The seat of a pool, of a line's seats.
+fn seat_of(seats: Vec<GuestSeat>, pool: u8) -> Option<GuestSeat>
+    ensures { IfSome result (λ seat. seat.view.pool ≡ pool) }
+{
     for seat in seats {
         if seat.pool() == pool {
-            return Ok((line, seat));
+            return Some(seat);
         }
     }
-    Err(Fault::NoSuchVf)
+    None
 }
 
 // A device as it is made.

@@ -18,6 +18,7 @@ use crate::ending::Ending;
 use crate::pumping::Pumping;
 use crate::recording::Recording;
 use crate::sheet::{Came, Sheet};
+use modes::Mode;
 use std::alloc::Global;
 use std::io;
 use std::io::Write;
@@ -54,7 +55,9 @@ fn make_all<R: Wait>(rt: &R, alloc: Global, sheet: &mut Sheet) {
     let locked = makers::locked_new::<Brand, R>(rt, alloc, Blank::new(67));
     sheet.tell("LockedDevice::new", locked);
     sheet.tell("channel", makers::frames(rt, alloc));
-    sheet.tell("drive", makers::script(alloc));
+    sheet.tell("drive, run", makers::script(alloc, Mode::Run));
+    sheet.tell("drive, keep 0", makers::script(alloc, Mode::Keep(0)));
+    sheet.tell("drive, lone 0", makers::script(alloc, Mode::Lone(0)));
 }
 
 // Makes what is to do its work without memory, asks for the mark, and has the work done.

@@ -191,26 +191,33 @@ pub fn frames<R: Wait>(rt: &R, alloc: Global) -> Came {
 
 const SCRIPT: &str = "vfs 1 4096\nopen 0\nr 0 0x10\n";
 
-const TOLD: &str = "1 ok\n2 = 0x70000000\n";
+// What the modes write of the script.
+const ANSWERED: &str = "1 ok\n2 = 0x70000000\n";
+
+const KEPT: &str = "1 event\n2 event\n";
 
 // What came of a run of the script, and what it wrote.
-fn driven(alloc: Global) -> (Result<(), modes::Fault>, Sheet) {
+fn driven(alloc: Global, mode: Mode) -> (Result<(), modes::Fault>, Sheet) {
     let mut sheet = Sheet::new();
-    let result = drive(alloc, Mode::Run, &mut SCRIPT.as_bytes(), &mut sheet);
+    let result = drive(alloc, mode, &mut SCRIPT.as_bytes(), &mut sheet);
     (result, sheet)
 }
 
 /// A run that is refused has written a beginning of its output at most, and the one after it, if it isn't refused too, is whole.
-pub fn script(alloc: Global) -> Came {
-    let (result, sheet) = driven(alloc);
-    let Err(fault) = result else {
-        return Came::whole(sheet.text() == TOLD.as_bytes());
+pub fn script(alloc: Global, mode: Mode) -> Came {
+    let told = match mode {
+        Mode::Run | Mode::Lone(_) => ANSWERED.as_bytes(),
+        Mode::Keep(_) => KEPT.as_bytes(),
     };
-    if fault.number() != 9 || !TOLD.as_bytes().starts_with(sheet.text()) {
+    let (result, sheet) = driven(alloc, mode);
+    let Err(fault) = result else {
+        return Came::whole(sheet.text() == told);
+    };
+    if fault.number() != 9 || !told.starts_with(sheet.text()) {
         return Came::Wrong;
     }
-    match driven(alloc) {
-        (Ok(()), sheet) if sheet.text() != TOLD.as_bytes() => Came::Wrong,
+    match driven(alloc, mode) {
+        (Ok(()), sheet) if sheet.text() != told => Came::Wrong,
         _ => Came::NoMemory,
     }
 }

@@ -1,0 +1,78 @@
+//! Messages that are raised, and who takes them.
+use irq_line::{DeviceSeat, GuestSeat, make};
+use std::test::Fail;
+use std::thread;
+
+// Vectors 0 and 2 are raised for pool 3, vector 0 twice, and once more when they were taken. What the guest takes and peeks before
+// that, then two peeks and two takes, and a take at the end.
+fn seen_by_3(device: &mut DeviceSeat, guest: &mut GuestSeat) -> [u8; 7] {
+    let (taken, standing) = (guest.take(), guest.peek());
+    device.raise(3, 1);
+    device.raise(3, 4);
+    device.raise(3, 1);
+    let (peeked, again) = (guest.peek(), guest.peek());
+    let (all, left) = (guest.take(), guest.take());
+    device.raise(3, 1);
+    [taken, standing, peeked, again, all, left, guest.take()]
+}
+
+const SEEN: [u8; 7] = [0, 0, 5, 5, 5, 0, 1];
+
+#[test]
+fn messages_stand_until_they_are_taken(rt: HostRuntime) -> Result<(), Fail> {
+    let (mut device, mut guests) = make(rt.alloc())?;
+    assert_eq!(rt; seen_by_3(&mut device, &mut guests[3]), SEEN);
+    Ok(())
+}
+
+// Each pool in turn is raised a mask, and no other pool sees it.
+#[test]
+fn a_pool_sees_its_own_messages_alone(rt: HostRuntime) -> Result<(), Fail> {
+    let (mut device, mut guests) = make(rt.alloc())?;
+    for pool in 0..64u8 {
+        let mask = pool % 7 + 1;
+        device.raise(pool, mask);
+        for guest in &mut guests {
+            let due = if guest.pool() == pool { mask } else { 0 };
+            assert_eq!(rt; (guest.peek(), guest.take()), (due, due), "of pool {pool}");
+        }
+    }
+    Ok(())
+}
+
+const RAISES: u32 = 1000;
+
+fn raise_often(device: &mut DeviceSeat) {
+    for _ in 0..RAISES {
+        device.raise(0, 1);
+    }
+}
+
+// Takes some times, and counts the takes that answered vector 0.
+fn takes_of_vector_0(guest: &mut GuestSeat, takes: u32) -> u32 {
+    let mut answered = 0u32;
+    for _ in 0..takes {
+        if guest.take() == 1 {
+            answered = answered.wrapping_add(1);
+        }
+    }
+    answered
+}
+
+// One thread raises a thousand times while this one takes. After the last take, which comes when all raises were made, at
+// least one take answered the vector, and no more than were raised; and nothing is left.
+#[test]
+fn one_thread_raises_while_another_takes(rt: HostRuntime) -> Result<(), Fail> {
+    let (mut device, mut guests) = make(rt.alloc())?;
+    let raiser = thread::spawn(&rt, move || {
+        raise_often(&mut device);
+        device
+    })?;
+    let during = takes_of_vector_0(&mut guests[0], 1_000_000);
+    let mut device = raiser.join(&rt);
+    let answered = during.wrapping_add(takes_of_vector_0(&mut guests[0], 1));
+    assert!(rt; 1 <= answered && answered <= RAISES, "{answered}");
+    assert_eq!(rt; guests[0].take(), 0);
+    assert_eq!(rt; seen_by_3(&mut device, &mut guests[3]), SEEN);
+    Ok(())
+}

@@ -1,0 +1,9 @@
+//! Shared by tests of what stands on `device_lock`: a recorded device with its shares, and a script of 18 events by which function 3
+//! receives a frame, with the answers to them worked out by hand.
+#![tactic(auto)]
+
+mod script;
+mod stage;
+
+pub use script::{arrival, frame_to_3, is_scripted, opening, script, settings};
+pub use stage::{answer, line_of, locked, recorded};

@@ -1,0 +1,100 @@
+//! One thread that sends and receives.
+use crate::shelf::{Pumped, Shelf, frame_of, frames_of, pumped};
+use std::alloc::Global;
+use std::sync::Wait;
+use std::test::Fail;
+use wire_pump::{FeedEnd, channel, feed, pump};
+
+// How a pump ended, and how many frames it brought.
+type Seen = (Pumped, Option<usize>);
+
+// So many frames are sent, `Last` where it is to be, and the sender goes. How two pumps end then, to doors with this room: the
+// second begins behind the frame at which the first was full.
+fn pumped_twice<R: Wait>(
+    rt: &R,
+    alloc: Global,
+    count: usize,
+    has_last: bool,
+    room: usize,
+) -> Result<(Seen, Seen), Fail> {
+    let (mut sender, mut receiver) = channel(alloc)?;
+    for number in 0..count {
+        let frame = frame_of(number).ok_or("no frame")?;
+        if !sender.frame(rt, &frame) {
+            return Err(Fail::from("not sent"));
+        }
+    }
+    if has_last && feed(&mut sender, rt, &[]) != FeedEnd::All {
+        return Err(Fail::from("no last"));
+    }
+    drop(sender);
+    let mut shelf = Shelf::new(alloc, room);
+    let first = pumped(pump(&mut receiver, rt, &mut shelf));
+    let mut other = Shelf::new(alloc, room);
+    let second = pumped(pump(&mut receiver, rt, &mut other));
+    let behind = shelf.frames.len().wrapping_add(1);
+    Ok((
+        (first, shelf.count_from(0)),
+        (second, other.count_from(behind)),
+    ))
+}
+
+// The door takes all, or three frames of five, of which the fourth is handed back; or there is no `Last`.
+#[test]
+fn frames_come_in_order_until_an_end(rt: HostRuntime) -> Result<(), Fail> {
+    for (count, has_last, room, first, second) in [
+        (5, true, 9, (Pumped::Last, 5), (Pumped::Gone, 0)),
+        (5, true, 3, (Pumped::Full(3), 3), (Pumped::Last, 1)),
+        (2, false, 9, (Pumped::Gone, 2), (Pumped::Gone, 0)),
+    ] {
+        let seen = pumped_twice(&rt, rt.alloc(), count, has_last, room)?;
+        let due = ((first.0, Some(first.1)), (second.0, Some(second.1)));
+        assert_eq!(rt; seen, due, "{count} frames, {room}");
+    }
+    Ok(())
+}
+
+// More pumps end at a door without room than a channel has frames, and none of its frames is lost by that.
+#[test]
+fn a_pump_may_go_on_after_it_was_full(rt: HostRuntime) -> Result<(), Fail> {
+    let (mut sender, mut receiver) = channel(rt.alloc())?;
+    let mut shelf = Shelf::new(rt.alloc(), 0);
+    for number in 0..100usize {
+        let frame = frame_of(number).ok_or("no frame")?;
+        let is_sent = sender.frame(&rt, &frame);
+        let end = pumped(pump(&mut receiver, &rt, &mut shelf));
+        assert_eq!(rt; (is_sent, end), (true, Pumped::Full(number)));
+    }
+    Ok(())
+}
+
+#[test]
+fn nothing_is_sent_after_last(rt: HostRuntime) -> Result<(), Fail> {
+    let (mut sender, _receiver) = channel(rt.alloc())?;
+    let frames = frames_of(rt.alloc(), 2).ok_or("no frames")?;
+    let frame = frame_of(0).ok_or("no frame")?;
+    let before = (sender.frame(&rt, &frame), sender.last(&rt));
+    let after = (sender.frame(&rt, &frame), sender.last(&rt));
+    let fed = feed(&mut sender, &rt, &frames);
+    assert_eq!(rt;
+        (before, after, fed),
+        ((true, true), (false, false), FeedEnd::Gone(0))
+    );
+    Ok(())
+}
+
+#[test]
+fn a_sender_is_told_that_the_receiver_is_gone(rt: HostRuntime) -> Result<(), Fail> {
+    let (mut sender, receiver) = channel(rt.alloc())?;
+    let frames = frames_of(rt.alloc(), 2).ok_or("no frames")?;
+    let frame = frame_of(0).ok_or("no frame")?;
+    drop(receiver);
+    let fed = feed(&mut sender, &rt, &frames);
+    let sent = (sender.frame(&rt, &frame), sender.last(&rt));
+    let none = feed(&mut sender, &rt, &[]);
+    assert_eq!(rt;
+        (fed, sent, none),
+        (FeedEnd::Gone(0), (false, false), FeedEnd::Gone(0))
+    );
+    Ok(())
+}

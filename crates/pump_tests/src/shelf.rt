@@ -1,0 +1,97 @@
+//! Frames by numbers, a door that keeps frames, and how a pump ended.
+ghost use Rattle.std.specs.Prelude.{◌≡◌, ◌++◌, ◌∷◌, [], List, map, if◌then◌else◌};
+ghost use Rattle.device.specs.declared.event.Event.{Event};
+ghost use Rattle.device.specs.declared.event.Event.TheVariants.{Wire};
+
+use std::alloc::Global;
+use std::sync::Wait;
+use wire_frame::FrameBuf;
+use wire_pump::{Door, PumpEnd};
+
+/// A door that keeps the frames which it takes, up to a number of them.
+#[derive(Drop)]
+pub struct Shelf {
+    pub frames: Vec<FrameBuf>,
+    pub room: usize,
+}
+
+impl Door for Shelf {
+    ghost taken = { λ shelf. map Wire shelf.frames.items };
+
+    fn act<R: Wait>(&mut self, _rt: &R, frame: &FrameBuf) -> bool {
+        self.frames.len() < self.room && self.frames.push(frame.copy()).is_ok()
+    }
+}
+
+impl Shelf {
+    /// An empty shelf.
+    pub fn new(alloc: Global, room: usize) -> Shelf {
+        Shelf {
+            frames: Vec::new(alloc),
+            room,
+        }
+    }
+
+    /// How many frames it has. None where they are not those of the numbers from `first` on.
+    pub fn count_from(&self, first: usize) -> Option<usize> {
+        for (place, frame) in self.frames.iter().enumerate() {
+            if frame_of(first.wrapping_add(place)) != Some(frame.copy()) {
+                return None;
+            }
+        }
+        Some(self.frames.len())
+    }
+}
+
+/// The frame of a number, by which it is known: its length goes by the number too, from 14 to 9018 bytes.
+pub fn frame_of(number: usize) -> Option<FrameBuf> {
+    const LENGTHS: [usize; 7] = [14, 60, 64, 1514, 1518, 9017, 9018];
+    let mut bytes = [0u8; 9018];
+    bytes[0] = 2;
+    bytes[1] = (number / 256 % 256) as u8;
+    bytes[2] = (number % 256) as u8;
+    FrameBuf::from_bytes(&bytes[..LENGTHS[number % 7]]).ok()
+}
+
+/// The frames of the numbers below `count`.
+pub fn frames_of(alloc: Global, count: usize) -> Option<Vec<FrameBuf>> {
+    let mut frames = Vec::new(alloc);
+    for number in 0..count {
+        frames.push(frame_of(number)?).ok()?;
+    }
+    Some(frames)
+}
+
+/// How a pump ended.
+#[derive(Clone, Copy, Debug, PartialEq, Eq)]
+pub enum Pumped {
+    Last,
+    Gone,
+    // at the frame of this number
+    Full(usize),
+    // at another frame than that of its number
+    Other,
+}
+
+/// How a pump ended, with the number of the frame that it handed back.
+pub fn pumped(end: PumpEnd) -> Pumped {
+    match end {
+        PumpEnd::Last => Pumped::Last,
+        PumpEnd::Gone => Pumped::Gone,
+        PumpEnd::Full(frame) => match number_of(&frame) {
+            Some(number) => Pumped::Full(number),
+            None => Pumped::Other,
+        },
+    }
+}
+
+// The number of a frame, if it is that number's.
+fn number_of(frame: &FrameBuf) -> Option<usize> {
+    let bytes = frame.bytes();
+    let number = usize::from(*bytes.get(1)?) * 256 + usize::from(*bytes.get(2)?);
+    if frame_of(number)?.bytes() == bytes {
+        Some(number)
+    } else {
+        None
+    }
+}

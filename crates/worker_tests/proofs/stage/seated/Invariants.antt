@@ -1,0 +1,10 @@
+-- The shares of the others stay.
+use Rattle.std.proofs.Common.{◌≡◌}
+use Rattle.worker_tests.proofs.stage.seated.Given as goal
+
+abbrev pub invariant-loop-port : goal.invariant-loop-port
+invariant-loop-port g l = record {
+  pf : l.shares.pf ≡ l.fn.shares.pf;
+  pump : l.shares.pump ≡ l.fn.shares.pump;
+  service : l.shares.service ≡ l.fn.shares.service;
+}

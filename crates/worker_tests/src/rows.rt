@@ -1,0 +1,79 @@
+//! A script whose tally is known, with room for all calls and with room for one.
+ghost use Rattle.std.specs.Prelude.{◌≡◌};
+
+use crate::stage::{Seen, done, setting};
+use log::sink::Discard;
+use std::alloc::Global;
+use std::marker::Brand;
+use std::sync::ledger::{Blank, Ledger};
+use std::sync::{Arc, Wait};
+use std::test::Fail;
+use std::thread::Threads;
+use wire_frame::Fault;
+use workers::OpenGate;
+
+// Two guests read a register, once and twice; a frame comes from the wire, and the driver of the physical function reads.
+const TWO_GUESTS: &str =
+    "vfs 2 4096\nopen 0\nopen 1\ngo\nr 0 0x10\nr 1 0x10\nr 1 0x10\nwire 0200000000000200000000990800.00*46\npr 0x51b0\n";
+
+// How many calls are kept and folded away; none where the callers made other calls. The two events before `go` and the two ends
+// are of the service.
+fn counts(seen: &Seen) -> Option<(usize, u64)> {
+    let mut due = [0; 67];
+    due[0] = 1;
+    due[1] = 2;
+    due[64] = 1;
+    due[65] = 1;
+    due[66] = 4;
+    if seen.shares == 67 && seen.entries.as_slice() == due.as_slice() {
+        Some((seen.kept, seen.folded))
+    } else {
+        None
+    }
+}
+
+// What is seen of the script, of which `cap` calls are kept at most.
+fn seen_of_two<L: Ledger + Send + Sync + 'static, R: Threads + Wait + Copy + Send + 'static>(
+    rt: R,
+    alloc: Global,
+    blank: Blank,
+    cap: usize,
+    has_twin: bool,
+) -> Result<Result<Option<(usize, u64)>, Fault>, Fail>
+    requires name { blank.name ≡ L.name }
+    requires parts { (blank.parts ≡ L.parts) × (blank.parts ≡ 67) }
+{
+    let setting = setting(alloc, 0, 1, cap, has_twin)?;
+    let gate = Arc::new(alloc, OpenGate)?;
+    let seen = done::<L, OpenGate, R, Discard>(
+        rt, &Discard, alloc, blank, setting, TWO_GUESTS, gate,
+    );
+    match seen {
+        Ok(seen) => Ok(Ok(counts(&seen))),
+        Err(fault) => Ok(Err(fault)),
+    }
+}
+
+// With room for nine calls all are kept. With room for one, and a twin, each call but the first finds the history full and folds it.
+// Without a twin it is full before `go`, which two calls come before; after it, where the worker that finds it so ends and the
+// others end too; or at the ends of the ports, of which there is room for one.
+#[test]
+fn calls_are_counted_kept_and_folded(rt: HostRuntime) -> Result<(), Fail> {
+    for (cap, has_twin, due) in [
+        (9, false, Ok(Some((9, 0)))),
+        (1, true, Ok(Some((1, 8)))),
+        (1, false, Err(Fault::HistoryFull)),
+        (4, false, Err(Fault::HistoryFull)),
+        (8, false, Err(Fault::HistoryFull)),
+    ] {
+        let seen = seen_of_two::<Brand, HostRuntime>(
+            rt,
+            rt.alloc(),
+            Blank::new(67),
+            cap,
+            has_twin,
+        )?;
+        assert_eq!(rt; seen, due, "{cap}");
+    }
+    Ok(())
+}

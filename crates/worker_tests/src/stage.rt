@@ -1,0 +1,224 @@
+//! A script that is done by workers, and what is seen of it; and a device whose function 3 is set up, with its port.
+ghost use Rattle.std.specs.Prelude.{◌≡◌, []};
+
+use device_lock::{LockedDevice, Shares};
+use guest_memory::FlatMem;
+use guest_port::{EndNote, GuestPort, IrqPort, LockedPort};
+use irq_line::{DeviceSeat, make};
+use lock_support::{line_of, locked};
+use log::Log;
+use script::Script;
+use std::alloc::Global;
+use std::sync::ledger::{Blank, Ledger};
+use std::sync::{Arc, Wait};
+use std::test::Fail;
+use std::thread::Threads;
+use test_support::memories;
+use wire_frame::Fault;
+use workers::{Gate, prepare, run_workers};
+
+/// A port of a function in a [`FlatMem`].
+pub type Port<L> = LockedPort<FlatMem, L, IrqPort>;
+
+/// What is seen once all have ended.
+#[derive(Debug, Drop, PartialEq, Eq)]
+pub struct Seen {
+    pub shares: usize,
+    pub kept: usize,
+    pub folded: u64,
+    pub entries: [u64; 67],
+}
+
+/// What a test hands in: the line, ports of some pools, the memories of the device, those of its twin, if it has one, and how many
+/// calls are kept.
+#[derive(Drop)]
+pub struct Setting {
+    pub line: DeviceSeat,
+    pub ports: Vec<(IrqPort, EndNote)>,
+    pub memories: Vec<FlatMem>,
+    pub twins: Option<Vec<FlatMem>>,
+    pub cap: usize,
+    pub ghost unused: { line.raises ≡ [] },
+}
+
+/// Ports of the pools from `first` to `last`, and so many functions with memories of 4096 bytes, which has a twin or none.
+pub fn setting(
+    alloc: Global,
+    first: u8,
+    last: u8,
+    cap: usize,
+    has_twin: bool,
+) -> Result<Setting, Fail> {
+    let (line, seats) = make(alloc)?;
+    let mut ports = Vec::new(alloc);
+    for seat in seats {
+        let pool = seat.pool();
+        if first <= pool && pool <= last {
+            ports.push(IrqPort::new(alloc, pool, seat)?)?;
+        }
+    }
+    let count = usize::from(last) + 1;
+    let twins = if has_twin {
+        Some(memories(alloc, count, 4096)?)
+    } else {
+        None
+    };
+    Ok(Setting {
+        line,
+        ports,
+        memories: memories(alloc, count, 4096)?,
+        twins,
+        cap,
+    })
+}
+
+/// A port with the device and its share. None where its share is gone or the host refuses the room.
+fn seat<L: Ledger>(
+    device: &Arc<LockedDevice<FlatMem, L>>,
+    shares: &mut Shares<L>,
+    port: IrqPort,
+) -> Option<Port<L>>
+    ensures pf { shares.new.pf ≡ shares.old.pf }
+    ensures pump { shares.new.pump ≡ shares.old.pump }
+    ensures service { shares.new.service ≡ shares.old.service }
+{
+    if !port.is_open() {
+        return None;
+    }
+    let share = shares.port(port.pool())?;
+    let device = Arc::try_clone(device).ok()?;
+    Some(LockedPort::new(device, share, port))
+}
+
+// One of them, put behind others.
+fn push_seated<L: Ledger>(
+    device: &Arc<LockedDevice<FlatMem, L>>,
+    shares: &mut Shares<L>,
+    port: IrqPort,
+    note: EndNote,
+    ports: &mut Vec<(Port<L>, EndNote)>,
+) -> Option<()>
+    ensures pf { shares.new.pf ≡ shares.old.pf }
+    ensures pump { shares.new.pump ≡ shares.old.pump }
+    ensures service { shares.new.service ≡ shares.old.service }
+{
+    ports.push((seat(device, shares, port)?, note)).ok()
+}
+
+// The ports of pools that are open, with the device and their shares.
+fn seated<L: Ledger>(
+    alloc: Global,
+    device: &Arc<LockedDevice<FlatMem, L>>,
+    shares: &mut Shares<L>,
+    all: Vec<(IrqPort, EndNote)>,
+    pools: &[u8],
+) -> Option<Vec<(Port<L>, EndNote)>>
+    ensures pf { shares.new.pf ≡ shares.old.pf }
+    ensures pump { shares.new.pump ≡ shares.old.pump }
+    ensures service { shares.new.service ≡ shares.old.service }
+{
+    let mut ports = Vec::with_capacity(alloc, all.len()).ok()?;
+    for (port, note) in all {
+        if pools.contains(&port.pool()) {
+            push_seated(device, shares, port, note, &mut ports)?;
+        }
+    }
+    Some(ports)
+}
+
+// A script that is whole.
+fn read(alloc: Global, text: &str) -> Result<Script, Fault> {
+    match Script::read(alloc, &mut text.as_bytes()) {
+        Ok(script) => Ok(script),
+        Err(script::Fault::NoMemory) => Err(Fault::NoMemory),
+        Err(_) => Err(Fault::BadMake),
+    }
+}
+
+/// Does a script on a device with ports, and tells what is seen of it.
+pub fn done<
+    L: Ledger + Send + Sync + 'static,
+    G: Gate + Drop + Send + Sync + 'static,
+    R: Threads + Wait + Copy + Send + 'static,
+    O: Log,
+>(
+    rt: R,
+    log: &O,
+    alloc: Global,
+    blank: Blank,
+    setting: Setting,
+    text: &str,
+    gate: Arc<G>,
+) -> Result<Seen, Fault>
+    requires name { blank.name ≡ L.name }
+    requires parts { (blank.parts ≡ L.parts) × (blank.parts ≡ 67) }
+{
+    let Setting {
+        line,
+        ports,
+        memories,
+        twins,
+        cap,
+    } = setting;
+    let script = read(alloc, text)?;
+    let (device, mut shares) = locked::<FlatMem, L>(alloc, blank, line, memories, twins, cap)?;
+    let pools = prepare(&rt, alloc, &script, &device, &mut shares)?;
+    let Some(ports) = seated(alloc, &device, &mut shares, ports, &pools) else {
+        return Err(Fault::NoMemory);
+    };
+    let (Ok(script), Ok(other)) = (Arc::new(alloc, script), Arc::try_clone(&device)) else {
+        return Err(Fault::NoMemory);
+    };
+    let ended = run_workers(rt, log, alloc, script, other, shares, ports, gate)?;
+    let count = ended.shares.len();
+    let Some(tally) = device.tally(&rt, ended.shares) else {
+        return Err(Fault::NoMemory);
+    };
+    Ok(Seen {
+        shares: count,
+        kept: device.kept(&rt),
+        folded: device.folded(&rt),
+        entries: tally.entries,
+    })
+}
+
+// The pools may receive and transmit; function 3 has the address 02:00:00:00:00:03, its ring has one buffer, at 0x4000, and a
+// frame raises vector 0.
+const SET_UP: &str =
+    "vfs 8 65536\npw 0x51e0 0xff\npw 0x8110 0xff\nopen 3\npw 0xa218 0x2\npw 0xa21c 0x80000300\npw 0xa618 0x8\nmw 3 0x1000 0040000000000000\nw 3 0x1000 0x1000\nw 3 0x1008 128\nw 3 0x1014 0x02000002\nw 3 0x1028 0x02000000\nw 3 0x1018 1\nw 3 0x120 0x8180\nw 3 0x108 7\ngo\n";
+
+/// How many events the set-up has.
+pub const SET_UP_EVENTS: usize = 14;
+
+/// The device of the set-up, its shares, and the port of pool 3 with a note of its end.
+#[derive(Drop)]
+pub struct Begun<L: Ledger> {
+    pub device: Arc<LockedDevice<FlatMem, L>>,
+    pub shares: Shares<L>,
+    pub port: Port<L>,
+    pub note: EndNote,
+    pub ghost callers: { (shares.pump.caller ≡ 65) × (shares.service.caller ≡ 66) },
+}
+
+/// Does the set-up, of which 40 calls are kept at most, and gives the device the port of pool 3.
+pub fn begin<L: Ledger, R: Wait>(rt: &R, alloc: Global, blank: Blank) -> Result<Begun<L>, Fail>
+    requires name { blank.name ≡ L.name }
+    requires parts { (blank.parts ≡ L.parts) × (blank.parts ≡ 67) }
+{
+    let (line, seat_of_three) = line_of(alloc, 3)?;
+    let (port, note) = IrqPort::new(alloc, 3, seat_of_three)?;
+    let memories = memories(alloc, 8, 65_536)?;
+    let script = read(alloc, SET_UP)?;
+    let (device, mut shares) = locked::<FlatMem, L>(alloc, blank, line, memories, None, 40)?;
+    let pools = prepare(rt, alloc, &script, &device, &mut shares)?;
+    if pools.as_slice() != [3].as_slice() || device.kept(rt) != SET_UP_EVENTS {
+        return Err(Fail::from("not set up"));
+    }
+    let port = seat(&device, &mut shares, port).ok_or("no port")?;
+    Ok(Begun {
+        device,
+        shares,
+        port,
+        note,
+    })
+}

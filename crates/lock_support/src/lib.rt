@@ -2,8 +2,8 @@
 //! receives a frame, with the answers to them worked out by hand.
 #![tactic(auto)]
 
-mod script;
+mod events;
 mod stage;
 
-pub use script::{arrival, frame_to_3, is_scripted, opening, script, settings};
+pub use events::{arrival, frame_to_3, is_scripted, opening, script, settings};
 pub use stage::{answer, line_of, locked, recorded};

@@ -1,7 +1,7 @@
 //! The door to a device that threads share.
 ghost use Rattle.std.specs.Prelude.{◌≡◌};
 
-use crate::shelf::{Pumped, frames_of, pumped};
+use crate::shelf::{Pumped, end_of, frames_of};
 use device::{Event, Reply};
 use guest_memory::FlatMem;
 use lock_support::{answer, frame_to_3, line_of, locked, opening, settings};
@@ -30,7 +30,7 @@ fn pump_five<R: Wait, L: Ledger>(
     let (device, shares) = locked::<FlatMem, L>(alloc, blank, line, memories, None, 3)?;
     let mut door = LockedDoor::new(Arc::try_clone(&device)?, shares.pump);
     let fed = feed(&mut sender, rt, &frames);
-    let end = pumped(pump(&mut receiver, rt, &mut door));
+    let end = end_of(pump(&mut receiver, rt, &mut door));
     Ok((fed, end, device.kept(rt), door.into_share().count()))
 }
 

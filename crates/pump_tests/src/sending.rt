@@ -1,5 +1,5 @@
 //! One thread that sends and receives.
-use crate::shelf::{Pumped, Shelf, frame_of, frames_of, pumped};
+use crate::shelf::{Pumped, Shelf, end_of, frame_of, frames_of};
 use std::alloc::Global;
 use std::sync::Wait;
 use std::test::Fail;
@@ -29,9 +29,9 @@ fn pumped_twice<R: Wait>(
     }
     drop(sender);
     let mut shelf = Shelf::new(alloc, room);
-    let first = pumped(pump(&mut receiver, rt, &mut shelf));
+    let first = end_of(pump(&mut receiver, rt, &mut shelf));
     let mut other = Shelf::new(alloc, room);
-    let second = pumped(pump(&mut receiver, rt, &mut other));
+    let second = end_of(pump(&mut receiver, rt, &mut other));
     let behind = shelf.frames.len().wrapping_add(1);
     Ok((
         (first, shelf.count_from(0)),
@@ -62,7 +62,7 @@ fn a_pump_may_go_on_after_it_was_full(rt: HostRuntime) -> Result<(), Fail> {
     for number in 0..100usize {
         let frame = frame_of(number).ok_or("no frame")?;
         let is_sent = sender.frame(&rt, &frame);
-        let end = pumped(pump(&mut receiver, &rt, &mut shelf));
+        let end = end_of(pump(&mut receiver, &rt, &mut shelf));
         assert_eq!(rt; (is_sent, end), (true, Pumped::Full(number)));
     }
     Ok(())

@@ -74,7 +74,7 @@ pub enum Pumped {
 }
 
 /// How a pump ended, with the number of the frame that it handed back.
-pub fn pumped(end: PumpEnd) -> Pumped {
+pub fn end_of(end: PumpEnd) -> Pumped {
     match end {
         PumpEnd::Last => Pumped::Last,
         PumpEnd::Gone => Pumped::Gone,

@@ -1,5 +1,5 @@
 //! A feed and a pump in threads of their own.
-use crate::shelf::{Pumped, Shelf, frames_of, pumped};
+use crate::shelf::{Pumped, Shelf, end_of, frames_of};
 use std::alloc::Global;
 use std::sync::Wait;
 use std::test::Fail;
@@ -21,7 +21,7 @@ fn feed_and_pump<R: Threads + Wait + Copy + Send + 'static>(
     let their = *rt;
     let reader = thread::spawn(rt, move || feed(&mut sender, &their, &frames))?;
     let mut shelf = Shelf::new(alloc, room);
-    let end = pumped(pump(&mut receiver, rt, &mut shelf));
+    let end = end_of(pump(&mut receiver, rt, &mut shelf));
     drop(receiver);
     Ok((reader.join(rt), end, shelf.count_from(0)))
 }

@@ -1,7 +1,7 @@
 //! Guests that run beside each other, and one that is dropped while a frame for it is under way.
 ghost use Rattle.std.specs.Prelude.{◌≡◌};
 
-use crate::stage::{Begun, SET_UP_EVENTS, Seen, begin, done, setting};
+use crate::stage::{Begun, SET_UP_EVENTS, Seen, begin, done, setting_of};
 use device::{Event, Reply};
 use device_lock::{LockedDevice, Share};
 use guest_memory::FlatMem;
@@ -82,7 +82,7 @@ fn gate_two_guests(rt: HostRuntime) -> Result<(), Fail> {
         &log,
         alloc,
         Blank::new(67),
-        setting(alloc, 1, 2, 71, false)?,
+        setting_of(alloc, 1, 2, 71, false)?,
         SCRIPT,
         Arc::try_clone(&gate)?,
     )?;

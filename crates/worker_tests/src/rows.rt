@@ -1,7 +1,7 @@
 //! A script whose tally is known, with room for all calls and with room for one.
 ghost use Rattle.std.specs.Prelude.{◌≡◌};
 
-use crate::stage::{Seen, done, setting};
+use crate::stage::{Seen, done, setting_of};
 use log::sink::Discard;
 use std::alloc::Global;
 use std::marker::Brand;
@@ -43,7 +43,7 @@ fn seen_of_two<L: Ledger + Send + Sync + 'static, R: Threads + Wait + Copy + Sen
     requires name { blank.name ≡ L.name }
     requires parts { (blank.parts ≡ L.parts) × (blank.parts ≡ 67) }
 {
-    let setting = setting(alloc, 0, 1, cap, has_twin)?;
+    let setting = setting_of(alloc, 0, 1, cap, has_twin)?;
     let gate = Arc::new(alloc, OpenGate)?;
     let seen = done::<L, OpenGate, R, Discard>(
         rt, &Discard, alloc, blank, setting, TWO_GUESTS, gate,

@@ -42,7 +42,7 @@ pub struct Setting {
 }
 
 /// Ports of the pools from `first` to `last`, and so many functions with memories of 4096 bytes, which has a twin or none.
-pub fn setting(
+pub fn setting_of(
     alloc: Global,
     first: u8,
     last: u8,

@@ -1,11 +1,10 @@
 //! The service makes all the calls, or two guests make theirs in threads of their own.
-ghost use Rattle.std.specs.Prelude.{◌≡◌, IfOk};
-ghost use Rattle.device_lock.specs.Made.{IsFresh};
+ghost use Rattle.std.specs.Prelude.{◌≡◌};
 
 use device::{Answer, Device, Event, MemBytes, Request};
-use device_lock::{LockedDevice, Recorded, Share, Shares};
+use device_lock::{LockedDevice, Share, Shares};
 use guest_memory::FlatMem;
-use irq_line::make;
+use lock_support::{answer, line_of, locked};
 use script::{Room, Script};
 use script_support::seeded;
 use std::alloc::Global;
@@ -56,43 +55,30 @@ fn events_of(alloc: Global, script: &Script) -> Result<Vec<Event>, Fail> {
     Ok(events)
 }
 
-// The device that a script asks for.
-fn fresh(alloc: Global, script: &Script) -> Result<Device<FlatMem>, Fail>
-    ensures { IfOk result IsFresh }
-{
+// The memories of the device that a script asks for.
+fn memories_of(alloc: Global, script: &Script) -> Result<Vec<FlatMem>, Fault> {
     let shape = script.shape();
-    let memories = memories(alloc, usize::from(shape.functions), shape.memory_size)?;
-    Ok(Device::with_limit(alloc, memories, shape.limit.get())?)
+    memories(alloc, usize::from(shape.functions), shape.memory_size)
+}
+
+// The device that a script asks for.
+fn fresh(alloc: Global, script: &Script) -> Result<Device<FlatMem>, Fault> {
+    Device::new(alloc, memories_of(alloc, script)?)
 }
 
 // The same behind a lock, with room for so many calls.
-fn locked<L: Ledger>(
+fn locked_for<L: Ledger>(
     alloc: Global,
     blank: Blank,
     script: &Script,
     cap: usize,
-) -> Result<(Arc<LockedDevice<FlatMem, L>>, Shares<L>), Fail>
+) -> Result<(Arc<LockedDevice<FlatMem, L>>, Shares<L>), Fault>
     requires name { blank.name ≡ L.name }
     requires parts { (blank.parts ≡ L.parts) × (blank.parts ≡ 67) }
 {
-    let (line, _guests) = make(alloc)?;
-    let device = fresh(alloc, script)?;
-    let (recorded, shares) = Recorded::<FlatMem, L>::new(alloc, blank, device, line, cap)?;
-    Ok((LockedDevice::new(alloc, recorded)?, shares))
-}
-
-// An event of a caller, who has to be one that may ask it.
-fn act<L: Ledger, R: Wait>(
-    rt: &R,
-    device: &LockedDevice<FlatMem, L>,
-    share: &mut Share<L>,
-    event: Event,
-) -> Option<Answer> {
-    let may = share.may(event.as_request());
-    if !may {
-        return None;
-    }
-    device.act(rt, share, event).ok()
+    let (line, _guest) = line_of(alloc, 0)?;
+    let memories = memories_of(alloc, script)?;
+    locked(alloc, blank, line, memories, None, cap)
 }
 
 // How many of the answers to a script's events in order, by `act` of the service, are those of `run`, and how many events
@@ -109,10 +95,10 @@ fn agreed<L: Ledger, R: Wait>(
     let events = events_of(alloc, script)?;
     let count = events.len();
     let wanted = fresh(alloc, script)?.run(alloc, events.as_slice())?;
-    let (device, mut shares) = locked::<L>(alloc, blank, script, count)?;
+    let (device, mut shares) = locked_for::<L>(alloc, blank, script, count)?;
     let mut same = 0usize;
     for (event, wanted) in events.into_iter().zip(wanted) {
-        if act(rt, &device, &mut shares.service, event) == Some(wanted) {
+        if answer(rt, &device, &mut shares.service, event) == Some(wanted) {
             same = same.wrapping_add(1);
         }
     }
@@ -208,7 +194,7 @@ fn meet(begun: &AtomicU64) {
     }
 }
 
-// Makes a guest's calls, and lets the others run after each.
+// Makes a guest's calls, and lets the other run after each eight of them.
 fn calls<L: Ledger, R: Wait>(rt: &R, guest: Guest<L>) -> Made {
     let Guest {
         device,
@@ -223,14 +209,16 @@ fn calls<L: Ledger, R: Wait>(rt: &R, guest: Guest<L>) -> Made {
         calls: [0; 4],
         others: 0,
     };
-    for event in events {
+    for (place, event) in events.into_iter().enumerate() {
         let kind = kind_of(event.as_request(), pool);
         let wanted = alone.step(&event);
-        if act(rt, &device, &mut share, event) != Some(wanted) {
+        if answer(rt, &device, &mut share, event) != Some(wanted) {
             made.others = made.others.wrapping_add(1);
         }
         made.add(kind);
-        thread::yield_now();
+        if place % 8 == 7 {
+            thread::yield_now();
+        }
     }
     made
 }
@@ -286,12 +274,12 @@ fn two_guests<L: Ledger + Send + Sync + 'static, R: Threads + Wait + Copy + Send
     requires name { blank.name ≡ L.name }
     requires parts { (blank.parts ≡ L.parts) × (blank.parts ≡ 67) }
 {
-    let (device, mut shares) = locked::<L>(alloc, blank, script, 1000)?;
+    let (device, mut shares) = locked_for::<L>(alloc, blank, script, 1000)?;
     let begun = Arc::new(alloc, AtomicU64::new(0))?;
     let first = shares.port(0).ok_or("no share")?;
     let second = shares.port(1).ok_or("no share")?;
-    act(&rt, &device, &mut shares.service, Event::Open(0)).ok_or("not opened")?;
-    act(&rt, &device, &mut shares.service, Event::Open(1)).ok_or("not opened")?;
+    answer(&rt, &device, &mut shares.service, Event::Open(0)).ok_or("not opened")?;
+    answer(&rt, &device, &mut shares.service, Event::Open(1)).ok_or("not opened")?;
     let mut guests = Vec::with_capacity(alloc, 2)?;
     guests.push(guest_of(alloc, script, &device, first, &begun)?)?;
     guests.push(guest_of(alloc, script, &device, second, &begun)?)?;

@@ -1,5 +1,5 @@
-//! Tests of how a script is read and its output written: bad lines, limits, readers and writers that break, memory that is
-//! refused, and the words of the command line.
+//! Tests of how a script is read and its output written: bad lines, limits, readers and writers that break, and the words of the
+//! command line.
 //!
 //! The lines that are refused, the limits and the texts come from the language's grammar and the program's manual.
 #![tactic(auto)]
@@ -16,5 +16,3 @@ mod cut;
 mod limits;
 #[cfg(test)]
 mod played;
-#[cfg(test)]
-mod refused;

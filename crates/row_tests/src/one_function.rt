@@ -58,7 +58,43 @@ const SHUT: &str = "vfs 8 65536\n\
     pw 0x8110 0\n\
     serve 3 1\n";
 
-static CASES: [(Mode, Case); 12] = [
+// A frame comes from the wire, and function 3 reads what it left.
+const ARRIVED: &str = "vfs 8 65536\n\
+    @pools\n\
+    @receiver 3\n\
+    wire 0200000000030200000000990800.00*46\n\
+    mr 3 0x1000 16\n\
+    r 3 0x101c\n\
+    r 3 0x1010\n";
+
+static CASES: [(Mode, Case); 14] = [
+    (
+        Mode::Keep(3),
+        Case {
+            name: "a_frame_from_the_wire",
+            script: ARRIVED,
+            output: "1 settings\n\
+                2 settings\n\
+                3 event\n\
+                6 settings\n\
+                7..14 event\n\
+                15 offer 0 0200000000030200000000990800{00*46}\n\
+                16..18 event\n",
+        },
+    ),
+    (
+        Mode::Lone(3),
+        Case {
+            name: "a_frame_from_the_wire",
+            script: ARRIVED,
+            output: "3 ok\n\
+                7..14 ok\n\
+                15 !3:1\n\
+                16 bytes 0000000000000000030000003c000000\n\
+                17 = 0x00000001\n\
+                18 = 0x00000001\n",
+        },
+    ),
     (
         Mode::Keep(3),
         Case {

@@ -7,5 +7,4 @@ pub mod broken;
 mod chance;
 mod clusters;
 pub mod seeded;
-pub mod sheet;
 pub mod short;

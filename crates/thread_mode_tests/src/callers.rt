@@ -1,8 +1,19 @@
 //! Who made how many calls, by scripts whose tallies are counted by hand.
 use super::played::run_threads;
-use script_support::short::Case;
+use script_support::short::{Case, long_script};
+use std::test::Fail;
 
-const CASES: [Case; 9] = [
+const CASES: [Case; 11] = [
+    Case {
+        name: "a frame without `go`: five events are of the driver of the physical function, and all others of the service",
+        script: "vfs 8 65536\n@pools\n@receiver 3\nwire 0200000000030200000000990800.00*46\nmr 3 0x1000 16\nr 3 0x101c\nr 3 0x1010\n",
+        output: "history 18\ncaller pf 5\ncaller service 13\nreplay ok\n",
+    },
+    Case {
+        name: "the same after `go`: the frame is the pump's, the last three events are the port's, and its end is recorded",
+        script: "vfs 8 65536\n@pools\n@receiver 3\ngo\nwire 0200000000030200000000990800.00*46\nmr 3 0x1000 16\nr 3 0x101c\nr 3 0x1010\n",
+        output: "history 19\ncaller port3 3\ncaller pf 5\ncaller pump 1\ncaller service 10\nreplay ok\n",
+    },
     Case {
         name: "two guests, the wire and the driver of the physical function",
         script: "vfs 2 65536\nopen 0\nopen 1\ngo\nr 0 0x10\nr 1 0x10\nr 1 0x10\nwire 0200000000000200000000990800.00*46\npr 0x51b0\n",
@@ -51,10 +62,12 @@ const CASES: [Case; 9] = [
 ];
 
 #[test]
-fn callers_are_counted(rt: HostRuntime) {
+fn callers_are_counted(rt: HostRuntime) -> Result<(), Fail> {
     for case in CASES {
-        let (result, written) = run_threads(rt, case.script.as_bytes());
+        let script = long_script(rt.alloc(), case.script)?;
+        let (result, written) = run_threads(rt, script.as_bytes());
         let is_due = written.as_slice() == case.output.as_bytes();
         assert_eq!(rt; (result, is_due), (Ok(()), true), "{}", case.name);
     }
+    Ok(())
 }

@@ -1,7 +1,6 @@
-//! Tests of the mode `threads` by whole scripts: who made how many calls, beginnings of a script, readers and writers that break,
-//! and memory that is refused.
+//! Tests of the mode `threads` by whole scripts: who made how many calls, beginnings of a script, and readers and writers that break.
 //!
-//! The calls are counted by hand. The program's own threads are the same in any order, as `replay ok` says.
+//! The calls are counted by hand: they are as many in whatever order the threads run.
 #![tactic(auto)]
 
 #[cfg(test)]
@@ -12,5 +11,3 @@ mod callers;
 mod cut;
 #[cfg(test)]
 mod played;
-#[cfg(test)]
-mod refused;

@@ -1,6 +1,7 @@
 //! A guest's calls of its open function.
 ghost use Rattle.std.specs.Prelude.{◌≡◌};
 
+use crate::stage::seated;
 use device::Event;
 use device_lock::LockedDevice;
 use guest_memory::FlatMem;
@@ -35,8 +36,7 @@ fn open_port<L: Ledger, R: Wait>(
     if answer(rt, &*device, &mut shares.service, Event::Open(3)).is_none() {
         return Err(Fail::from("not opened"));
     }
-    let share = shares.port(3).ok_or("no share")?;
-    let port = LockedPort::new(Arc::try_clone(&device)?, share, port);
+    let port = seated(&device, &mut shares, port).ok_or("no share")?;
     Ok((port, device, note))
 }
 

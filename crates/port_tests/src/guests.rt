@@ -1,6 +1,7 @@
 //! Two guests in threads of their own, whose ports are of two kinds.
 ghost use Rattle.std.specs.Prelude.{◌≡◌, []};
 
+use crate::stage::seated;
 use device::Event;
 use guest_memory::{FlatMem, GuestMem};
 use guest_port::{GuestPort, IrqPort, LockedPort, Tokens};
@@ -8,8 +9,8 @@ use irq_line::{DeviceSeat, make};
 use lock_support::{answer, locked};
 use std::alloc::Global;
 use std::marker::Brand;
+use std::sync::Wait;
 use std::sync::ledger::{Blank, Ledger};
-use std::sync::{Arc, Wait};
 use std::test::Fail;
 use std::thread;
 use std::thread::Threads;
@@ -102,9 +103,8 @@ fn serves_all<
     let mut guests = Vec::new(alloc);
     for port in ports {
         let opened = answer(&rt, &*device, &mut shares.service, Event::Open(port.pool()));
-        if opened.is_some() && port.is_open() {
-            let share = shares.port(port.pool()).ok_or("no share")?;
-            let mut port = LockedPort::new(Arc::try_clone(&device)?, share, port);
+        if opened.is_some() {
+            let mut port = seated(&device, &mut shares, port).ok_or("no share")?;
             guests.push(thread::spawn(&rt, move || is_served(&rt, &mut port))?)?;
         }
     }

@@ -8,3 +8,5 @@ mod calls;
 mod ends;
 #[cfg(test)]
 mod guests;
+#[cfg(test)]
+mod stage;

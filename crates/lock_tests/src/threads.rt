@@ -107,12 +107,12 @@ fn read_count<R: Wait, L: Ledger>(
         return None;
     }
     let mut frame = FrameBuf::blank();
-    match device
-        .act_request(rt, port, request, &mut frame, read)?
-        .outcome
-    {
-        Outcome::Bytes(span) => Some(span.count()),
-        _ => None,
+    match device.act_request(rt, port, request, &mut frame, read) {
+        Some(taken) => match taken.outcome {
+            Outcome::Bytes(span) => Some(span.count()),
+            _ => None,
+        },
+        None => None,
     }
 }
 

@@ -1,12 +1,11 @@
 //! A guest's calls of its open function.
 ghost use Rattle.std.specs.Prelude.{◌≡◌};
 
-use crate::stage::seated;
-use device::Event;
+use crate::stage::open;
 use device_lock::LockedDevice;
 use guest_memory::FlatMem;
 use guest_port::{EndNote, GuestPort, IrqPort, LockedPort};
-use lock_support::{answer, line_of, locked};
+use lock_support::{line_of, locked};
 use std::alloc::Global;
 use std::marker::Brand;
 use std::process::Abort;
@@ -33,10 +32,7 @@ fn open_port<L: Ledger, R: Wait>(
     let (port, note) = IrqPort::new(alloc, 3, seat)?;
     let memories = memories(alloc, 4, 4096)?;
     let (device, mut shares) = locked::<FlatMem, L>(alloc, blank, line, memories, None, cap)?;
-    if answer(rt, &*device, &mut shares.service, Event::Open(3)).is_none() {
-        return Err(Fail::from("not opened"));
-    }
-    let port = seated(&device, &mut shares, port).ok_or("no share")?;
+    let port = open(rt, &device, &mut shares, port).ok_or("not open")?;
     Ok((port, device, note))
 }
 

@@ -1,12 +1,11 @@
 //! Two guests in threads of their own, whose ports are of two kinds.
 ghost use Rattle.std.specs.Prelude.{◌≡◌, []};
 
-use crate::stage::seated;
-use device::Event;
+use crate::stage::open;
 use guest_memory::{FlatMem, GuestMem};
 use guest_port::{GuestPort, IrqPort, LockedPort, Tokens};
 use irq_line::{DeviceSeat, make};
-use lock_support::{answer, locked};
+use lock_support::locked;
 use std::alloc::Global;
 use std::marker::Brand;
 use std::sync::Wait;
@@ -102,11 +101,8 @@ fn serves_all<
     let (device, mut shares) = locked::<M, L>(alloc, blank, line, memories, None, 1000)?;
     let mut guests = Vec::new(alloc);
     for port in ports {
-        let opened = answer(&rt, &*device, &mut shares.service, Event::Open(port.pool()));
-        if opened.is_some() {
-            let mut port = seated(&device, &mut shares, port).ok_or("no share")?;
-            guests.push(thread::spawn(&rt, move || is_served(&rt, &mut port))?)?;
-        }
+        let mut port = open(&rt, &device, &mut shares, port).ok_or("not open")?;
+        guests.push(thread::spawn(&rt, move || is_served(&rt, &mut port))?)?;
     }
     let mut served = 0u32;
     for guest in guests {

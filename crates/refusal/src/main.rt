@@ -8,6 +8,8 @@
 //! Each line is a name and `whole`, `no memory`, `not tried`, where what it needs was not made, or `wrong`.
 #![tactic(auto)]
 
+ghost use Rattle.std.specs.Prelude.{◌≡◌};
+
 mod ending;
 mod makers;
 mod pumping;
@@ -24,7 +26,7 @@ use std::io;
 use std::io::Write;
 use std::marker::Brand;
 use std::sync::Wait;
-use std::sync::ledger::Blank;
+use std::sync::ledger::{Blank, Ledger};
 
 /// So many bytes are asked for before all memory is refused.
 const MARK: usize = 98_765_432;
@@ -61,9 +63,12 @@ fn make_all<R: Wait>(rt: &R, alloc: Global, sheet: &mut Sheet) {
 }
 
 // Makes what is to do its work without memory, asks for the mark, and has the work done.
-fn work_all<R: Wait>(rt: &R, alloc: Global, sheet: &mut Sheet) {
-    let recording = Recording::<Brand>::new(alloc, Blank::new(67));
-    let pumping = Pumping::<Brand>::new(alloc, Blank::new(67));
+fn work_all<L: Ledger, R: Wait>(rt: &R, alloc: Global, blank: Blank, sheet: &mut Sheet)
+    requires name { blank.name ≡ L.name }
+    requires parts { (blank.parts ≡ L.parts) × (blank.parts ≡ 67) }
+{
+    let recording = Recording::<L>::new(alloc, blank);
+    let pumping = Pumping::new(alloc);
     let ending = Ending::new(alloc);
     sheet.tell("mark", mark(alloc));
     recording::work(rt, recording.ok(), sheet);
@@ -74,6 +79,6 @@ fn work_all<R: Wait>(rt: &R, alloc: Global, sheet: &mut Sheet) {
 fn main(rt: HostRuntime) -> io::Result<()> {
     let mut sheet = Sheet::new();
     make_all(&rt, rt.alloc(), &mut sheet);
-    work_all(&rt, rt.alloc(), &mut sheet);
+    work_all::<Brand, HostRuntime>(&rt, rt.alloc(), Blank::new(67), &mut sheet);
     rt.stdout().write_all(sheet.text())
 }

@@ -1,52 +1,63 @@
-//! Frames that come through a channel to a device without memory.
-ghost use Rattle.std.specs.Prelude.{◌≡◌};
+//! Frames that come through a channel without memory.
+ghost use Rattle.std.specs.Prelude.{◌≡◌, ◌++◌, ◌∷◌, [], List, map, if◌then◌else◌};
+ghost use Rattle.device.specs.declared.event.Event.{Event};
+ghost use Rattle.device.specs.declared.event.Event.TheVariants.{Wire};
 
 use crate::sheet::{Came, Sheet};
-use device_lock::LockedDevice;
-use guest_memory::FlatMem;
-use lock_support::{frame_to_3, line_of, locked};
+use lock_support::frame_to_3;
 use std::alloc::Global;
-use std::sync::ledger::{Blank, Ledger};
-use std::sync::{Arc, Wait};
-use test_support::memories;
+use std::sync::Wait;
 use wire_frame::{Fault, FrameBuf};
-use wire_pump::{FeedEnd, FrameReceiver, FrameSender, LockedDoor, PumpEnd, channel, feed, pump};
+use wire_pump::{Door, FeedEnd, FrameReceiver, FrameSender, PumpEnd, channel, feed, pump};
 
-/// Three frames, the ends of a channel, and the door to a device that keeps two calls.
+// A door that keeps two frames, for which there is room.
 #[derive(Drop)]
-pub struct Pumping<L: Ledger> {
-    frames: [FrameBuf; 3],
-    sender: FrameSender,
-    receiver: FrameReceiver,
-    door: LockedDoor<FlatMem, L>,
-    device: Arc<LockedDevice<FlatMem, L>>,
+struct Shelf {
+    frames: Vec<FrameBuf>,
 }
 
-impl<L: Ledger> Pumping<L> {
-    pub fn new(alloc: Global, blank: Blank) -> Result<Pumping<L>, Fault>
-        requires name { blank.name ≡ L.name }
-        requires parts { (blank.parts ≡ L.parts) × (blank.parts ≡ 67) }
-    {
-        let frames = [frame_to_3()?, frame_to_3()?, frame_to_3()?];
+impl Door for Shelf {
+    ghost taken = { λ shelf. map Wire shelf.frames.items };
+
+    fn act<R: Wait>(&mut self, _rt: &R, frame: &FrameBuf) -> bool {
+        self.frames.len() < 2 && self.frames.push(frame.copy()).is_ok()
+    }
+}
+
+/// Three frames, the ends of a channel, and a door that takes two.
+#[derive(Drop)]
+pub struct Pumping {
+    frames: Vec<FrameBuf>,
+    sender: FrameSender,
+    receiver: FrameReceiver,
+    door: Shelf,
+}
+
+impl Pumping {
+    pub fn new(alloc: Global) -> Result<Pumping, Fault> {
         let (sender, receiver) = channel(alloc)?;
-        let memories = memories(alloc, 1, 4096)?;
-        let (line, _seat) = line_of(alloc, 0)?;
-        let (device, shares) = locked::<FlatMem, L>(alloc, blank, line, memories, None, 2)?;
-        let Ok(there) = Arc::try_clone(&device) else {
+        let (Ok(mut frames), Ok(room)) = (
+            Vec::with_capacity(alloc, 3),
+            Vec::with_capacity(alloc, 2),
+        ) else {
             return Err(Fault::NoMemory);
         };
+        for _ in 0..3u8 {
+            if frames.push(frame_to_3()?).is_err() {
+                return Err(Fault::NoMemory);
+            }
+        }
         Ok(Pumping {
             frames,
             sender,
             receiver,
-            door: LockedDoor::new(there, shares.pump),
-            device,
+            door: Shelf { frames: room },
         })
     }
 }
 
 /// The frames are fed, the door takes two, and the third is handed back.
-pub fn work<L: Ledger, R: Wait>(rt: &R, made: Option<Pumping<L>>, sheet: &mut Sheet) {
+pub fn work<R: Wait>(rt: &R, made: Option<Pumping>, sheet: &mut Sheet) {
     let came = match made {
         Some(pumping) => Came::whole(is_pumped(rt, pumping)),
         None => Came::NotTried,
@@ -54,18 +65,22 @@ pub fn work<L: Ledger, R: Wait>(rt: &R, made: Option<Pumping<L>>, sheet: &mut Sh
     sheet.tell("feed and pump", came);
 }
 
-fn is_pumped<L: Ledger, R: Wait>(rt: &R, pumping: Pumping<L>) -> bool {
+fn is_pumped<R: Wait>(rt: &R, pumping: Pumping) -> bool {
     let Pumping {
         frames,
         mut sender,
         mut receiver,
         mut door,
-        device,
     } = pumping;
     let is_fed = feed(&mut sender, rt, &frames) == FeedEnd::All;
-    let is_full = match pump(&mut receiver, rt, &mut door) {
-        PumpEnd::Full(frame) => frame.bytes() == frames[2].bytes(),
-        PumpEnd::Last | PumpEnd::Gone => false,
-    };
-    is_fed && is_full && device.kept(rt) == 2 && door.into_share().count() == 2
+    let end = pump(&mut receiver, rt, &mut door);
+    is_fed && is_third(end, &frames) && door.frames.len() == 2
+}
+
+// Whether a pump ended at the last frame.
+fn is_third(end: PumpEnd, frames: &[FrameBuf]) -> bool {
+    match (end, frames.last()) {
+        (PumpEnd::Full(frame), Some(last)) => frame.bytes() == last.bytes(),
+        _ => false,
+    }
 }

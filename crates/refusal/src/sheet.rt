@@ -1,4 +1,6 @@
 //! What came of the calls, in a text that takes no memory.
+ghost use Rattle.std.specs.Prelude.{◌≤◌, length};
+
 use std::io;
 use std::io::Write;
 use wire_frame::Fault;
@@ -70,7 +72,9 @@ impl Sheet {
     }
 
     // Puts bytes behind the text, as many as there is room for, and tells how many those are.
-    fn push(&mut self, more: &[u8]) -> usize {
+    fn push(&mut self, more: &[u8]) -> usize
+        ensures { result ≤ length more.now }
+    {
         let Some(room) = self.bytes.get_mut(self.count..) else {
             return 0;
         };

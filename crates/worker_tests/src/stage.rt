@@ -174,11 +174,12 @@ pub fn done<
     let Some(tally) = device.tally(&rt, ended.shares) else {
         return Err(Fault::NoMemory);
     };
+    let entries = tally.entries;
     Ok(Seen {
         shares: count,
         kept: device.kept(&rt),
         folded: device.folded(&rt),
-        entries: tally.entries,
+        entries,
     })
 }
 

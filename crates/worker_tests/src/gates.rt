@@ -1,7 +1,7 @@
 //! Guests that run beside each other, and one that is dropped while a frame for it is under way.
 ghost use Rattle.std.specs.Prelude.{◌≡◌};
 
-use crate::stage::{Begun, SET_UP_EVENTS, Seen, begin, done, setting_of};
+use crate::stage::{Begun, SET_UP_EVENTS, Seen, Setting, begin, done, setting_of};
 use device::{Event, Reply};
 use device_lock::{LockedDevice, Share};
 use guest_memory::FlatMem;
@@ -16,6 +16,8 @@ use std::sync::ledger::{Blank, Ledger};
 use std::sync::{Arc, Wait};
 use std::test::Fail;
 use std::thread;
+use std::thread::Threads;
+use wire_frame::Fault;
 use wire_pump::{FeedEnd, LockedDoor, PumpEnd, channel, feed, pump};
 use workers::{Gate, sweep};
 
@@ -64,6 +66,21 @@ fn are_logged(alloc: Global, lines: &[String]) -> Result<bool, Fail> {
     Ok(lines.len() == 12)
 }
 
+// What is seen of the script under the gate.
+fn hold_two<L: Ledger + Send + Sync + 'static, R: Threads + Wait + Copy + Send + 'static, O: Log>(
+    rt: R,
+    log: &O,
+    alloc: Global,
+    blank: Blank,
+    setting: Setting,
+    gate: Arc<Hold>,
+) -> Result<Seen, Fault>
+    requires name { blank.name ≡ L.name }
+    requires parts { (blank.parts ≡ L.parts) × (blank.parts ≡ 67) }
+{
+    done::<L, Hold, R, O>(rt, log, alloc, blank, setting, SCRIPT, gate)
+}
+
 // Guest 1 waits for guest 2, and both end.
 #[test]
 fn gate_two_guests(rt: HostRuntime) -> Result<(), Fail> {
@@ -77,13 +94,13 @@ fn gate_two_guests(rt: HostRuntime) -> Result<(), Fail> {
     )?;
     let sink = Sink::new(alloc);
     let log = Logged::new(rt, Level::Debug, &sink);
-    let seen = done::<Brand, Hold, HostRuntime, Logged<HostRuntime, &Sink>>(
+    let setting = setting_of(alloc, 1, 2, 71, false)?;
+    let seen = hold_two::<Brand, HostRuntime, Logged<HostRuntime, &Sink>>(
         rt,
         &log,
         alloc,
         Blank::new(67),
-        setting_of(alloc, 1, 2, 71, false)?,
-        SCRIPT,
+        setting,
         Arc::try_clone(&gate)?,
     )?;
     drop(log);

@@ -8,7 +8,6 @@ use irq_line::GuestSeat;
 use lock_support::{is_scripted, line_of, recorded, script};
 use std::alloc::Global;
 use std::marker::Brand;
-use std::process::Abort;
 use std::sync::ledger::{Blank, Ledger};
 use std::test::Fail;
 use test_support::memories;
@@ -44,38 +43,86 @@ fn handed_back(answer: Result<Answer, Full>) -> Option<u8> {
     }
 }
 
-// Two calls can be kept, and the third comes back. It has done nothing: function 1 is closed, once the base is moved, and in
-// a device that was stepped through the history.
-fn third_of_two<R: Abort, L: Ledger>(rt: &R, alloc: Global, blank: Blank) -> Result<(), Fail>
+// Whether two calls are answered, and the pool that the third would open, which comes back.
+fn asked_thrice<L: Ledger>(
+    recorded: &mut Recorded<FlatMem, L>,
+    service: &mut Share<L>,
+) -> (bool, bool, Option<u8>) {
+    let first = ask(recorded, service, Event::Open(0)).is_ok();
+    let second = ask(recorded, service, Event::VfWrite(0, 0x108, 1)).is_ok();
+    (
+        first,
+        second,
+        handed_back(ask(recorded, service, Event::Open(1))),
+    )
+}
+
+// How many calls are kept, how many were folded, and how many the service made.
+fn counts<L: Ledger>(recorded: &Recorded<FlatMem, L>, service: &Share<L>) -> (usize, u64, u64) {
+    (recorded.kept(), recorded.folded(), service.count())
+}
+
+// What three calls come to; the counts; whether another device gives the kept answers; by how many calls the base moves, and what a
+// read of function 1 is refused with then; and the counts and the other device again.
+type Third = (
+    (bool, bool, Option<u8>),
+    (usize, u64, u64),
+    bool,
+    (Option<usize>, Option<u8>),
+    (usize, u64, u64),
+    bool,
+);
+
+fn third<L: Ledger>(
+    recorded: &mut Recorded<FlatMem, L>,
+    service: &mut Share<L>,
+    other: &mut Device<FlatMem>,
+) -> Third {
+    let asked = asked_thrice(recorded, service);
+    let before = counts(recorded, service);
+    let is_replayed = recorded.replays(other);
+    let moved = recorded.rebase();
+    let closed = refused(ask(recorded, service, Event::VfRead(1, 0x101C)));
+    let after = counts(recorded, service);
+    (
+        asked,
+        before,
+        is_replayed,
+        (moved, closed),
+        after,
+        recorded.replays(other),
+    )
+}
+
+// The same of a device of which two calls are kept.
+fn third_of_two<L: Ledger>(alloc: Global, blank: Blank) -> Result<Third, Fail>
     requires name { blank.name ≡ L.name }
     requires parts { (blank.parts ≡ L.parts) × (blank.parts ≡ 67) }
 {
-    let (line, mut guest) = line_of(alloc, 0)?;
+    let (line, _guest) = line_of(alloc, 0)?;
     let live = memories(alloc, 8, 65_536)?;
     let twins = Some(memories(alloc, 8, 65_536)?);
     let mut other = Device::new(alloc, memories(alloc, 8, 65_536)?)?;
     let (mut recorded, shares) = recorded::<FlatMem, L>(alloc, blank, line, live, twins, 2)?;
     let mut service = shares.service;
-    let asked = (
-        ask(&mut recorded, &mut service, Event::Open(0)).is_ok(),
-        ask(&mut recorded, &mut service, Event::VfWrite(0, 0x108, 1)).is_ok(),
-        handed_back(ask(&mut recorded, &mut service, Event::Open(1))),
-    );
-    let before = (recorded.kept(), recorded.folded(), service.count());
-    let replayed = recorded.replays(&mut other);
-    let moved = recorded.rebase();
-    let closed = refused(ask(&mut recorded, &mut service, Event::VfRead(1, 0x101C)));
-    let after = (recorded.kept(), recorded.folded(), service.count());
-    assert_eq!(rt; asked, (true, true, Some(1)));
-    assert_eq!(rt; (before, after), ((2, 0, 2), (1, 2, 3)));
-    assert_eq!(rt; (replayed, moved, closed), (true, Some(2), Some(2)));
-    assert_eq!(rt; (recorded.replays(&mut other), guest.take()), (true, 0));
-    Ok(())
+    Ok(third(&mut recorded, &mut service, &mut other))
 }
 
+// Two calls can be kept, and the third comes back. It has done nothing: function 1 is closed, once the base is moved, and in
+// a device that was stepped through the history.
 #[test]
 fn the_third_of_two_comes_back(rt: HostRuntime) -> Result<(), Fail> {
-    third_of_two::<HostRuntime, Brand>(&rt, rt.alloc(), Blank::new(67))
+    let seen = third_of_two::<Brand>(rt.alloc(), Blank::new(67))?;
+    let due = (
+        (true, true, Some(1)),
+        (2, 0, 2),
+        true,
+        (Some(2), Some(2)),
+        (1, 2, 3),
+        true,
+    );
+    assert_eq!(rt; seen, due);
+    Ok(())
 }
 
 // The script's events, of which four calls are kept at most: where the history is full the base moves by its four,
@@ -123,9 +170,31 @@ fn service_of<L: Ledger>(
     }
 }
 
-// The whole script, of which four calls are kept at most: 18 events move the base four times. The frame's message comes once,
-// also where a base moves past the frame. A fresh device gives other answers to the last two events.
-fn moved_bases<R: Abort, L: Ledger>(rt: &R, alloc: Global, blank: Blank) -> Result<(), Fail>
+// The bases that were moved and the sum of the takes; how many calls are kept and were folded; whether another device gives the kept
+// answers; and how many calls the service made.
+type Moved = (Option<(u32, u32)>, (usize, u64), bool, Option<u64>);
+
+fn moved<L: Ledger>(
+    alloc: Global,
+    recorded: &mut Recorded<FlatMem, L>,
+    mut shares: Shares<L>,
+    guest: &mut GuestSeat,
+    other: &mut Device<FlatMem>,
+) -> Result<Moved, Fail> {
+    let events = script(alloc)?;
+    let bases = moves(recorded, &mut shares.service, guest, events);
+    let left = (recorded.kept(), recorded.folded());
+    let is_replayed = recorded.replays(other);
+    Ok((
+        bases,
+        left,
+        is_replayed,
+        service_of(alloc, recorded, shares)?,
+    ))
+}
+
+// The same of a device of which four calls are kept.
+fn moved_bases<L: Ledger>(alloc: Global, blank: Blank) -> Result<Moved, Fail>
     requires name { blank.name ≡ L.name }
     requires parts { (blank.parts ≡ L.parts) × (blank.parts ≡ 67) }
 {
@@ -133,20 +202,15 @@ fn moved_bases<R: Abort, L: Ledger>(rt: &R, alloc: Global, blank: Blank) -> Resu
     let live = memories(alloc, 8, 65_536)?;
     let twins = Some(memories(alloc, 8, 65_536)?);
     let mut other = Device::new(alloc, memories(alloc, 8, 65_536)?)?;
-    let events = script(alloc)?;
-    let (mut recorded, mut shares) = recorded::<FlatMem, L>(alloc, blank, line, live, twins, 4)?;
-    let moved = moves(&mut recorded, &mut shares.service, &mut guest, events);
-    assert_eq!(rt; moved, Some((4, 1)));
-    let replayed = recorded.replays(&mut other);
-    assert_eq!(rt;
-        (recorded.kept(), recorded.folded(), replayed),
-        (2, 16, false)
-    );
-    assert_eq!(rt; service_of(alloc, &mut recorded, shares)?, Some(18));
-    Ok(())
+    let (mut recorded, shares) = recorded::<FlatMem, L>(alloc, blank, line, live, twins, 4)?;
+    moved(alloc, &mut recorded, shares, &mut guest, &mut other)
 }
 
+// The whole script, of which four calls are kept at most: 18 events move the base four times. The frame's message comes once,
+// also where a base moves past the frame. A fresh device gives other answers to the last two events.
 #[test]
 fn the_base_moves_at_each_full_history(rt: HostRuntime) -> Result<(), Fail> {
-    moved_bases::<HostRuntime, Brand>(&rt, rt.alloc(), Blank::new(67))
+    let seen = moved_bases::<Brand>(rt.alloc(), Blank::new(67))?;
+    assert_eq!(rt; seen, (Some((4, 1)), (2, 16), false, Some(18)));
+    Ok(())
 }

@@ -4,10 +4,10 @@ ghost use Rattle.std.specs.Prelude.{◌≡◌};
 use device::{Device, Event, MemSlice, Outcome, Request};
 use device_lock::{LockedDevice, Share, Shares};
 use guest_memory::FlatMem;
+use irq_line::GuestSeat;
 use lock_support::{answer, arrival, is_scripted, line_of, locked, opening, settings};
 use std::alloc::Global;
 use std::marker::Brand;
-use std::process::Abort;
 use std::sync::ledger::{Blank, Ledger};
 use std::sync::{Arc, Wait};
 use std::test::Fail;
@@ -60,37 +60,66 @@ fn sets_while_opening<
     Ok((set, opened, pf))
 }
 
-// Once the settings are made and function 3 is open, a frame comes and is read. All calls are kept, without a twin to move the
-// base, and a fresh device gives their answers.
-fn two_threads<
-    R: Abort + Threads + Wait + Copy + Send + Sync + 'static,
-    L: Ledger + Send + Sync + 'static,
->(rt: R, alloc: Global, blank: Blank) -> Result<(), Fail>
-    requires name { blank.name ≡ L.name }
-    requires parts { (blank.parts ≡ L.parts) × (blank.parts ≡ 67) }
-{
-    let mut other = Device::new(alloc, memories(alloc, 8, 65_536)?)?;
-    let live = memories(alloc, 8, 65_536)?;
+// How many events of the driver, the service and then the frame's are answered, the guest's take, the counts of the driver's and the
+// service's calls, how many calls are kept and whether they can be folded, and whether another device gives their answers.
+type Seen = (
+    (u32, u32, u32),
+    u8,
+    (u64, u64),
+    (usize, Option<usize>),
+    bool,
+);
+
+// Once the settings are made and function 3 is open, a frame comes and is read.
+fn in_threads<R: Threads + Wait + Copy + Send + Sync + 'static, L: Ledger + Send + Sync + 'static>(
+    rt: R,
+    alloc: Global,
+    device: &Arc<LockedDevice<FlatMem, L>>,
+    shares: Shares<L>,
+    guest: &mut GuestSeat,
+    other: &mut Device<FlatMem>,
+) -> Result<Seen, Fail> {
     let arrival = arrival(alloc)?;
-    let (line, mut guest) = line_of(alloc, 3)?;
-    let (device, shares) = locked::<FlatMem, L>(alloc, blank, line, live, None, 18)?;
     let Shares {
         pf,
         mut service,
         ..
     } = shares;
-    let (set, opened, pf) = sets_while_opening(rt, alloc, &device, pf, &mut service)?;
-    let arrived = act_all(&rt, &*device, &mut service, arrival, 14);
-    assert_eq!(rt; (set, opened, arrived, guest.take()), (5, 9, 4, 1));
-    assert_eq!(rt; (pf.count(), service.count()), (5, 13));
-    assert_eq!(rt; (device.kept(&rt), device.fold(&rt)), (18, None));
-    assert!(rt; device.replays(&rt, &mut other));
-    Ok(())
+    let (set, opened, pf) = sets_while_opening(rt, alloc, device, pf, &mut service)?;
+    let arrived = act_all(&rt, &**device, &mut service, arrival, 14);
+    let taken = guest.take();
+    let left = (device.kept(&rt), device.fold(&rt));
+    Ok((
+        (set, opened, arrived),
+        taken,
+        (pf.count(), service.count()),
+        left,
+        device.replays(&rt, other),
+    ))
 }
 
+// The same of a device without a twin.
+fn two_threads<R: Threads + Wait + Copy + Send + Sync + 'static, L: Ledger + Send + Sync + 'static>(
+    rt: R,
+    alloc: Global,
+    blank: Blank,
+) -> Result<Seen, Fail>
+    requires name { blank.name ≡ L.name }
+    requires parts { (blank.parts ≡ L.parts) × (blank.parts ≡ 67) }
+{
+    let mut other = Device::new(alloc, memories(alloc, 8, 65_536)?)?;
+    let live = memories(alloc, 8, 65_536)?;
+    let (line, mut guest) = line_of(alloc, 3)?;
+    let (device, shares) = locked::<FlatMem, L>(alloc, blank, line, live, None, 18)?;
+    in_threads(rt, alloc, &device, shares, &mut guest, &mut other)
+}
+
+// All calls are kept, without a twin to move the base, and a fresh device gives their answers.
 #[test]
 fn a_driver_sets_while_the_service_opens(rt: HostRuntime) -> Result<(), Fail> {
-    two_threads::<HostRuntime, Brand>(rt, rt.alloc(), Blank::new(67))
+    let seen = two_threads::<HostRuntime, Brand>(rt, rt.alloc(), Blank::new(67))?;
+    assert_eq!(rt; seen, ((5, 9, 4), 1, (5, 13), (18, None), true));
+    Ok(())
 }
 
 // How many bytes the port of pool 3 reads from an address on, if any.
@@ -135,10 +164,35 @@ fn is_written<R: Wait, L: Ledger>(
     }
 }
 
-// A port reads nothing from a closed function. Once it is open, the port writes two bytes to the end of its memory and reads them
-// back: they stand at the front of what is handed in, and the rest stays. Nothing is read past the end of the memory. There is room
-// for five calls.
-fn reads_back<R: Abort + Wait, L: Ledger>(rt: &R, alloc: Global, blank: Blank) -> Result<(), Fail>
+// How many bytes a read of a closed function gives; whether it is opened, and two bytes are written to the end of its memory; how
+// many bytes three more reads give, over the last byte but two, past the end, and as the first, for which there is no room; and what
+// stands at the front of what is handed in.
+type Read = (Option<usize>, (bool, bool), [Option<usize>; 3], [u8; 5]);
+
+fn read_by<R: Wait, L: Ledger>(
+    rt: &R,
+    device: &LockedDevice<FlatMem, L>,
+    service: &mut Share<L>,
+    port: &mut Share<L>,
+    bytes: MemSlice<'_>,
+) -> Read {
+    let mut read = [9; 2048];
+    let closed = read_count(rt, device, port, 0, 3, &mut read);
+    let is_open = answer(rt, device, service, Event::Open(3)).is_some();
+    let is_kept = is_written(rt, device, port, 4094, bytes);
+    let inside = read_count(rt, device, port, 4093, 3, &mut read);
+    let past = read_count(rt, device, port, 4094, 3, &mut read);
+    let full = read_count(rt, device, port, 4093, 3, &mut read);
+    let front = [read[0], read[1], read[2], read[3], read[4]];
+    (closed, (is_open, is_kept), [inside, past, full], front)
+}
+
+// The same of a device of which five calls are kept, and how many the port and the service made.
+fn reads_back<R: Wait, L: Ledger>(
+    rt: &R,
+    alloc: Global,
+    blank: Blank,
+) -> Result<(Read, (u64, u64)), Fail>
     requires name { blank.name ≡ L.name }
     requires parts { (blank.parts ≡ L.parts) × (blank.parts ≡ 67) }
 {
@@ -147,22 +201,17 @@ fn reads_back<R: Abort + Wait, L: Ledger>(rt: &R, alloc: Global, blank: Blank) -
     let (line, _guest) = line_of(alloc, 3)?;
     let (device, mut shares) = locked::<FlatMem, L>(alloc, blank, line, memories, None, 5)?;
     let mut port = shares.port(3).ok_or("no share")?;
-    let mut read = [9; 2048];
-    let seen = (
-        read_count(rt, &*device, &mut port, 0, 3, &mut read),
-        answer(rt, &*device, &mut shares.service, Event::Open(3)).is_some(),
-        is_written(rt, &*device, &mut port, 4094, bytes),
-        read_count(rt, &*device, &mut port, 4093, 3, &mut read),
-        read_count(rt, &*device, &mut port, 4094, 3, &mut read),
-        read_count(rt, &*device, &mut port, 4093, 3, &mut read),
-    );
-    assert_eq!(rt; seen, (None, true, true, Some(3), None, None));
-    assert_eq!(rt; &read[..5], [0, 7, 8, 9, 9].as_slice());
-    assert_eq!(rt; (port.count(), shares.service.count()), (4, 1));
-    Ok(())
+    let mut service = shares.service;
+    let read = read_by(rt, &*device, &mut service, &mut port, bytes);
+    Ok((read, (port.count(), service.count())))
 }
 
+// A port reads nothing from a closed function. Once it is open, the port writes two bytes to the end of its memory and reads them
+// back: they stand at the front of what is handed in, and the rest stays. Nothing is read past the end of the memory.
 #[test]
 fn a_port_reads_back_what_it_wrote(rt: HostRuntime) -> Result<(), Fail> {
-    reads_back::<HostRuntime, Brand>(&rt, rt.alloc(), Blank::new(67))
+    let seen = reads_back::<HostRuntime, Brand>(&rt, rt.alloc(), Blank::new(67))?;
+    let due = (None, (true, true), [Some(3), None, None], [0, 7, 8, 9, 9]);
+    assert_eq!(rt; seen, (due, (4, 1)));
+    Ok(())
 }

@@ -8,7 +8,6 @@ use guest_port::{EndNote, GuestPort, IrqPort, LockedPort};
 use lock_support::{line_of, locked};
 use std::alloc::Global;
 use std::marker::Brand;
-use std::process::Abort;
 use std::sync::ledger::{Blank, Ledger};
 use std::sync::{Arc, Wait};
 use std::test::Fail;
@@ -44,128 +43,173 @@ fn byte_at<L: Ledger, R: Wait>(rt: &R, port: &mut Port<L>, address: u64) -> Resu
     }
 }
 
-// What a guest writes to its open function it reads back, until a reset. VTEIMS (0x108) keeps what is written to it.
-fn assert_reads_back<L: Ledger, R: Wait + Abort>(rt: &R, port: &mut Port<L>) {
+// What a guest's writes to a register, which keeps what is written (VTEIMS, 0x108), and to its memory come to, with what it reads then,
+// also into two bytes; and a reset, with what it reads of the register after it.
+type ReadBack = (
+    (Result<(), Fault>, Result<u32, Fault>),
+    (Result<(), Fault>, Result<u8, Fault>),
+    (Result<(), Fault>, [u8; 2]),
+    (Result<(), Fault>, Result<u32, Fault>),
+);
+
+fn reads_back<L: Ledger, R: Wait>(rt: &R, port: &mut Port<L>) -> ReadBack {
     let mut two = [1, 1];
-    let kept = (port.reg_write(rt, 0x108, 7), port.reg_read(rt, 0x108));
-    let written = (port.mem_write(rt, 0, &[0xAA]), byte_at(rt, port, 0));
-    let read = (port.mem_read_into(rt, 0, &mut two), two);
+    let register = (port.reg_write(rt, 0x108, 7), port.reg_read(rt, 0x108));
+    let memory = (port.mem_write(rt, 0, &[0xAA]), byte_at(rt, port, 0));
+    let read = port.mem_read_into(rt, 0, &mut two);
     let reset = (port.flr(rt), port.reg_read(rt, 0x108));
-    assert_eq!(rt; (kept, written), ((Ok(()), Ok(7)), (Ok(()), Ok(0xAA))));
-    assert_eq!(rt; (read, reset), ((Ok(()), [0xAA, 0]), (Ok(()), Ok(0))));
+    (register, memory, (read, two), reset)
 }
 
-fn reads_back<L: Ledger, R: Wait + Abort>(rt: &R, alloc: Global, blank: Blank) -> Result<(), Fail>
+// The same of a port on a device, and how many calls are kept.
+fn opened_reads<L: Ledger, R: Wait>(
+    rt: &R,
+    alloc: Global,
+    blank: Blank,
+) -> Result<(ReadBack, usize), Fail>
     requires name { blank.name ≡ L.name }
     requires parts { (blank.parts ≡ L.parts) × (blank.parts ≡ 67) }
 {
     let (mut port, device, _note) = open_port::<L, R>(rt, alloc, blank, 16)?;
-    assert_reads_back(rt, &mut port);
-    assert_eq!(rt; device.kept(rt), 8);
+    Ok((reads_back(rt, &mut port), device.kept(rt)))
+}
+
+// What a guest writes it reads back, until a reset.
+#[test]
+fn port_reads_back(rt: HostRuntime) -> Result<(), Fail> {
+    let seen = opened_reads::<Brand, HostRuntime>(&rt, rt.alloc(), Blank::new(67))?;
+    let due = (
+        (Ok(()), Ok(7)),
+        (Ok(()), Ok(0xAA)),
+        (Ok(()), [0xAA, 0]),
+        (Ok(()), Ok(0)),
+    );
+    assert_eq!(rt; seen, (due, 8));
     Ok(())
 }
 
-#[test]
-fn port_reads_back(rt: HostRuntime) -> Result<(), Fail> {
-    reads_back::<Brand, HostRuntime>(&rt, rt.alloc(), Blank::new(67))
+// With what six calls are refused: a read and a write of an offset that no register has, a read, a write and a read into two bytes
+// past the end of the memory, and a read of too many bytes; and what stands in the two bytes.
+fn refused<L: Ledger, R: Wait>(rt: &R, port: &mut Port<L>) -> ([Option<Fault>; 6], [u8; 2]) {
+    let mut two = [1, 2];
+    let faults = [
+        port.reg_read(rt, 0x4000).err(),
+        port.reg_write(rt, 0x101, 0).err(),
+        port.mem_read(rt, 4095, 2).err(),
+        port.mem_write(rt, 4095, &[1, 2]).err(),
+        port.mem_read_into(rt, 4095, &mut two).err(),
+        port.mem_read(rt, 4095, 2049).err(),
+    ];
+    (faults, two)
 }
 
-// Refused events are kept and count as calls made.
-fn assert_refused<L: Ledger, R: Wait + Abort>(rt: &R, port: &mut Port<L>) {
-    let mut two = [1, 2];
-    let registers = (port.reg_read(rt, 0x4000), port.reg_write(rt, 0x101, 0));
-    let memory = (
-        port.mem_read(rt, 4095, 2).err(),
-        port.mem_write(rt, 4095, &[1, 2]),
-        port.mem_read(rt, 4095, 2049).err(),
-    );
-    let read = (port.mem_read_into(rt, 4095, &mut two), two);
-    assert_eq!(rt; registers, (Err(Fault::BadOffset), Err(Fault::BadOffset)));
-    assert_eq!(rt;
-        memory,
-        (
-            Some(Fault::BadRange),
-            Err(Fault::BadRange),
-            Some(Fault::TooLong)
-        )
-    );
-    assert_eq!(rt; read, (Err(Fault::BadRange), [1, 2]), "nothing is read");
-}
+const REFUSED: [Option<Fault>; 6] = [
+    Some(Fault::BadOffset),
+    Some(Fault::BadOffset),
+    Some(Fault::BadRange),
+    Some(Fault::BadRange),
+    Some(Fault::BadRange),
+    Some(Fault::TooLong),
+];
 
 // What comes of more than 2048 bytes that the guest hands in, which are no event.
-fn too_long<L: Ledger, R: Wait>(
-    rt: &R,
-    port: &mut Port<L>,
-) -> (Result<(), Fault>, Result<(), Fault>) {
+fn too_long<L: Ledger, R: Wait>(rt: &R, port: &mut Port<L>) -> [Option<Fault>; 2] {
     let mut many = [1; 2049];
-    let written = port.mem_write(rt, 4095, &many);
-    (written, port.mem_read_into(rt, 4095, &mut many))
+    let written = port.mem_write(rt, 4095, &many).err();
+    [written, port.mem_read_into(rt, 4095, &mut many).err()]
 }
 
-// The history has room for the six refused calls, beside the one that opened the function, and keeps no call more.
-fn refuses<L: Ledger, R: Wait + Abort>(rt: &R, alloc: Global, blank: Blank) -> Result<(), Fail>
+// What is refused before the six calls, and how many calls are kept; what these are refused with, and how many are kept; what is
+// refused then; and what is once the port has ended.
+type Full = (
+    ([Option<Fault>; 2], usize),
+    (([Option<Fault>; 6], [u8; 2]), usize),
+    (Option<Fault>, [Option<Fault>; 2]),
+    [Option<Fault>; 2],
+);
+
+fn fills<L: Ledger, R: Wait>(
+    rt: &R,
+    device: &LockedDevice<FlatMem, L>,
+    port: &mut Port<L>,
+) -> Full {
+    let long = (too_long(rt, port), device.kept(rt));
+    let made = (refused(rt, port), device.kept(rt));
+    let full = (port.reg_read(rt, 0x10).err(), too_long(rt, port));
+    port.end();
+    (long, made, full, too_long(rt, port))
+}
+
+// The same of a port on a device with room for seven calls, and how many its share made.
+fn opened_fills<L: Ledger, R: Wait>(
+    rt: &R,
+    alloc: Global,
+    blank: Blank,
+) -> Result<(Full, u64), Fail>
     requires name { blank.name ≡ L.name }
     requires parts { (blank.parts ≡ L.parts) × (blank.parts ≡ 67) }
 {
     let (mut port, device, _note) = open_port::<L, R>(rt, alloc, blank, 7)?;
-    let long = (too_long(rt, &mut port), device.kept(rt));
-    assert_refused(rt, &mut port);
-    let full = (
-        device.kept(rt),
-        port.reg_read(rt, 0x10),
-        too_long(rt, &mut port),
-    );
-    port.end();
-    let ended = too_long(rt, &mut port);
+    let full = fills(rt, &*device, &mut port);
     let (share, _tokens) = port.close().ok_or("no share")?;
-    let refused = (Err(Fault::TooLong), Err(Fault::TooLong));
-    assert_eq!(rt;
-        (long, full),
-        ((refused, 1), (7, Err(Fault::HistoryFull), refused))
+    Ok((full, share.count()))
+}
+
+// Refused events are kept and count as calls made; beside the one that opened the function there is room for six, and no call more.
+#[test]
+fn refused_calls_are_kept(rt: HostRuntime) -> Result<(), Fail> {
+    let seen = opened_fills::<Brand, HostRuntime>(&rt, rt.alloc(), Blank::new(67))?;
+    let long = [Some(Fault::TooLong), Some(Fault::TooLong)];
+    let due = (
+        (long, 1),
+        ((REFUSED, [1, 2]), 7),
+        (Some(Fault::HistoryFull), long),
+        [Some(Fault::NotOpen), Some(Fault::NotOpen)],
     );
-    assert_eq!(rt; ended, (Err(Fault::NotOpen), Err(Fault::NotOpen)));
-    assert_eq!(rt; share.count(), 6);
+    assert_eq!(rt; seen, (due, 6));
     Ok(())
 }
 
-#[test]
-fn refused_calls_are_kept(rt: HostRuntime) -> Result<(), Fail> {
-    refuses::<Brand, HostRuntime>(&rt, rt.alloc(), Blank::new(67))
-}
+// What a port peeks and takes twice once vector 0 is enabled and raised by VTEIMS (0x108) and VTEICS (0x104); whether its note knows
+// the end, and what a reset is refused with, before its end, after it, and once it is closed; and the caller, the calls and the pool
+// of what it hands back.
+type Closed = ([u8; 3], [(bool, Option<Fault>); 2], (u8, u64, u8));
 
-// Vector 0 is enabled and raised by VTEIMS (0x108) and VTEICS (0x104); the guest peeks and takes it once.
-fn assert_takes<L: Ledger, R: Wait + Abort>(rt: &R, port: &mut Port<L>) {
-    let written = (port.reg_write(rt, 0x108, 1), port.reg_write(rt, 0x104, 3));
+fn closes<L: Ledger, R: Wait>(rt: &R, port: &mut Port<L>, note: &mut EndNote) -> Option<Closed> {
+    port.reg_write(rt, 0x108, 1).ok()?;
+    port.reg_write(rt, 0x104, 3).ok()?;
     let taken = [port.peek_irqs(), port.take_irqs(), port.take_irqs()];
-    assert_eq!(rt; (written, taken), ((Ok(()), Ok(())), [1, 1, 0]));
+    if note.ended() {
+        return None;
+    }
+    port.end();
+    let ended = (note.ended(), port.flr(rt).err());
+    let (share, tokens) = port.close()?;
+    let closed = (port.close().is_some(), port.flr(rt).err());
+    let handed = (share.caller(), share.count(), tokens.seat.pool());
+    Some((taken, [ended, closed], handed))
 }
 
-// A port that has ended makes no call, nor once it is closed; it closes once, and its share counted two calls.
-fn closes<L: Ledger, R: Wait + Abort>(rt: &R, alloc: Global, blank: Blank) -> Result<(), Fail>
+// The same of a port on a device, and how many calls are kept.
+fn opened_closes<L: Ledger, R: Wait>(
+    rt: &R,
+    alloc: Global,
+    blank: Blank,
+) -> Result<(Option<Closed>, usize), Fail>
     requires name { blank.name ≡ L.name }
     requires parts { (blank.parts ≡ L.parts) × (blank.parts ≡ 67) }
 {
     let (mut port, device, mut note) = open_port::<L, R>(rt, alloc, blank, 4)?;
-    assert_takes(rt, &mut port);
-    let before = note.ended();
-    port.end();
-    let ended = (port.is_open(), port.flr(rt), note.ended());
-    let (share, tokens) = port.close().ok_or("no share")?;
-    let closed = (port.close().is_some(), port.flr(rt), port.take_irqs());
-    assert_eq!(rt;
-        (before, ended),
-        (false, (false, Err(Fault::NotOpen), true))
-    );
-    assert_eq!(rt; closed, (false, Err(Fault::NotOpen), 0));
-    assert_eq!(rt;
-        (share.caller(), share.count(), tokens.seat.pool()),
-        (3, 2, 3)
-    );
-    assert_eq!(rt; device.kept(rt), 3);
-    Ok(())
+    let closed = closes(rt, &mut port, &mut note);
+    Ok((closed, device.kept(rt)))
 }
 
+// A port that has ended makes no call, nor once it is closed; it closes once, and its share counted two calls.
 #[test]
 fn an_ended_port_makes_no_call(rt: HostRuntime) -> Result<(), Fail> {
-    closes::<Brand, HostRuntime>(&rt, rt.alloc(), Blank::new(67))
+    let seen = opened_closes::<Brand, HostRuntime>(&rt, rt.alloc(), Blank::new(67))?;
+    let refused = Some(Fault::NotOpen);
+    let due = ([1, 1, 0], [(true, refused), (false, refused)], (3, 2, 3));
+    assert_eq!(rt; seen, (Some(due), 3));
+    Ok(())
 }

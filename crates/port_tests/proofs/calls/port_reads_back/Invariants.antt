@@ -1,5 +1,5 @@
 -- The ledger is the one that the blank stands for.
 use Rattle.port_tests.proofs.calls.port_reads_back.Given as goal
 
-abbrev pub ghosts-reads_back : goal.ghosts-reads_back
-ghosts-reads_back g a = record { name = a.blank.name; parts = a.blank.parts }
+abbrev pub ghosts-opened_reads : goal.ghosts-opened_reads
+ghosts-opened_reads g a = record { name = a.blank.name; parts = a.blank.parts }

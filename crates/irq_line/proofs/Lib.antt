@@ -1,3 +1,4 @@
 mod Keeps
 mod Places
+mod Story
 mod Word

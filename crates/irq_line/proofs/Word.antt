@@ -8,8 +8,9 @@ use Rattle.std.proofs.Math.Nat.{sub-add-eq-max, max_comm}
 use mathlib.Core.Logic.{dite}
 use native.Mathlib.Decide.{dec_le}
 use Rattle.irq_line.specs.declared.views.Raise.{Raise}
-use Rattle.irq_line.specs.declared.views.GuestView.{GuestView}
-use Rattle.irq_line.specs.Line.{raise_of, bit_for, raised, landed, IsWord, new_guest, after_take, after_peek}
+use Rattle.irq_line.specs.declared.views.GuestRecord.{GuestRecord}
+use Rattle.irq_line.specs.Line.{raise_of, bit_for, raised, landed, Raising, Taking, raises_for, IsWord, idle_guest, after_take, after_peek}
+use Rattle.irq_line.proofs.Story.{story_raised, story_spared, story_taken, story_peeked, story_begins}
 
 bit_here : (p v m : ℕ) → bit_for p v p m ≡ bit_at m v
 bit_here p v m = rw (eq-eqb p p refl) refl
@@ -28,9 +29,11 @@ bit_gained : (w m v : ℕ) → bit_at (bit_or w m) v ≡ bit_at w v + (bit_at m 
 bit_gained w m v = let e = sub-add-eq-max (bit_at m v) (bit_at w v) in let c = max_comm (bit_at w v) (bit_at m v) in let o = bit_at_or w m v in omega arith
 
 -- the raise of a mask for the pool
-pub word_raised : (p w m : ℕ) (raises : List Raise) (g : GuestView) → m < 8 → IsWord p w raises g → IsWord p (bit_or w m) (raises ++ raise_of p m w ∷ []) g
+pub word_raised : (p w m : ℕ) (raises : List Raise) (g : GuestRecord) → m < 8 → IsWord p w raises g → IsWord p (bit_or w m) (raises ++ raise_of p m w ∷ []) g
 word_raised p w m raises g small h = record {
   below = or_lt 3 w m h.below small;
+  story = h.story ++ Raising (raise_of p m w) ∷ [];
+  told = story_raised p w m raises g h.story h.told;
   balance = λ v. let b = h.balance v in let t = new v in omega arith;
   at_most = λ v. let a = h.at_most v in let t = new v in omega arith;
   at_least = λ v some. dite (dec_le 1 (raised p v raises))
@@ -43,9 +46,11 @@ word_raised p w m raises g small h = record {
     new v = let e = bit_here p v m in (omega (arith, raised_push p v raises p m w), omega (arith, landed_push p v raises p m w), bit_gained w m v)
 
 -- a raise for another pool
-pub word_spared : (p w q m found : ℕ) (raises : List Raise) (g : GuestView) → q ≢ p → IsWord p w raises g → IsWord p w (raises ++ raise_of q m found ∷ []) g
+pub word_spared : (p w q m found : ℕ) (raises : List Raise) (g : GuestRecord) → q ≢ p → IsWord p w raises g → IsWord p w (raises ++ raise_of q m found ∷ []) g
 word_spared p w q m found raises g apart h = record {
   below = h.below;
+  story = h.story;
+  told = story_spared p w q m found raises g h.story apart h.told;
   balance = λ v. (same v).1 ∙ h.balance v;
   at_most = λ v. let a = h.at_most v in let t = same v in omega arith;
   at_least = λ v some. let t = same v in let before : 0 < raised p v raises = omega arith in let a = h.at_least v before in omega arith;
@@ -55,27 +60,33 @@ word_spared p w q m found raises g apart h = record {
     same : (v : ℕ) → (raised p v (raises ++ raise_of q m found ∷ []) ≡ raised p v raises) × (landed p v (raises ++ raise_of q m found ∷ []) ≡ landed p v raises)
     same v = let none = bit_elsewhere p v q m apart in (omega (arith, raised_push p v raises q m found), omega (arith, landed_push p v raises q m found))
 
-pub word_taken : (p w : ℕ) (raises : List Raise) (g : GuestView) → IsWord p w raises g → IsWord p 0 raises (after_take g w)
+pub word_taken : (p w : ℕ) (raises : List Raise) (g : GuestRecord) → IsWord p w raises g → IsWord p 0 raises (record { did = after_take g.did w; seen = raises_for p raises })
 word_taken p w raises g h = record {
   below = omega arith;
-  balance = λ v. let b = h.balance v in let none = bit_at-zero v in omega (arith, sum_by_push (λ (answer : ℕ). bit_at answer v) g.takes w);
+  story = h.story ++ Taking w ∷ [];
+  told = story_taken p w raises g h.story h.told;
+  balance = λ v. let b = h.balance v in let none = bit_at-zero v in omega (arith, sum_by_push (λ (answer : ℕ). bit_at answer v) g.did.takes w);
   at_most = h.at_most;
   at_least = h.at_least;
   peeked = λ v. le_refl _;
 }
 
-pub word_peeked : (p w : ℕ) (raises : List Raise) (g : GuestView) → IsWord p w raises g → IsWord p w raises (after_peek g w)
+pub word_peeked : (p w : ℕ) (raises : List Raise) (g : GuestRecord) → IsWord p w raises g → IsWord p w raises (record g { did = after_peek g.did w })
 word_peeked p w raises g h = record {
   below = h.below;
+  story = h.story;
+  told = story_peeked p w raises g h.story h.told;
   balance = h.balance;
   at_most = h.at_most;
   at_least = h.at_least;
-  peeked = λ v. let a = h.peeked v in let e = bit_gained g.peeked w v in omega arith;
+  peeked = λ v. let a = h.peeked v in let e = bit_gained g.did.peeked w v in omega arith;
 }
 
-pub word_made : (p w : ℕ) → w ≡ 0 → IsWord p w [] (new_guest p)
+pub word_made : (p w : ℕ) → w ≡ 0 → IsWord p w [] (idle_guest p)
 word_made p w clear = rw clear record {
   below = omega arith;
+  story = [];
+  told = story_begins p;
   balance = λ v. let none = bit_at-zero v in omega arith;
   at_most = λ v. le_refl 0;
   at_least = λ v some. absurd (omega arith);

@@ -1,13 +1,14 @@
 -- The interrupt line: for each of 64 pools a word, whose bit v is 1 while a message of vector v stands for the pool's guest.
 -- The device raises messages and the guest takes them. What a seat did itself is its view, and the rule ties the words to
 -- the views.
-use Rattle.std.specs.Prelude.{◌≡◌, ℕ, ◌+◌, ◌-◌, ◌<◌, ◌≤◌, ◌==◌, if◌then◌else◌, List, [], ◌∷◌, ◌++◌, map, length, slice_index, slice_index_or, bit_or}
+use Rattle.std.specs.Prelude.{◌≡◌, ℕ, ◌+◌, ◌-◌, ◌<◌, ◌≤◌, ◌==◌, if◌then◌else◌, ◌⊎◌, List, [], ◌∷◌, ◌++◌, map, filter, length, slice_index, slice_index_or, bit_or}
 use Rattle.std.specs.Int.{bit_at}
 use Rattle.std.specs.List.{sum_by}
 use Rattle.atomic_table.specs.Table.{State, Me, Step}
 use Rattle.atomic_table.specs.Seated.{TableId}
 use Rattle.irq_line.specs.declared.views.Raise.{Raise}
 use Rattle.irq_line.specs.declared.views.GuestView.{GuestView}
+use Rattle.irq_line.specs.declared.views.GuestRecord.{GuestRecord}
 use Rattle.irq_line.specs.declared.views.View.{View}
 use Rattle.irq_line.specs.declared.views.View.TheVariants.{Device, Guest}
 
@@ -37,26 +38,83 @@ answered vector takes = sum_by (λ answer. bit_at answer vector) takes
 abbrev pub StandsIn : ℕ → ℕ → Type 0
 StandsIn bits word = (vector : ℕ) → bit_at bits vector ≤ bit_at word vector
 
+-- ---- what was done to a word, in one order
+
+-- a raise, with the word that it found, or a take, with the word that it answered
+pub data Deed : Type 0 where
+  Raising : (raise : Raise) → Deed
+  Taking : (answer : ℕ) → Deed
+
+-- the raises of a story, in order
+abbrev pub raises_in : List Deed → List Raise
+raises_in [] = []
+raises_in (Raising raise ∷ deeds) = raise ∷ raises_in deeds
+raises_in (Taking answer ∷ deeds) = raises_in deeds
+
+-- the answers of its takes, in order
+abbrev pub takes_in : List Deed → List ℕ
+takes_in [] = []
+takes_in (Raising raise ∷ deeds) = takes_in deeds
+takes_in (Taking answer ∷ deeds) = answer ∷ takes_in deeds
+
+-- the raises after its last take, or, where it has none, these and all of its own
+abbrev pub raises_since : List Raise → List Deed → List Raise
+raises_since raises [] = raises
+raises_since raises (Raising raise ∷ deeds) = raises_since (raises ++ raise ∷ []) deeds
+raises_since raises (Taking answer ∷ deeds) = raises_since [] deeds
+
+-- replayed on one word, the deeds end in another: each found the word that stood, a raise added its vectors to it, a take left 0
+abbrev pub Replays : ℕ → List Deed → ℕ → Type 0
+Replays word [] last = word ≡ last
+Replays word (Raising raise ∷ deeds) last = (raise.found ≡ word) × Replays (bit_or word raise.mask) deeds last
+Replays word (Taking answer ∷ deeds) last = (answer ≡ word) × Replays 0 deeds last
+
+-- the raises for a pool, in order
+abbrev pub raises_for : ℕ → List Raise → List Raise
+raises_for pool raises = filter (λ r. r.pool == pool) raises
+
+-- the story of a pool's word
+pub record IsStory (pool word : ℕ) (raises : List Raise) (guest : GuestRecord) (story : List Deed) : Type 0 where
+  -- it has the raises for the pool and the takes of its guest, each once and in order
+  pub all_raises : raises_in story ≡ raises_for pool raises
+  pub all_takes : takes_in story ≡ guest.did.takes
+  -- a raise that the last take has not seen stands after it
+  pub in_order : raises_for pool raises ≡ guest.seen ++ raises_since [] story
+  -- replayed on 0, it ends in the word
+  pub ends : Replays 0 story word
+
+-- wherever a raise of the vector stands in a story, the vector stands in the word, or a take after the raise answered it
+abbrev pub StandsOrTaken : ℕ → List Deed → ℕ → Type 0
+StandsOrTaken vector story word =
+    (before after : List Deed) (raise : Raise) → story ≡ before ++ Raising raise ∷ after → bit_at raise.mask vector ≡ 1
+    → (bit_at word vector ≡ 1) ⊎ (0 < answered vector (takes_in after))
+
 -- ---- the rule
 
 -- the word of a pool
-pub record IsWord (pool word : ℕ) (raises : List Raise) (guest : GuestView) : Type 0 where
+pub record IsWord (pool word : ℕ) (raises : List Raise) (guest : GuestRecord) : Type 0 where
   pub below : word < 8
+  -- what was done to it, in one order
+  pub story : List Deed
+  pub told : IsStory pool word raises guest story
   -- each raise that landed was answered by a take of its own, but for the one whose bit stands
-  pub balance : (v : ℕ) → landed pool v raises ≡ bit_at word v + answered v guest.takes
+  pub balance : (v : ℕ) → landed pool v raises ≡ bit_at word v + answered v guest.did.takes
   pub at_most : (v : ℕ) → landed pool v raises ≤ raised pool v raises
   -- of the raises that were made, one landed at least
   pub at_least : (v : ℕ) → 0 < raised pool v raises → 0 < landed pool v raises
   -- what was peeked stands
-  pub peeked : StandsIn guest.peeked word
+  pub peeked : StandsIn guest.did.peeked word
 
 -- a guest that has done nothing
 abbrev pub new_guest : ℕ → GuestView
 new_guest pool = record { pool = pool; takes = []; peeked = 0 }
 
--- the view of the guest of a pool, which has done nothing while it has no seat
-abbrev pub guest_of : List GuestView → ℕ → GuestView
-guest_of guests pool = slice_index_or guests pool (new_guest pool)
+abbrev pub idle_guest : ℕ → GuestRecord
+idle_guest pool = record { did = new_guest pool; seen = [] }
+
+-- what the guest of a pool knows, which has done nothing while it has no seat
+abbrev pub guest_of : List GuestRecord → ℕ → GuestRecord
+guest_of guests pool = slice_index_or guests pool (idle_guest pool)
 
 -- the words, and the views in the order of the seats
 abbrev pub LineState : Type 0
@@ -66,9 +124,9 @@ LineState = State (Unit {0}) View
 -- and each of the 64 words fits the device's raises and the view of the pool's guest
 pub record IsLine (line : LineState) : Type 0 where
   pub raises : List Raise
-  pub guests : List GuestView
+  pub guests : List GuestRecord
   pub seats : line.views ≡ Device raises (length guests) ∷ map Guest guests
-  pub pools : (p : ℕ) → (guest_of guests p).pool ≡ p
+  pub pools : (p : ℕ) → (guest_of guests p).did.pool ≡ p
   pub size : length line.words ≡ 64
   pub words : (p : ℕ) → p < 64 → IsWord p (slice_index line.words p) raises (guest_of guests p)
 
@@ -88,8 +146,8 @@ seated_of (Device raises seated) = seated
 seated_of (Guest guest) = 0
 
 -- what the view of a guest's seat has; that of the device's seat is no pool's
-abbrev pub guest_in : View → GuestView
-guest_in (Device raises seated) = new_guest 64
+abbrev pub guest_in : View → GuestRecord
+guest_in (Device raises seated) = idle_guest 64
 guest_in (Guest guest) = guest
 
 -- a raise (`fetch_or` of a mask): the view has one raise more
@@ -98,14 +156,16 @@ IsRaise step before found after =
     (found < 8)
     × (after ≡ (Device (raises_of before.0 ++ raise_of step.word step.first found ∷ []) (seated_of before.0), before.1))
 
--- a take (`swap` with 0): the view has one take more, which answered the word, and nothing is peeked any more
+-- a take (`swap` with 0): the view has one take more, which answered the word, and nothing is peeked any more. The seat knows the
+-- raises that were made by then
 abbrev pub after_take : GuestView → ℕ → GuestView
 after_take guest answer = record guest { takes = guest.takes ++ answer ∷ []; peeked = 0 }
 
 abbrev pub IsTake : Step (Unit {0}) → SeatState → ℕ → SeatState → Type 0
 IsTake step before found after =
-    (found < 8) × StandsIn (guest_in before.0).peeked found
-    × (after ≡ (Guest (after_take (guest_in before.0) found), before.1))
+    (found < 8) × StandsIn (guest_in before.0).did.peeked found
+    × ((seen : List Raise)
+    × (after ≡ (Guest (record { did = after_take (guest_in before.0).did found; seen = seen }), before.1)))
 
 -- a peek (`load`): the bits of the word join the peeked ones
 abbrev pub after_peek : GuestView → ℕ → GuestView
@@ -113,15 +173,15 @@ after_peek guest answer = record guest { peeked = bit_or guest.peeked answer }
 
 abbrev pub IsPeek : Step (Unit {0}) → SeatState → ℕ → SeatState → Type 0
 IsPeek step before found after =
-    (found < 8) × StandsIn (guest_in before.0).peeked found
-    × (after ≡ (Guest (after_peek (guest_in before.0) found), before.1))
+    (found < 8) × StandsIn (guest_in before.0).did.peeked found
+    × (after ≡ (Guest (record (guest_in before.0) { did = after_peek (guest_in before.0).did found }), before.1))
 
 -- while the line is made, the seat of the next pool is handed out, which touches no word
 abbrev pub one_more_seated : View → View
 one_more_seated view = Device (raises_of view) (seated_of view + 1)
 
 abbrev pub next_guest : View → View
-next_guest view = Guest (new_guest (seated_of view))
+next_guest view = Guest (idle_guest (seated_of view))
 
 -- ---- what contracts see of a seat: which line it is of, and its raises or its view
 

@@ -51,11 +51,11 @@ impl Model for GuestSeat {
     ghost use Rattle.irq_line.specs.declared.views.View.TheVariants.{Guest};
     ghost use Rattle.irq_line.specs.Line.{guest_in};
 
-    ghost view = { λ s. record { line = s.seat.table_id; view = guest_in s.seat.me.0 } };
+    ghost view = { λ s. record { line = s.seat.table_id; view = (guest_in s.seat.me.0).did } };
 
     ghost invariant = { λ s. (s.seat.table_id ≡ (arc_value s.line).shared.table_id)
         × (s.seat.table_id.words ≡ 64) × (s.seat.me ≡ (Guest (guest_in s.seat.me.0), []))
-        × ((guest_in s.seat.me.0).pool ≡ s.pool) × (s.pool < 64) };
+        × ((guest_in s.seat.me.0).did.pool ≡ s.pool) × (s.pool < 64) };
 }
 
 impl DeviceSeat {

@@ -21,10 +21,18 @@ pub struct GuestView {
     pub peeked: u8,
 }
 
+/// What a guest's seat knows.
+pub struct GuestRecord {
+    /// What it did.
+    pub did: GuestView,
+    /// The raises for its pool that were made when it last took.
+    pub seen: LinkedList<Raise>,
+}
+
 /// What a seat knows.
 pub enum View {
     /// The device's seat: its raises, in order, and how many guests have a seat.
     Device(LinkedList<Raise>, u8),
     /// A guest's seat.
-    Guest(GuestView),
+    Guest(GuestRecord),
 }

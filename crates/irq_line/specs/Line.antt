@@ -1,7 +1,7 @@
 -- The interrupt line: for each of 64 pools a word, whose bit v is 1 while a message of vector v stands for the pool's guest.
 -- The device raises messages and the guest takes them. What a seat did itself is its view, and the rule ties the words to
 -- the views.
-use Rattle.std.specs.Prelude.{◌≡◌, ℕ, ◌+◌, ◌-◌, ◌<◌, ◌≤◌, ◌==◌, if◌then◌else◌, ◌⊎◌, List, [], ◌∷◌, ◌++◌, map, filter, length, slice_index, slice_index_or, bit_or}
+use Rattle.std.specs.Prelude.{◌≡◌, ℕ, ◌+◌, ◌-◌, ◌<◌, ◌≤◌, ◌==◌, if◌then◌else◌, ◌⊎◌, List, [], ◌∷◌, ◌++◌, filter, flat_map, length, slice_index, slice_index_or, bit_or}
 use Rattle.std.specs.Int.{bit_at}
 use Rattle.std.specs.List.{sum_by}
 use Rattle.atomic_table.specs.Table.{State, Me, Step}
@@ -10,7 +10,7 @@ use Rattle.irq_line.specs.declared.views.Raise.{Raise}
 use Rattle.irq_line.specs.declared.views.GuestView.{GuestView}
 use Rattle.irq_line.specs.declared.views.GuestRecord.{GuestRecord}
 use Rattle.irq_line.specs.declared.views.View.{View}
-use Rattle.irq_line.specs.declared.views.View.TheVariants.{Device, Guest}
+use Rattle.irq_line.specs.declared.views.View.TheVariants.{Device, Guest, Both, Spent}
 
 -- ---- what the views tell, for each pool and vector
 
@@ -109,23 +109,43 @@ pub record IsWord (pool word : ℕ) (raises : List Raise) (guest : GuestRecord) 
 abbrev pub new_guest : ℕ → GuestView
 new_guest pool = record { pool = pool; takes = []; peeked = 0 }
 
+-- what a guest's seat knows: what it did, and the raises that were made when it last took
+abbrev pub record_of : GuestView → List Raise → GuestRecord
+record_of guest seen = record { did = guest; seen = seen }
+
 abbrev pub idle_guest : ℕ → GuestRecord
-idle_guest pool = record { did = new_guest pool; seen = [] }
+idle_guest pool = record_of (new_guest pool) []
 
 -- what the guest of a pool knows, which has done nothing while it has no seat
 abbrev pub guest_of : List GuestRecord → ℕ → GuestRecord
 guest_of guests pool = slice_index_or guests pool (idle_guest pool)
 
+-- what a seat knows as the device's: the raises, and how many guests have a seat
+abbrev pub device_in : View → List (List Raise × ℕ)
+device_in (Device raises seated) = (raises, seated) ∷ []
+device_in (Guest guest) = []
+device_in (Both raises seated guest) = (raises, seated) ∷ []
+device_in Spent = []
+
+-- what it knows as that of a pool's guest
+abbrev pub guest_for : ℕ → View → List GuestRecord
+guest_for pool (Device raises seated) = []
+guest_for pool (Guest guest) = if guest.did.pool == pool then guest ∷ [] else []
+guest_for pool (Both raises seated guest) = if guest.did.pool == pool then guest ∷ [] else []
+guest_for pool Spent = []
+
 -- the words, and the views in the order of the seats
 abbrev pub LineState : Type 0
 LineState = State (Unit {0}) View
 
--- the line between any two steps: the device has the first seat and the guests have the others, in the order of their pools,
--- and each of the 64 words fits the device's raises and the view of the pool's guest
+-- the line between any two steps: one seat is the device's, each pool that was handed a seat has one, whichever they are, and each of
+-- the 64 words fits the device's raises and what the pool's guest knows
 pub record IsLine (line : LineState) : Type 0 where
   pub raises : List Raise
   pub guests : List GuestRecord
-  pub seats : line.views ≡ Device raises (length guests) ∷ map Guest guests
+  pub device : flat_map device_in line.views ≡ (raises, length guests) ∷ []
+  pub seats : (p : ℕ) → p < length guests → flat_map (guest_for p) line.views ≡ guest_of guests p ∷ []
+  pub no_more : (p : ℕ) → length guests ≤ p → flat_map (guest_for p) line.views ≡ []
   pub pools : (p : ℕ) → (guest_of guests p).did.pool ≡ p
   pub size : length line.words ≡ 64
   pub words : (p : ℕ) → p < 64 → IsWord p (slice_index line.words p) raises (guest_of guests p)
@@ -140,15 +160,21 @@ SeatState = Me (Unit {0}) View
 abbrev pub raises_of : View → List Raise
 raises_of (Device raises seated) = raises
 raises_of (Guest guest) = []
+raises_of (Both raises seated guest) = raises
+raises_of Spent = []
 
 abbrev pub seated_of : View → ℕ
 seated_of (Device raises seated) = seated
 seated_of (Guest guest) = 0
+seated_of (Both raises seated guest) = seated
+seated_of Spent = 0
 
--- what the view of a guest's seat has; that of the device's seat is no pool's
+-- what the view of a guest's seat has; that of another seat is no pool's
 abbrev pub guest_in : View → GuestRecord
 guest_in (Device raises seated) = idle_guest 64
 guest_in (Guest guest) = guest
+guest_in (Both raises seated guest) = guest
+guest_in Spent = idle_guest 64
 
 -- a raise (`fetch_or` of a mask): the view has one raise more
 abbrev pub IsRaise : Step (Unit {0}) → SeatState → ℕ → SeatState → Type 0
@@ -165,7 +191,7 @@ abbrev pub IsTake : Step (Unit {0}) → SeatState → ℕ → SeatState → Type
 IsTake step before found after =
     (found < 8) × StandsIn (guest_in before.0).did.peeked found
     × ((seen : List Raise)
-    × (after ≡ (Guest (record { did = after_take (guest_in before.0).did found; seen = seen }), before.1)))
+    × (after ≡ (Guest (record_of (after_take (guest_in before.0).did found) seen), before.1)))
 
 -- a peek (`load`): the bits of the word join the peeked ones
 abbrev pub after_peek : GuestView → ℕ → GuestView
@@ -182,6 +208,22 @@ one_more_seated view = Device (raises_of view) (seated_of view + 1)
 
 abbrev pub next_guest : View → View
 next_guest view = Guest (idle_guest (seated_of view))
+
+-- the device's seat takes in a guest's
+abbrev pub joined : View → View → View
+joined device guest = Both (raises_of device) (seated_of device) (guest_in guest)
+
+-- the seat that has both looks at the guest's word, which changes nothing, and is told the rule of that word
+abbrev pub IsBeside : Step (Unit {0}) → SeatState → ℕ → SeatState → Type 0
+IsBeside step before found after =
+    (after ≡ before) × IsWord step.word found (raises_of before.0) (guest_in before.0)
+
+-- and they are two again
+abbrev pub device_alone : View → View
+device_alone view = Device (raises_of view) (seated_of view)
+
+abbrev pub guest_alone : View → View
+guest_alone view = Guest (guest_in view)
 
 -- ---- what contracts see of a seat: which line it is of, and its raises or its view
 

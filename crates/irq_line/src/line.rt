@@ -1,10 +1,10 @@
 //! The words under their rule, and the kinds of step on them.
 ghost use Rattle.std.specs.Prelude.{[]};
-ghost use Rattle.irq_line.specs.declared.views.View.TheVariants.{Device};
-ghost use Rattle.irq_line.specs.Line.{IsLine, IsRaise, IsTake, IsPeek, one_more_seated, next_guest};
+ghost use Rattle.irq_line.specs.declared.views.View.TheVariants.{Device, Spent};
+ghost use Rattle.irq_line.specs.Line.{IsLine, IsRaise, IsTake, IsPeek, IsBeside, one_more_seated, next_guest, joined, device_alone, guest_alone};
 
 use crate::views::View;
-use atomic_table::{Play, Split, Table, TableRule};
+use atomic_table::{Join, Play, Split, Table, TableRule};
 use std::alloc::Global;
 
 /// The rule of a line, which every step keeps.
@@ -44,6 +44,25 @@ impl Split<View> for NextGuest {
     ghost left = { one_more_seated };
 
     ghost right = { next_guest };
+}
+
+/// The device's seat and a guest's in one, which is told what the rule says of both.
+pub(crate) struct Beside;
+
+impl Join<View> for Beside {
+    ghost both = { joined };
+
+    ghost spent = { Spent };
+}
+
+impl Play<(), View> for Beside {
+    ghost then = { IsBeside };
+}
+
+impl Split<View> for Beside {
+    ghost left = { device_alone };
+
+    ghost right = { guest_alone };
 }
 
 /// The words of a line.

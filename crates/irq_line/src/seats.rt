@@ -1,8 +1,9 @@
 //! The seats of a line: the device's and the guests'.
-ghost use Rattle.std.specs.Prelude.{◌≡◌, ℕ, ◌+◌, ◌<◌, [], ◌∷◌, ◌++◌, ◌↔◌, IsTrue};
-ghost use Rattle.irq_line.specs.Line.{raise_of, bit_for, raised, StandsIn, after_take, after_peek};
+ghost use Rattle.std.specs.Prelude.{◌≡◌, ℕ, ◌+◌, ◌<◌, [], ◌∷◌, ◌++◌, ◌↔◌, List, IsTrue};
+ghost use Rattle.irq_line.specs.declared.views.Raise.{Raise};
+ghost use Rattle.irq_line.specs.Line.{raise_of, bit_for, raised, IsWord, StandsIn, record_of, after_take, after_peek};
 
-use crate::line::{Line, Peeks, Raises, Takes};
+use crate::line::{Beside, Line, Peeks, Raises, Takes};
 use crate::views::View;
 use atomic_table::Seat;
 use std::marker::Model;
@@ -80,6 +81,23 @@ impl DeviceSeat {
     {
         let words = &self.line.shared;
         words.fetch_or::<Raises>(&mut self.seat, usize::from(pool), u64::from(mask));
+    }
+
+    /// Compares the seat with a guest's of the same line, which changes neither: there is a word, and a story of it that has the
+    /// raises for the guest's pool and the takes of the guest, and that it ends in.
+    pub fn beside(&mut self, guest: GuestSeat) -> GuestSeat
+        requires one { guest.line ≡ self.old.line }
+        ensures device { self.new ≡ self.old }
+        ensures guest { result ≡ guest }
+        ensures word { (word : ℕ) × (seen : List Raise)
+            × IsWord result.view.pool word self.new.raises (record_of result.view seen) }
+    {
+        let GuestSeat { line, seat, pool } = guest;
+        let words = &self.line.shared;
+        words.join_seat::<Beside>(&mut self.seat, seat);
+        words.load::<Beside>(&mut self.seat, usize::from(pool));
+        let seat = words.split_seat::<Beside>(&mut self.seat);
+        GuestSeat { line, seat, pool }
     }
 }
 

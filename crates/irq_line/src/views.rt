@@ -35,4 +35,8 @@ pub enum View {
     Device(LinkedList<Raise>, u8),
     /// A guest's seat.
     Guest(GuestRecord),
+    /// The device's seat and a guest's in one, while they are compared.
+    Both(LinkedList<Raise>, u8, GuestRecord),
+    /// A seat that was put into another.
+    Spent,
 }

@@ -1,4 +1,6 @@
 //! Messages that are raised, and who takes them.
+ghost use Rattle.std.specs.Prelude.{◌≡◌};
+
 use irq_line::{DeviceSeat, GuestSeat, make};
 use std::test::Fail;
 use std::thread;
@@ -37,6 +39,26 @@ fn a_pool_sees_its_own_messages_alone(rt: HostRuntime) -> Result<(), Fail> {
             assert_eq!(rt; (guest.peek(), guest.take()), (due, due), "of pool {pool}");
         }
     }
+    Ok(())
+}
+
+// Messages are raised for pool 3 before the seats are compared, and between two comparisons. What the guest takes.
+fn taken_while_compared(device: &mut DeviceSeat, guest: GuestSeat) -> [u8; 3]
+    requires one { guest.line ≡ device.old.line }
+{
+    device.raise(3, 5);
+    let mut guest = device.beside(guest);
+    let first = guest.take();
+    device.raise(3, 2);
+    let mut guest = device.beside(guest);
+    [first, guest.take(), guest.take()]
+}
+
+#[test]
+fn seats_that_are_compared_stay_as_they_are(rt: HostRuntime) -> Result<(), Fail> {
+    let (mut device, mut guests) = make(rt.alloc())?;
+    let guest = guests.remove(3);
+    assert_eq!(rt; taken_while_compared(&mut device, guest), [5, 2, 0]);
     Ok(())
 }
 

@@ -184,11 +184,11 @@ impl<M: GuestMem> Journal<M> {
 
     /// How many calls were folded away.
     #[inline]
-    pub fn folded(&self) -> u64
+    pub fn folded(&self) -> usize
         ensures folded { result ≡ folded self.now }
         ensures few { result ≤ 2 ^ 62 }
     {
-        self.folded
+        self.folded as usize
     }
 
     /// A law: the base, the kept calls, the live device and the line agree, and to each function the kept calls are as if it

@@ -39,6 +39,15 @@ impl<M: GuestMem, L: Ledger> LockedDevice<M, L> {
         }
     }
 
+    /// Takes the recorded device out of the lock again, where nobody else has it any more. Of that the contracts of [`Recorded`]
+    /// say exactly what is kept, how many calls are each caller's, and whether another device gives the kept answers.
+    pub fn into_recorded(this: Arc<LockedDevice<M, L>>) -> Option<Recorded<M, L>> {
+        match Arc::try_unwrap(this) {
+            Ok(locked) => Some(locked.inner.into_inner()),
+            Err(_) => None,
+        }
+    }
+
     /// One [`Recorded::record`] under the lock.
     pub fn act<R: Wait>(&self, rt: &R, share: &mut Share<L>, event: Event) -> Result<Answer, Full>
         requires may { may share.old.caller event ≡ true }
@@ -95,7 +104,7 @@ impl<M: GuestMem, L: Ledger> LockedDevice<M, L> {
     }
 
     /// One [`Recorded::folded`] under the lock.
-    pub fn folded<R: Wait>(&self, rt: &R) -> u64
+    pub fn folded<R: Wait>(&self, rt: &R) -> usize
         ensures few { result ≤ 2 ^ 62 }
     {
         self.inner.lock(rt).folded()

@@ -288,7 +288,7 @@ impl<M: GuestMem, L: Ledger> Recorded<M, L> {
 
     /// How many calls were folded away.
     #[inline]
-    pub fn folded(&self) -> u64
+    pub fn folded(&self) -> usize
         ensures folded { result ≡ folded self.now }
         ensures few { result ≤ 2 ^ 62 }
     {

@@ -1,6 +1,6 @@
 -- What contracts see of a port over a seat of the interrupt line.
-use Rattle.std.specs.Prelude.{◌≡◌, ℕ, ◌<◌, ◌≤◌, true, drop, take, length, IfSome, None, is_none, is_some, if◌then◌else◌}
-use Rattle.irq_line.specs.Line.{GuestEnd, after_take, after_peek}
+use Rattle.std.specs.Prelude.{◌≡◌, ℕ, ◌<◌, ◌≤◌, true, drop, take, length, IfSome, None, is_none, is_some}
+use Rattle.irq_line.specs.Line.{GuestEnd}
 use Rattle.guest_port.specs.declared.irq_port.IrqPort.TheInside.{Inside}
 use Rattle.guest_port.specs.Notes.{new_note}
 use Rattle.guest_port.specs.Port.{Port, new_port, having_taken, having_peeked, ended, closed}
@@ -10,32 +10,17 @@ pub record SeatedPort : Type 0 where
   pub port : Port
   -- the seat as it was when the port was made
   pub made : GuestEnd
-  -- the seat now; once the port is closed, as it was handed back
-  pub seat : GuestEnd
-
--- a seat after one take, and after one peek
-abbrev pub seat_taken : GuestEnd → ℕ → GuestEnd
-seat_taken seat answer = record seat { view = after_take seat.view answer }
-
-abbrev pub seat_peeked : GuestEnd → ℕ → GuestEnd
-seat_peeked seat answer = record seat { view = after_peek seat.view answer }
 
 -- a port that was just made over the seat
 abbrev pub seated : ℕ → ℕ → GuestEnd → SeatedPort
-seated pool note seat = record { port = new_port pool (new_note note); made = seat; seat = seat }
+seated pool note seat = record { port = new_port pool (new_note note) seat; made = seat }
 
--- after a take, a peek, the end and the close. Once the port is closed its seat is out of its hands
+-- after a take, a peek, the end and the close
 abbrev pub irq_taken : SeatedPort → ℕ → SeatedPort
-irq_taken p answer = record p {
-  port = having_taken p.port answer;
-  seat = if p.port.is_closed then p.seat else seat_taken p.seat answer;
-}
+irq_taken p answer = record p { port = having_taken p.port answer }
 
 abbrev pub irq_peeked : SeatedPort → ℕ → SeatedPort
-irq_peeked p answer = record p {
-  port = having_peeked p.port answer;
-  seat = if p.port.is_closed then p.seat else seat_peeked p.seat answer;
-}
+irq_peeked p answer = record p { port = having_peeked p.port answer }
 
 abbrev pub irq_ended : SeatedPort → SeatedPort
 irq_ended p = record p { port = ended p.port }
@@ -52,11 +37,11 @@ seated_of s = record {
     is_open = is_some s.mark;
     is_closed = is_none s.tokens;
     note = s.last.value.note;
+    seat = s.last.value.seat;
     taken = drop (length s.made.value.view.takes) s.last.value.seat.view.takes;
     peeked = s.last.value.seat.view.peeked;
   };
   made = s.made.value;
-  seat = s.last.value.seat;
 }
 
 -- the tokens are those that were last seen, of this pool. A port without tokens or without a mark has ended, and its note

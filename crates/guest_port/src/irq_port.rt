@@ -3,8 +3,8 @@ ghost use Rattle.std.specs.Prelude.{◌≡◌, ℕ, ◌<◌, ◌++◌, true, fal
 ghost use Rattle.wire_frame.specs.declared.fault.Fault.TheVariants.{NoMemory};
 ghost use Rattle.irq_line.specs.Line.{StandsIn};
 ghost use Rattle.guest_port.specs.Notes.{new_note, having_found};
-ghost use Rattle.guest_port.specs.Port.{having_taken, having_peeked, ended, closed};
-ghost use Rattle.guest_port.specs.Irq.{seat_taken, seated, irq_taken, irq_peeked, irq_ended, irq_closed};
+ghost use Rattle.guest_port.specs.Port.{having_taken, having_peeked, ended, closed, seat_taken};
+ghost use Rattle.guest_port.specs.Irq.{seated, irq_taken, irq_peeked, irq_ended, irq_closed};
 
 use crate::note::{End, EndNote};
 use crate::port::{GuestPort, Tokens};
@@ -115,10 +115,11 @@ impl IrqPort {
     /// seat has peeked the port has; a port that is not open has a note that found its end; and the seat is that of the pool.
     /// The call does nothing.
     pub fn agrees(&self)
-        ensures takes { self.now.seat.view.takes ≡ self.now.made.view.takes ++ self.now.port.taken }
-        ensures peeked { self.now.seat.view.peeked ≡ self.now.port.peeked }
+        ensures takes { self.now.port.seat.view.takes
+            ≡ self.now.made.view.takes ++ self.now.port.taken }
+        ensures peeked { self.now.port.seat.view.peeked ≡ self.now.port.peeked }
         ensures known { self.now.port.is_open ≡ false → self.now.port.note.found ≡ true }
-        ensures pool { self.now.seat.view.pool ≡ self.now.port.pool }
+        ensures pool { self.now.port.seat.view.pool ≡ self.now.port.pool }
     {
         prove!(self.pool < PoolId::COUNT);
     }
@@ -199,11 +200,9 @@ impl GuestPort for IrqPort {
     fn close(&mut self) -> Option<Tokens>
         ensures closed { self.new.port ≡ closed self.old.port }
         ensures tokens { MatchOption result (self.old.port.is_closed ≡ true)
-            (λ t. (self.old.port.is_closed ≡ false) × (t.seat.view.pool ≡ self.old.port.pool)
-            × (t.note ≡ self.new.port.note)) }
+            (λ t. (self.old.port.is_closed ≡ false) × (t.seat ≡ self.old.port.seat)
+            × (t.seat.view.pool ≡ self.old.port.pool) × (t.note ≡ self.new.port.note)) }
         ensures seat { self.new ≡ irq_closed self.old }
-        ensures handed { MatchOption result (self.old.port.is_closed ≡ true)
-            (λ t. t.seat ≡ self.new.seat) }
     {
         self.finish();
         self.tokens.take()

@@ -284,7 +284,8 @@ impl<M: GuestMem, L: Ledger, P: GuestPort> LockedPort<M, L, P> {
         ensures closed { self.new ≡ record self.old { port = closed self.old.port } }
         ensures back { MatchOption result (self.old.port.is_closed ≡ true)
             (λ r. (self.old.port.is_closed ≡ false) × (r.0.caller ≡ self.old.port.pool)
-            × (r.1.seat.view.pool ≡ self.old.port.pool) × (r.1.note ≡ self.new.port.note)) }
+            × (r.1.seat ≡ self.old.port.seat) × (r.1.seat.view.pool ≡ self.old.port.pool)
+            × (r.1.note ≡ self.new.port.note)) }
         ensures share { IfSome result (λ r. r.0 ≡ having_asked_all self.old.calls self.old.made) }
     {
         let tokens = self.inner.close();

@@ -17,8 +17,8 @@ pub struct Tokens {
 
 /// A guest's port, by the calls that wait for nobody. It is open until it ends, and ends when it is closed or dropped.
 ///
-/// Its meaning is its pool, whether it is open, whether it was closed, its note, the messages that it took, and those that it
-/// has peeked since.
+/// Its meaning is its pool, whether it is open, whether it was closed, its note, its seat on the interrupt line, the messages that
+/// it took, and those that it has peeked since.
 pub trait GuestPort: Drop {
     ghost meaning: { Self → Port };
 
@@ -58,6 +58,6 @@ pub trait GuestPort: Drop {
         ensures tokens { MatchOption result
             ((meaning self.old).is_closed ≡ true)
             (λ t. ((meaning self.old).is_closed ≡ false)
-            × (t.seat.view.pool ≡ (meaning self.old).pool)
+            × (t.seat ≡ (meaning self.old).seat) × (t.seat.view.pool ≡ (meaning self.old).pool)
             × (t.note ≡ (meaning self.new).note)) };
 }

@@ -58,7 +58,7 @@ fn asked_thrice<L: Ledger>(
 }
 
 // How many calls are kept, how many were folded, and how many the service made.
-fn counts<L: Ledger>(recorded: &Recorded<FlatMem, L>, service: &Share<L>) -> (usize, u64, u64) {
+fn counts<L: Ledger>(recorded: &Recorded<FlatMem, L>, service: &Share<L>) -> (usize, usize, u64) {
     (recorded.kept(), recorded.folded(), service.count())
 }
 
@@ -66,10 +66,10 @@ fn counts<L: Ledger>(recorded: &Recorded<FlatMem, L>, service: &Share<L>) -> (us
 // read of function 1 is refused with then; and the counts and the other device again.
 type Third = (
     (bool, bool, Option<u8>),
-    (usize, u64, u64),
+    (usize, usize, u64),
     bool,
     (Option<usize>, Option<u8>),
-    (usize, u64, u64),
+    (usize, usize, u64),
     bool,
 );
 
@@ -172,7 +172,7 @@ fn service_of<L: Ledger>(
 
 // The bases that were moved and the sum of the takes; how many calls are kept and were folded; whether another device gives the kept
 // answers; and how many calls the service made.
-type Moved = (Option<(u32, u32)>, (usize, u64), bool, Option<u64>);
+type Moved = (Option<(u32, u32)>, (usize, usize), bool, Option<u64>);
 
 fn moved<L: Ledger>(
     alloc: Global,

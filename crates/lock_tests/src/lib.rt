@@ -9,4 +9,6 @@ mod making;
 #[cfg(test)]
 mod rights;
 #[cfg(test)]
+mod taken_out;
+#[cfg(test)]
 mod threads;

@@ -140,7 +140,7 @@ pub fn round<
     back.push(service)?;
     crew.join(&rt, &mut back, &mut figures)?;
     figures.kept = device.kept(&rt) as u64;
-    figures.folded = device.folded(&rt);
+    figures.folded = device.folded(&rt) as u64;
     if let Some(fresh) = &mut fresh {
         figures.replays = device.replays(&rt, fresh);
     }

@@ -18,7 +18,7 @@ const TWO_GUESTS: &str =
 
 // How many calls are kept and folded away; none where the callers made other calls. The two events before `go` and the two ends
 // are of the service.
-fn counts(seen: &Seen) -> Option<(usize, u64)> {
+fn counts(seen: &Seen) -> Option<(usize, usize)> {
     let mut due = [0; 67];
     due[0] = 1;
     due[1] = 2;
@@ -39,7 +39,7 @@ fn seen_of_two<L: Ledger + Send + Sync + 'static, R: Threads + Wait + Copy + Sen
     blank: Blank,
     cap: usize,
     has_twin: bool,
-) -> Result<Result<Option<(usize, u64)>, Fault>, Fail>
+) -> Result<Result<Option<(usize, usize)>, Fault>, Fail>
     requires name { blank.name ≡ L.name }
     requires parts { (blank.parts ≡ L.parts) × (blank.parts ≡ 67) }
 {

@@ -25,7 +25,7 @@ pub type Port<L> = LockedPort<FlatMem, L, IrqPort>;
 pub struct Seen {
     pub shares: usize,
     pub kept: usize,
-    pub folded: u64,
+    pub folded: usize,
     pub entries: [u64; 67],
 }
 

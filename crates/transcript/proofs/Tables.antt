@@ -1,11 +1,13 @@
--- Digits of bytes one after another, and what the table of pools has.
+-- What the tables of digits have.
 use Rattle.std.proofs.Common.{◌≡◌, ℕ, zero, suc, ◌+◌, ◌-◌, ◌*◌, ◌/◌, ◌%◌, ◌<◌, ◌≤◌, Bool, true, ◌&&◌, T, eqb, List, [], ◌∷◌, ◌++◌, length, take, drop, get_or, slice_index, slice_range, refl, sym, ap, ◌∙◌, inl, inr, arith, eq-zero-or-pos, eqb→eq}
 use Rattle.std.specs.Prelude.{codes, decimal}
+use Rattle.std.specs.Int.{to_be_bytes, w32}
 use Rattle.std.proofs.lemmas.Fmt.{decimal_digit}
 use Rattle.std.proofs.lemmas.Bool.Decides.{nat_tests}
 use Rattle.std.proofs.lemmas.List.{drop_more, take-take, take-append-drop}
 use Rattle.itoa.proofs.Decimal.{decimal_two}
 use Rattle.hex.specs.Hex.{encode_lower, encode_with, lower_digits}
+use Rattle.transcript.specs.declared.digits.TheConstants.{PAIRS}
 use Rattle.transcript.specs.declared.text.TheConstants.{POOLS}
 use lib.Ieee.Fits.{and_l, and_r}
 
@@ -23,7 +25,28 @@ at_each test (suc n) k t h =
       | inr g ↦ at_each test n k (and_r (test n) (all_below test n) t) (omega arith)
     ]
 
--- ---- digits of bytes one after another
+-- ---- two digits for each byte
+
+abbrev is_pair : ℕ → Bool
+is_pair b = eqb (get_or PAIRS (2 * b) 0) (get_or lower_digits (b / 16) 0) && eqb (get_or PAIRS (2 * b + 1) 0) (get_or lower_digits (b % 16) 0)
+
+pub byte_digits : (b k : ℕ) → b < 256 → k ≡ b → slice_index PAIRS (2 * k) ∷ slice_index PAIRS (2 * k + 1) ∷ [] ≡ encode_lower (b ∷ [])
+unfolding encode_with
+byte_digits b k h is =
+    let t = at_each is_pair 256 b tt h in
+    let high = eqb→eq (get_or PAIRS (2 * b) 0) (get_or lower_digits (b / 16) 0) (and_l _ _ t) in
+    let low = eqb→eq (get_or PAIRS (2 * b + 1) 0) (get_or lower_digits (b % 16) 0) (and_r _ _ t) in
+    rw is (λ i. high i ∷ low i ∷ [])
+
+pub word_digits : (value : ℕ) (bytes p q r s : List ℕ) → bytes ≡ to_be_bytes w32 value
+    → p ≡ encode_lower (get_or bytes 0 0 ∷ []) → q ≡ encode_lower (get_or bytes 1 0 ∷ [])
+    → r ≡ encode_lower (get_or bytes 2 0 ∷ []) → s ≡ encode_lower (get_or bytes 3 0 ∷ [])
+    → slice_index p 0 ∷ slice_index p 1 ∷ slice_index q 0 ∷ slice_index q 1 ∷ slice_index r 0 ∷ slice_index r 1 ∷ slice_index s 0 ∷ slice_index s 1 ∷ []
+    ≡ encode_lower (to_be_bytes w32 value)
+unfolding encode_with
+word_digits value bytes p q r s is f g h k =
+    (λ i. slice_index (f i) 0 ∷ slice_index (f i) 1 ∷ slice_index (g i) 0 ∷ slice_index (g i) 1 ∷ slice_index (h i) 0 ∷ slice_index (h i) 1 ∷ slice_index (k i) 0 ∷ slice_index (k i) 1 ∷ [])
+    ∙ ap (λ (xs : List ℕ). encode_lower (get_or xs 0 0 ∷ get_or xs 1 0 ∷ get_or xs 2 0 ∷ get_or xs 3 0 ∷ [])) is
 
 digits-append : (xs ys : List ℕ) → encode_lower (xs ++ ys) ≡ encode_lower xs ++ encode_lower ys
 unfolding encode_with

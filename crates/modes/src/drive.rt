@@ -4,15 +4,18 @@ ghost use Rattle.std.specs.Io.KnownBytes.{Appends};
 ghost use Rattle.script.specs.declared.fault.Fault.{Fault as Unread};
 ghost use Rattle.script.specs.Reading.{script_of};
 ghost use Rattle.transcript.specs.Known.{Began, Sent};
+ghost use Rattle.transcript.specs.Lines.{run_text};
 ghost use Rattle.modes.specs.Faults.{is_late};
-ghost use Rattle.modes.specs.Program.{text_of, BeganToWrite, Says, StopsAt, Tells, Wrote};
+ghost use Rattle.modes.specs.Isolation.{BeganIsolated, WroteIsolated};
+ghost use Rattle.modes.specs.Program.{device_of, text_of, BeganToWrite, Says, StopsAt, Tells, Wrote};
 
 use crate::alone::lone_function;
 use crate::fault::Fault;
 use crate::keep::keep;
+use crate::making::put_away;
 use crate::mode::{Mode, Task};
 use crate::run::run;
-use guest_memory::FlatMem;
+use guest_memory::{FlatMem, GuestMem};
 use script::Script;
 use std::alloc::Global;
 use std::io::{Read, Write};
@@ -35,6 +38,12 @@ pub fn drive<R: Read, W: Write>(
     // or a beginning of that, or nothing
     ensures err { OnErr result ((writer.new ≡ writer.old)
         ⊎ BeganToWrite mode (R.remaining reader.old) (W.contents writer.old) (W.contents writer.new)) }
+    // to each function of the script's device the lines of `run` are as if the function were alone; `keep` wrote what it is given
+    // alone, and `lone` those lines of `run` that are its own
+    ensures isolated { OnOk result
+        (WroteIsolated mode (R.remaining reader.old) (W.contents writer.old) (W.contents writer.new)) }
+    ensures isolated_so_far { OnErr result ((writer.new ≡ writer.old)
+        ⊎ BeganIsolated mode (R.remaining reader.old) (W.contents writer.old) (W.contents writer.new)) }
     ensures early { IfErr result (λ e. is_late e ≡ false → writer.new ≡ writer.old) }
     ensures why { IfErr result (Tells mode (R.remaining reader.old)) }
     // of a text with a bad line nothing is written, and that line is told where reading comes so far
@@ -58,6 +67,10 @@ fn read_and_play<R: Read, W: Write>(
         (Wrote mode (R.remaining reader.old) (W.contents writer.old) (W.contents writer.new))) }
     ensures err { IfOk result (λ played. OnErr played
         (BeganToWrite mode (R.remaining reader.old) (W.contents writer.old) (W.contents writer.new))) }
+    ensures isolated { IfOk result (λ played. OnOk played
+        (WroteIsolated mode (R.remaining reader.old) (W.contents writer.old) (W.contents writer.new))) }
+    ensures isolated_so_far { IfOk result (λ played. OnErr played
+        (BeganIsolated mode (R.remaining reader.old) (W.contents writer.old) (W.contents writer.new))) }
     ensures late { IfOk result (λ played. IfErr played (λ e. is_late e ≡ true)) }
 {
     let script = read(alloc, reader)?;
@@ -98,7 +111,7 @@ pub(crate) fn play<W: Write>(
     Ok(())
 }
 
-// Makes the memories, and gives the lines of what the task asks for to the output.
+// Makes the memories, each in a box, and gives the lines of what the task asks for to the output.
 #[tactic(auto, using(transcript::proofs::Known::nothing_began))]
 fn tell<W: Write>(
     alloc: Global,
@@ -116,14 +129,36 @@ fn tell<W: Write>(
     let shape = script.shape();
     let mut memories = Vec::with_capacity(alloc, usize::from(shape.functions))?;
     for _ in 0..shape.functions {
-        memories.push(FlatMem::new(alloc, shape.memory_size)?)?;
+        let memory = FlatMem::new(alloc, shape.memory_size)?;
+        let memory: Box<dyn GuestMem + Send> = Box::new(alloc, memory)?;
+        memories.push(memory)?;
     }
     match task {
-        Task::Run => run(alloc, script, memories, output, writer),
+        Task::Run => run_and_end(alloc, script, memories, output, writer),
         Task::Keep(pool) => keep(alloc, script, pool, memories, output, writer),
         Task::Lone(pool) => {
             let memory = FlatMem::new(alloc, shape.memory_size)?;
+            let memory: Box<dyn GuestMem + Send> = Box::new(alloc, memory)?;
             lone_function(alloc, script, pool, memories, memory, output, writer)
         }
     }
+}
+
+// The mode `run`; nobody needs the device afterwards.
+#[tactic(auto, using(transcript::proofs::Known::nothing_began))]
+fn run_and_end<M: GuestMem, W: Write>(
+    alloc: Global,
+    script: &Script,
+    memories: Vec<M>,
+    output: &mut Output,
+    writer: &mut W,
+) -> Result<(), Fault>
+    ensures ok { OnOk result (Sent (W.contents writer.old) (W.contents writer.new)
+        (output.old ++ run_text (device_of script.now.device) script.now.events) output.new) }
+    ensures err { OnErr result (Began (W.contents writer.old) (W.contents writer.new)
+        (output.old ++ run_text (device_of script.now.device) script.now.events)) }
+    ensures late { IfErr result (λ e. is_late e ≡ true) }
+{
+    put_away(run(alloc, script, memories, output, writer)?);
+    Ok(())
 }

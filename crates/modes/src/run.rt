@@ -1,9 +1,10 @@
 //! The mode `run`: every answer, and then the frames that are kept of those that left for the wire.
-ghost use Rattle.std.specs.Prelude.{◌≡◌, ◌<◌, ◌++◌, true, [], length, slice_index_or, IfErr, OnOk, OnErr};
+ghost use Rattle.std.specs.Prelude.{◌≡◌, ◌<◌, ◌++◌, true, [], length, slice_index_or, IfOk, IfErr, OnOk, OnErr};
 ghost use Rattle.device.specs.World.{answers, world_after};
 ghost use Rattle.transcript.specs.Known.{Began, Sent};
 ghost use Rattle.transcript.specs.Lines.{frame_lines, lines, run_text};
 ghost use Rattle.modes.specs.Faults.{is_late};
+ghost use Rattle.modes.specs.Isolation.{AreLeftAsAlone, SentIsolated};
 ghost use Rattle.modes.specs.Program.{device_of};
 
 use crate::fault::Fault;
@@ -17,7 +18,11 @@ use transcript::Output;
 use wire_frame::FrameBuf;
 
 /// Gives a script's events to the device that it asks for over these memories, and to the output the lines of the answers,
-/// numbered from 1, and those of the frames that are kept of the ones that left for the wire.
+/// numbered from 1, and those of the frames that are kept of the ones that left for the wire; hands back the device as the
+/// events left it.
+///
+/// To each virtual function the run is as if the function were alone: what it sees of the answers that were written, and what is
+/// left of it, are those of a lone function that is given no more than is kept for it of the events.
 #[inline(never)]
 pub fn run<M: GuestMem, W: Write>(
     alloc: Global,
@@ -25,22 +30,35 @@ pub fn run<M: GuestMem, W: Write>(
     memories: Vec<M>,
     output: &mut Output,
     writer: &mut W,
-) -> Result<(), Fault>
+) -> Result<Box<Device<M>>, Fault>
     ensures ok { OnOk result (Sent (W.contents writer.old) (W.contents writer.new)
         (output.old ++ run_text (device_of script.now.device) script.now.events) output.new) }
     ensures err { OnErr result (Began (W.contents writer.old) (W.contents writer.new)
         (output.old ++ run_text (device_of script.now.device) script.now.events)) }
     ensures late { IfErr result (λ e. is_late e ≡ true) }
+    ensures world { IfOk result (λ device. device.value
+        ≡ world_after (device_of script.now.device) script.now.events) }
+    // what was written is the lines of answers that are to each function as if it were alone, and then of the device's frames
+    ensures isolated { IfOk result (λ device. SentIsolated script.now device.value.wire
+        (W.contents writer.old) (W.contents writer.new) output.old output.new) }
+    // and each function and its own settings are what the function alone becomes
+    ensures isolated_state { IfOk result (λ device. AreLeftAsAlone script.now device.value) }
 {
-    let mut device = make_device(alloc, script.shape(), memories)?;
+    let shape = script.shape();
+    let mut device = make_device(alloc, shape, memories)?;
     let Ok(mut room) = make_room(alloc) else {
         put_away(device);
         return Err(Fault::NoMemory);
     };
     let told = perform(&mut device, script, &mut room, output, writer);
     put_away(room);
-    put_away(device);
-    Ok(told?)
+    match told {
+        Ok(()) => Ok(device),
+        Err(fault) => {
+            put_away(device);
+            Err(Fault::from(fault))
+        }
+    }
 }
 
 // Gives the lines of the answers to the output, and then those of the frames that went to the wire.
@@ -55,6 +73,7 @@ fn perform<M: GuestMem, W: Write>(
         (output.old ++ run_text device.old script.now.events) output.new) }
     ensures err { OnErr result (Began (W.contents writer.old) (W.contents writer.new)
         (output.old ++ run_text device.old script.now.events)) }
+    ensures world { OnOk result (device.new ≡ world_after device.old script.now.events) }
 {
     answers(device, script, room, output, writer)?;
     frames(device, output, writer)?;

@@ -10,6 +10,8 @@ mod check;
 #[cfg(test)]
 mod grammar;
 #[cfg(test)]
+mod kinds;
+#[cfg(test)]
 mod one_function;
 #[cfg(test)]
 mod receiving;

@@ -1,5 +1,5 @@
 -- The device and the lone function are those of the shape.
-use Rattle.std.proofs.Common.{◌≡◌, ℕ, List, ap, ◌∙◌, subst}
+use Rattle.std.proofs.Common.{ℕ, List, ap, ◌∙◌, subst}
 use Rattle.std.specs.Prelude.{OnErr}
 use Rattle.script.specs.Reading.{Asked}
 use Rattle.transcript.specs.Known.{Began}

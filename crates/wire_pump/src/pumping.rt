@@ -18,8 +18,8 @@ pub trait Door {
     /// The events that it took, in order.
     ghost taken: { Self → List Event };
 
-    /// Takes an event, which is a frame that comes from the wire, and answers it. Where there is no room the event comes back,
-    /// and nothing changed. It may wait.
+    /// Takes an event, which is an [`Event::Wire`], and answers it. Where there is no room the event comes back, and nothing
+    /// changed. It may wait.
     fn act<R: Wait>(&mut self, rt: &R, event: Event) -> Result<Answer, Full>
         requires wire { is_wire event ≡ true }
         ensures taken { OnOk result (taken self.new ≡ taken self.old ++ event ∷ []) }

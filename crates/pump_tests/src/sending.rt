@@ -32,7 +32,7 @@ fn pumped_twice<R: Wait>(
     let first = end_of(pump(&mut receiver, rt, &mut shelf));
     let mut other = Shelf::new(alloc, room);
     let second = end_of(pump(&mut receiver, rt, &mut other));
-    let behind = shelf.frames.len().wrapping_add(1);
+    let behind = shelf.events.len().wrapping_add(1);
     Ok((
         (first, shelf.count_from(0)),
         (second, other.count_from(behind)),
@@ -73,12 +73,18 @@ fn nothing_is_sent_after_last(rt: HostRuntime) -> Result<(), Fail> {
     let (mut sender, _receiver) = channel(rt.alloc())?;
     let frames = frames_of(rt.alloc(), 2).ok_or("no frames")?;
     let frame = frame_of(0).ok_or("no frame")?;
-    let before = (sender.frame(&rt, &frame), sender.last(&rt));
+    let first = (sender.frame(&rt, &frame), sender.is_ended());
+    let last = (sender.last(&rt), sender.is_ended());
     let after = (sender.frame(&rt, &frame), sender.last(&rt));
     let fed = feed(&mut sender, &rt, &frames);
     assert_eq!(rt;
-        (before, after, fed),
-        ((true, true), (false, false), FeedEnd::Gone(0))
+        (first, last, after, fed),
+        (
+            (true, false),
+            (true, true),
+            (false, false),
+            FeedEnd::Gone(0)
+        )
     );
     Ok(())
 }

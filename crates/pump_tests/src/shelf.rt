@@ -1,25 +1,31 @@
-//! Frames by numbers, a door that keeps frames, and how a pump ended.
-ghost use Rattle.std.specs.Prelude.{◌≡◌, ◌++◌, ◌∷◌, [], List, map, if◌then◌else◌};
-ghost use Rattle.device.specs.declared.event.Event.{Event};
-ghost use Rattle.device.specs.declared.event.Event.TheVariants.{Wire};
+//! Frames by numbers, a door that keeps their events, and how a pump ended.
+ghost use Rattle.std.specs.Prelude.{◌≡◌};
 
+use device::{Answer, Event, Reply};
+use device_lock::Full;
 use std::alloc::Global;
 use std::sync::Wait;
 use wire_frame::FrameBuf;
 use wire_pump::{Door, PumpEnd};
 
-/// A door that keeps the frames which it takes, up to a number of them.
+/// A door that keeps the events which it takes, up to a number of them.
 #[derive(Drop)]
 pub struct Shelf {
-    pub frames: Vec<FrameBuf>,
+    pub events: Vec<Event>,
     pub room: usize,
 }
 
 impl Door for Shelf {
-    ghost taken = { λ shelf. map Wire shelf.frames.items };
+    ghost taken = { λ shelf. shelf.events.items };
 
-    fn act<R: Wait>(&mut self, _rt: &R, frame: &FrameBuf) -> bool {
-        self.frames.len() < self.room && self.frames.push(frame.copy()).is_ok()
+    fn act<R: Wait>(&mut self, _rt: &R, event: Event) -> Result<Answer, Full> {
+        if self.room <= self.events.len() || self.events.push(event.copy()).is_err() {
+            return Err(Full(event));
+        }
+        Ok(Answer {
+            reply: Reply::Done,
+            raised: [0; 64],
+        })
     }
 }
 
@@ -27,19 +33,19 @@ impl Shelf {
     /// An empty shelf.
     pub fn new(alloc: Global, room: usize) -> Shelf {
         Shelf {
-            frames: Vec::new(alloc),
+            events: Vec::new(alloc),
             room,
         }
     }
 
-    /// How many frames it has. None where they are not those of the numbers from `first` on.
+    /// How many events it has. None where they are not those of the frames of the numbers from `first` on.
     pub fn count_from(&self, first: usize) -> Option<usize> {
-        for (place, frame) in self.frames.iter().enumerate() {
-            if frame_of(first.wrapping_add(place)) != Some(frame.copy()) {
+        for (place, event) in self.events.iter().enumerate() {
+            if number_of(event) != Some(first.wrapping_add(place)) {
                 return None;
             }
         }
-        Some(self.frames.len())
+        Some(self.events.len())
     }
 }
 
@@ -73,20 +79,23 @@ pub enum Pumped {
     Other,
 }
 
-/// How a pump ended, with the number of the frame that it handed back.
+/// How a pump ended, with the number of the frame whose event it handed back.
 pub fn end_of(end: PumpEnd) -> Pumped {
     match end {
         PumpEnd::Last => Pumped::Last,
         PumpEnd::Gone => Pumped::Gone,
-        PumpEnd::Full(frame) => match number_of(&frame) {
+        PumpEnd::Full(event) => match number_of(&event) {
             Some(number) => Pumped::Full(number),
             None => Pumped::Other,
         },
     }
 }
 
-// The number of a frame, if it is that number's.
-fn number_of(frame: &FrameBuf) -> Option<usize> {
+// The number of the frame that an event brings, if it is that number's.
+fn number_of(event: &Event) -> Option<usize> {
+    let Event::Wire(frame) = event else {
+        return None;
+    };
     let bytes = frame.bytes();
     let number = usize::from(*bytes.get(1)?) * 256 + usize::from(*bytes.get(2)?);
     if frame_of(number)?.bytes() == bytes {

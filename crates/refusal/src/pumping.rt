@@ -1,26 +1,32 @@
 //! Frames that come through a channel without memory.
-ghost use Rattle.std.specs.Prelude.{◌≡◌, ◌++◌, ◌∷◌, [], List, map, if◌then◌else◌};
-ghost use Rattle.device.specs.declared.event.Event.{Event};
-ghost use Rattle.device.specs.declared.event.Event.TheVariants.{Wire};
+ghost use Rattle.std.specs.Prelude.{◌≡◌};
 
 use crate::sheet::{Came, Sheet};
+use device::{Answer, Event, Reply};
+use device_lock::Full;
 use lock_support::frame_to_3;
 use std::alloc::Global;
 use std::sync::Wait;
 use wire_frame::{Fault, FrameBuf};
 use wire_pump::{Door, FeedEnd, FrameReceiver, FrameSender, PumpEnd, channel, feed, pump};
 
-// A door that keeps two frames, for which there is room.
+// A door that keeps two events, for which there is room.
 #[derive(Drop)]
 struct Shelf {
-    frames: Vec<FrameBuf>,
+    events: Vec<Event>,
 }
 
 impl Door for Shelf {
-    ghost taken = { λ shelf. map Wire shelf.frames.items };
+    ghost taken = { λ shelf. shelf.events.items };
 
-    fn act<R: Wait>(&mut self, _rt: &R, frame: &FrameBuf) -> bool {
-        self.frames.len() < 2 && self.frames.push(frame.copy()).is_ok()
+    fn act<R: Wait>(&mut self, _rt: &R, event: Event) -> Result<Answer, Full> {
+        if 2 <= self.events.len() || self.events.push(event.copy()).is_err() {
+            return Err(Full(event));
+        }
+        Ok(Answer {
+            reply: Reply::Done,
+            raised: [0; 64],
+        })
     }
 }
 
@@ -51,7 +57,7 @@ impl Pumping {
             frames,
             sender,
             receiver,
-            door: Shelf { frames: room },
+            door: Shelf { events: room },
         })
     }
 }
@@ -74,13 +80,13 @@ fn is_pumped<R: Wait>(rt: &R, pumping: Pumping) -> bool {
     } = pumping;
     let is_fed = feed(&mut sender, rt, &frames) == FeedEnd::All;
     let end = pump(&mut receiver, rt, &mut door);
-    is_fed && is_third(end, &frames) && door.frames.len() == 2
+    is_fed && is_third(end, &frames) && door.events.len() == 2
 }
 
 // Whether a pump ended at the last frame.
 fn is_third(end: PumpEnd, frames: &[FrameBuf]) -> bool {
     match (end, frames.last()) {
-        (PumpEnd::Full(frame), Some(last)) => frame.bytes() == last.bytes(),
+        (PumpEnd::Full(Event::Wire(frame)), Some(last)) => frame.bytes() == last.bytes(),
         _ => false,
     }
 }

@@ -1,15 +1,19 @@
 -- Each kind of step keeps the rule of the channel.
-use Rattle.std.proofs.Common.{◌≡◌, ◌≢◌, ◌⊎◌, ⊎_elim, inl, inr, ℕ, zero, suc, Bool, true, false, true≢false, map, List, [], ◌∷◌, ◌++◌, length, set, refl, sym, ap, ◌∙◌, subst, append_assoc, append-nil}
+use Rattle.std.proofs.Common.{◌≡◌, ◌≢◌, ◌⊎◌, ⊎_elim, inl, inr, ℕ, zero, suc, true, false, true≢false, map, List, [], ◌∷◌, ◌++◌, length, set, refl, sym, ap, ◌∙◌, subst, append_assoc}
 use Rattle.std.specs.Prelude.{⊤, slice_set}
 use Rattle.std.proofs.lemmas.List.{map-append}
 use mathlib.Core.Option.{some, some-injective, some-ne-none}
 use lib.ListN.{get_elem?}
 use Rattle.atomic_table.proofs.Lists.{at_set}
 use Rattle.crossbeam_channel.specs.Fifo.{Pushes, Pops, Forks, Merges, Learns}
+use Rattle.device.specs.declared.event.Event.{Event}
+use Rattle.device.specs.declared.event.Event.TheVariants.{Open, End, VfRead, VfWrite, MemRead, MemWrite, Serve, Flr, PfRead, PfWrite, PfReset, Wire}
+use Rattle.device_lock.specs.Callers.{may}
 use Rattle.wire_pump.specs.declared.message.WireMsg.{WireMsg}
 use Rattle.wire_pump.specs.declared.message.WireMsg.TheVariants.{Frame, Last}
 use Rattle.wire_pump.specs.declared.flow.Hand.{Hand}
-use Rattle.wire_pump.specs.Pump.{is_none, is_ended, is_proper, sender, receiver, both, neither, Knows, IsFlow, IsSent, IsReceived, IsBeside}
+use Rattle.wire_pump.specs.Ends.{is_wire}
+use Rattle.wire_pump.specs.Pump.{is_ended, is_proper, sender, receiver, both, neither, Knows, IsFlow, IsSent, IsReceived, IsBeside}
 
 off : false ≡ true → ⊥
 off e = true≢false (sym e)
@@ -188,3 +192,18 @@ ended_alone (Last ∷ z ∷ xs) more p e = absurd (off p)
 
 pub all_once_ended : (sent received under_way : List WireMsg) → sent ≡ received ++ under_way → is_proper sent ≡ true → is_ended received ≡ true → sent ≡ received
 all_once_ended sent received more is p e = is ∙ ended_alone received more (subst (λ (xs : List WireMsg). is_proper xs ≡ true) is p) e
+
+-- the pump may ask for a frame from the wire
+pub pump_may : (c : ℕ) (e : Event) → c ≡ 65 → is_wire e ≡ true → may c e ≡ true
+pump_may c (Wire frame) is wire = ap (λ (n : ℕ). may n (Wire frame)) is
+pump_may c (Open p) is wire = absurd (off wire)
+pump_may c (End p) is wire = absurd (off wire)
+pump_may c (VfRead p offset) is wire = absurd (off wire)
+pump_may c (VfWrite p offset x) is wire = absurd (off wire)
+pump_may c (MemRead p at count) is wire = absurd (off wire)
+pump_may c (MemWrite p at bytes) is wire = absurd (off wire)
+pump_may c (Serve p q) is wire = absurd (off wire)
+pump_may c (Flr p) is wire = absurd (off wire)
+pump_may c (PfRead offset) is wire = absurd (off wire)
+pump_may c (PfWrite offset x) is wire = absurd (off wire)
+pump_may c PfReset is wire = absurd (off wire)

@@ -1,9 +1,11 @@
 -- What contracts see of the ends of a channel.
-use Rattle.std.specs.Prelude.{◌≡◌, ℕ, ◌≤◌, ⊤, true, List, [], ◌∷◌, ◌++◌, map, take}
+use Rattle.std.specs.Prelude.{◌≡◌, ℕ, ◌≤◌, ⊤, Bool, true, false, List, [], ◌∷◌, ◌++◌, map, take}
 use Rattle.atomic_table.specs.Seated.{TableId}
 use Rattle.atomic_table.specs.declared.badge.Badge.{Badge}
 use Rattle.crossbeam_channel.specs.Claims.{Pass, view}
 use Rattle.crossbeam_channel.specs.declared.flavors.array.Key.{Key}
+use Rattle.device.specs.declared.event.Event.{Event}
+use Rattle.device.specs.declared.event.Event.TheVariants.{Wire}
 use Rattle.wire_pump.specs.declared.message.WireMsg.{WireMsg}
 use Rattle.wire_pump.specs.declared.message.WireMsg.TheVariants.{Frame, Last as LastMsg}
 use Rattle.wire_pump.specs.declared.flow.Hand.{Hand}
@@ -35,6 +37,18 @@ pub record ReceiveEnd : Type 0 where
   pub channel : Channel
   pub received : List WireMsg
 
+-- ---- events from the wire
+
+-- whether an event is a frame that comes from the wire
+abbrev pub is_wire : Event → Bool
+is_wire (Wire frame) = true
+is_wire _ = false
+
+-- the frame of such an event
+abbrev pub frame_in : Event → List ℕ
+frame_in (Wire frame) = frame
+frame_in _ = []
+
 -- ---- how a feed and a pump end
 
 -- what a feed sent
@@ -47,14 +61,20 @@ abbrev pub IsCounted : ℕ → FeedEnd → Type 0
 IsCounted count All = ⊤
 IsCounted count (Gone sent) = sent ≤ count
 
--- what a pump received, of which the door took these frames
+-- what a pump received: the frames that the door took, and after them `Last`, or the one that it did not take
 abbrev pub pumped : List (List ℕ) → PumpEnd → List WireMsg
 pumped frames Last = map Frame frames ++ LastMsg ∷ []
-pumped frames (Full frame) = map Frame frames ++ Frame frame ∷ []
+pumped frames (Full event) = map Frame frames ++ Frame (frame_in event) ∷ []
 pumped frames SenderGone = map Frame frames
 
 -- after `Last` nothing is sent: what was received is the only list that begins with it and may have been sent
 abbrev pub IsAll : List WireMsg → PumpEnd → Type 0
 IsAll received Last = (more : List WireMsg) → is_proper (received ++ more) ≡ true → more ≡ []
-IsAll received (Full frame) = ⊤
+IsAll received (Full event) = ⊤
 IsAll received SenderGone = ⊤
+
+-- the event that a door did not take is a frame from the wire
+abbrev pub IsFromWire : PumpEnd → Type 0
+IsFromWire Last = ⊤
+IsFromWire (Full event) = is_wire event ≡ true
+IsFromWire SenderGone = ⊤

@@ -1,5 +1,5 @@
 //! The two ends of a channel.
-ghost use Rattle.std.specs.Prelude.{◌≡◌, ◌++◌, ◌∷◌, [], List, true, IfSome, IfNone, if◌then◌else◌};
+ghost use Rattle.std.specs.Prelude.{◌≡◌, ◌++◌, ◌∷◌, [], List, true, false, IfSome, IfNone, if◌then◌else◌};
 ghost use Rattle.wire_pump.specs.declared.message.WireMsg.{WireMsg};
 ghost use Rattle.wire_pump.specs.declared.message.WireMsg.TheVariants.{Frame, Last};
 ghost use Rattle.crossbeam_channel.specs.Claims.{IsSeatAt};
@@ -79,9 +79,11 @@ impl FrameSender {
     /// be, where the receiver is gone or `Last` was sent before.
     #[tactic(auto, using(crate::proofs::Moves::goes_on, crate::proofs::Moves::ended_frame))]
     pub fn frame<R: Wait>(&mut self, rt: &R, frame: &FrameBuf) -> bool
-        ensures { self.new ≡ record self.old {
+        ensures sent { self.new ≡ record self.old {
           sent = if result then self.old.sent ++ Frame frame.now ∷ [] else self.old.sent;
         } }
+        ensures proper { is_proper self.new.sent ≡ true }
+        ensures after_last { is_ended self.old.sent ≡ true → result ≡ false }
     {
         if self.last_sent {
             return false;
@@ -96,9 +98,11 @@ impl FrameSender {
     /// Sends `Last`, which says that no frame comes any more, and tells whether it was sent.
     #[tactic(auto, using(crate::proofs::Moves::goes_on, crate::proofs::Moves::ended_last))]
     pub fn last<R: Wait>(&mut self, rt: &R) -> bool
-        ensures { self.new ≡ record self.old {
+        ensures sent { self.new ≡ record self.old {
           sent = if result then self.old.sent ++ Last ∷ [] else self.old.sent;
         } }
+        ensures proper { is_proper self.new.sent ≡ true }
+        ensures after_last { is_ended self.old.sent ≡ true → result ≡ false }
     {
         if self.last_sent {
             return false;
@@ -106,6 +110,13 @@ impl FrameSender {
         let sent = send(rt, &self.end, &mut self.pass, Parcel::last());
         self.last_sent = sent;
         sent
+    }
+
+    /// Whether `Last` was sent, so that nothing more is.
+    pub fn is_ended(&self) -> bool
+        ensures { result ≡ is_ended self.now.sent }
+    {
+        self.last_sent
     }
 
     /// Compares the two ends of one channel, which changes neither: what was received is a beginning of what was sent, and all
@@ -118,6 +129,7 @@ impl FrameSender {
         ensures beginning { (under_way : List WireMsg)
             × (self.new.sent ≡ result.received ++ under_way) }
         ensures whole { is_ended result.received ≡ true → self.new.sent ≡ result.received }
+        ensures proper { is_proper self.new.sent ≡ true }
     {
         let FrameReceiver { end, pass, back } = receiver;
         self.end.absorb::<Ends>(&mut self.pass, pass);

@@ -1,5 +1,6 @@
 //! Frames into the channel.
-ghost use Rattle.std.specs.Prelude.{◌≡◌, ◌++◌, ◌≤◌, length};
+ghost use Rattle.std.specs.Prelude.{◌≡◌, ◌++◌, ◌≤◌, true, length};
+ghost use Rattle.wire_pump.specs.Pump.{is_proper};
 ghost use Rattle.wire_pump.specs.Ends.{fed, IsCounted};
 
 use crate::ends::FrameSender;
@@ -20,6 +21,7 @@ pub fn feed<R: Wait>(sender: &mut FrameSender, rt: &R, frames: &[FrameBuf]) -> F
     ensures sent { sender.new
         ≡ record sender.old { sent = sender.old.sent ++ fed frames.now result } }
     ensures count { IsCounted (length frames.now) result }
+    ensures proper { is_proper sender.new.sent ≡ true }
 {
     for (sent, frame) in frames.iter().enumerate() {
         if !sender.frame(rt, frame) {

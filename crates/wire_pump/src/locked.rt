@@ -2,8 +2,8 @@
 ghost use Rattle.std.specs.Prelude.{◌≡◌};
 
 use crate::pumping::Door;
-use device::Request;
-use device_lock::{LockedDevice, Share};
+use device::{Answer, Event, Request};
+use device_lock::{Full, LockedDevice, Share};
 use guest_memory::GuestMem;
 use std::marker::Model;
 use std::sync::ledger::Ledger;
@@ -56,14 +56,30 @@ impl<M: GuestMem, L: Ledger> LockedDoor<M, L> {
 }
 
 impl<M: GuestMem, L: Ledger> Door for LockedDoor<M, L> {
-    ghost use Rattle.std.specs.Prelude.{◌≡◌, ◌++◌, ◌∷◌, [], if◌then◌else◌};
+    ghost use Rattle.std.specs.Prelude.{◌≡◌, ◌++◌, ◌∷◌, [], true, if◌then◌else◌, IfOk, IfErr, OnOk, OnErr};
     ghost use Rattle.device.specs.declared.event.Event.TheVariants.{Wire};
+    ghost use Rattle.device.specs.World.{World, step};
     ghost use Rattle.device_lock.specs.Held.{having_asked};
+    ghost use Rattle.wire_pump.specs.Ends.{is_wire};
 
     ghost taken = { λ d. d.asked };
 
-    /// Gives the frame to the device, as one call of the pump. It is not taken where the kept history is full.
-    fn act<R: Wait>(&mut self, rt: &R, frame: &FrameBuf) -> bool
+    /// Gives the event to the device, as one call of the pump. It comes back where the kept history is full.
+    #[tactic(auto, using(crate::proofs::Moves::pump_may))]
+    fn act<R: Wait>(&mut self, rt: &R, event: Event) -> Result<Answer, Full>
+        requires wire { is_wire event ≡ true }
+        ensures taken { OnOk result (self.new.asked ≡ self.old.asked ++ event ∷ []) }
+        ensures counted { OnOk result (self.new ≡ having_asked event self.old) }
+        ensures answer { IfOk result (λ answer. (w : World) × (answer ≡ (step w event).answer)) }
+        ensures full { IfErr result (λ full. full.0 ≡ event) }
+        ensures unchanged { OnErr result (self.new.asked ≡ self.old.asked) }
+        ensures same { OnErr result (self.new ≡ self.old) }
+    {
+        self.device.act(rt, &mut self.share, event)
+    }
+
+    /// The same for a frame, of which no event is made.
+    fn take<R: Wait>(&mut self, rt: &R, frame: &FrameBuf) -> bool
         ensures taken { self.new.asked
             ≡ (if result then self.old.asked ++ Wire frame.now ∷ [] else self.old.asked) }
         ensures counted { self.new

@@ -1,34 +1,61 @@
 //! Frames out of the channel, to what takes them.
-ghost use Rattle.std.specs.Prelude.{◌≡◌, ◌++◌, ◌∷◌, [], List, ℕ, map, if◌then◌else◌};
+ghost use Rattle.std.specs.Prelude.{◌≡◌, ◌++◌, ◌∷◌, [], List, ℕ, true, map, if◌then◌else◌, OnOk, OnErr, IfErr};
 ghost use Rattle.device.specs.declared.event.Event.{Event};
 ghost use Rattle.device.specs.declared.event.Event.TheVariants.{Wire};
-ghost use Rattle.wire_pump.specs.Ends.{pumped, IsAll};
+ghost use Rattle.wire_pump.specs.Ends.{is_wire, pumped, IsAll, IsFromWire};
 
 use crate::ends::FrameReceiver;
+use device::{Answer, Event};
+use device_lock::Full;
+use std::fmt;
+use std::fmt::{Debug, Formatter, Write};
 use std::sync::Wait;
 use wire_frame::FrameBuf;
 
-/// What takes the frames that come from the wire.
+/// What takes the frames that come from the wire, each as the event that it comes. A host's own door needs [`Door::act`] alone,
+/// of which [`Door::take`] is made.
 pub trait Door {
     /// The events that it took, in order.
     ghost taken: { Self → List Event };
 
-    /// Takes a frame, as the event that it comes from the wire, and tells whether it did. It did not where there is no room;
-    /// then nothing changed. It may wait.
-    fn act<R: Wait>(&mut self, rt: &R, frame: &FrameBuf) -> bool
+    /// Takes an event, which is an [`Event::Wire`], and answers it. Where there is no room the event comes back, and nothing
+    /// changed. It may wait.
+    fn act<R: Wait>(&mut self, rt: &R, event: Event) -> Result<Answer, Full>
+        requires wire { is_wire event ≡ true }
+        ensures taken { OnOk result (taken self.new ≡ taken self.old ++ event ∷ []) }
+        ensures full { IfErr result (λ full. full.0 ≡ event) }
+        ensures unchanged { OnErr result (taken self.new ≡ taken self.old) };
+
+    /// Takes the event of a frame that is lent, and tells whether it did. A pump calls this, so a door that takes a frame
+    /// without a copy of it may do so here, with the same meaning.
+    fn take<R: Wait>(&mut self, rt: &R, frame: &FrameBuf) -> bool
         ensures { taken self.new
-            ≡ (if result then taken self.old ++ Wire frame.now ∷ [] else taken self.old) };
+            ≡ (if result then taken self.old ++ Wire frame.now ∷ [] else taken self.old) }
+    {
+        self.act(rt, Event::Wire(frame.copy())).is_ok()
+    }
 }
 
 /// How a pump ended.
-#[derive(Debug, Drop)]
+#[derive(Drop)]
 pub enum PumpEnd {
     /// `Last` came: all that was sent was received, and the door took every frame.
     Last,
-    /// The door did not take this frame, which was received last.
-    Full(FrameBuf),
+    /// The door did not take this event: it is that of the frame which was received last.
+    Full(Event),
     /// The sender is gone, and there was no `Last`.
     Gone,
+}
+
+impl Debug for PumpEnd {
+    fn fmt<W: Write>(&self, f: &mut Formatter<W>) -> fmt::Result {
+        match self {
+            PumpEnd::Last => f.write_str("Last"),
+            PumpEnd::Full(Event::Wire(frame)) => f.debug_tuple("Full").field(frame).finish(),
+            PumpEnd::Full(_) => f.write_str("Full"),
+            PumpEnd::Gone => f.write_str("Gone"),
+        }
+    }
 }
 
 /// Gives each frame that comes to the door, in order, until `Last` comes, the door is full, or the sender is gone. It waits
@@ -40,6 +67,7 @@ pub fn pump<D: Door, R: Wait>(receiver: &mut FrameReceiver, rt: &R, door: &mut D
         × (receiver.new
         ≡ record receiver.old { received = receiver.old.received ++ pumped frames result }) }
     ensures whole { IsAll receiver.new.received result }
+    ensures wire { IsFromWire result }
 {
     for _ in rt.forever() {
         let Some(message) = receiver.next(rt) else {
@@ -48,9 +76,9 @@ pub fn pump<D: Door, R: Wait>(receiver: &mut FrameReceiver, rt: &R, door: &mut D
         let Some(frame) = message.frame() else {
             return PumpEnd::Last;
         };
-        let taken = door.act(rt, &frame);
+        let taken = door.take(rt, &frame);
         if !taken {
-            let full = frame.copy();
+            let full = Event::Wire(frame.copy());
             receiver.put_back(rt, frame);
             return PumpEnd::Full(full);
         }

@@ -1,5 +1,5 @@
 -- The own events of the pump are frames.
-use Rattle.std.proofs.Common.{◌≡◌, ℕ, ◌<◌, ◌≤◌, ◌+◌, Bool, true, false, List, [], ◌∷◌, ◌++◌, length, map, take, refl, sym, ap, ◌∙◌, subst, arith}
+use Rattle.std.proofs.Common.{◌≡◌, ℕ, ◌<◌, ◌≤◌, ◌+◌, Bool, true, List, [], ◌∷◌, ◌++◌, length, map, take, refl, sym, ap, ◌∙◌, subst, arith}
 use Rattle.std.specs.Prelude.{slice_index_or}
 use Rattle.std.specs.List.{AllByRecursion}
 use Rattle.std.proofs.lemmas.Bool.{false≢true}
@@ -11,15 +11,11 @@ use Rattle.device.specs.declared.event.Event.{Event}
 use Rattle.device.specs.declared.event.Event.TheVariants.{Open, End, VfRead, VfWrite, MemRead, MemWrite, Serve, Flr, PfRead, PfWrite, PfReset, Wire}
 use Rattle.wire_pump.specs.declared.message.WireMsg.TheVariants.{Frame, Last}
 use Rattle.wire_pump.specs.declared.message.WireMsg.{WireMsg}
+use Rattle.wire_pump.specs.Ends.{frame_in, is_wire}
 use Rattle.workers.specs.Callers.{caller_of, port_or_service, pump}
 use Rattle.workers.specs.Frames.{frames_of}
 use Rattle.workers.specs.Plans.{Planned, own_events}
 use Rattle.workers.proofs.Turns.{not_port, own_at}
-
--- the frame of an event
-abbrev pub frame_in : Event → List ℕ
-frame_in (Wire frame) = frame
-frame_in _ = []
 
 abbrev pub IsWire : Event → Type 0
 IsWire e = e ≡ Wire (frame_in e)
@@ -28,19 +24,19 @@ IsWire e = e ≡ Wire (frame_in e)
 no_guest : (ports : List Bool) (q : ℕ) (e : Event) → length ports ≡ 64 → port_or_service ports q ≡ 65 → IsWire e
 no_guest ports q e many is = let other : 65 ≡ 66 = not_port ports q 65 many (omega arith) is in absurd (omega (arith, other))
 
-is_wire : (ports : List Bool) (e : Event) → length ports ≡ 64 → caller_of ports e ≡ 65 → IsWire e
-is_wire ports (Open q) many is = absurd (omega (arith, is))
-is_wire ports (End q) many is = no_guest ports q (End q) many is
-is_wire ports (VfRead q offset) many is = no_guest ports q (VfRead q offset) many is
-is_wire ports (VfWrite q offset x) many is = no_guest ports q (VfWrite q offset x) many is
-is_wire ports (MemRead q at count) many is = no_guest ports q (MemRead q at count) many is
-is_wire ports (MemWrite q at bytes) many is = no_guest ports q (MemWrite q at bytes) many is
-is_wire ports (Serve q n) many is = absurd (omega (arith, is))
-is_wire ports (Flr q) many is = no_guest ports q (Flr q) many is
-is_wire ports (PfRead offset) many is = absurd (omega (arith, is))
-is_wire ports (PfWrite offset x) many is = absurd (omega (arith, is))
-is_wire ports PfReset many is = absurd (omega (arith, is))
-is_wire ports (Wire frame) many is = refl
+from_wire : (ports : List Bool) (e : Event) → length ports ≡ 64 → caller_of ports e ≡ 65 → IsWire e
+from_wire ports (Open q) many is = absurd (omega (arith, is))
+from_wire ports (End q) many is = no_guest ports q (End q) many is
+from_wire ports (VfRead q offset) many is = no_guest ports q (VfRead q offset) many is
+from_wire ports (VfWrite q offset x) many is = no_guest ports q (VfWrite q offset x) many is
+from_wire ports (MemRead q at count) many is = no_guest ports q (MemRead q at count) many is
+from_wire ports (MemWrite q at bytes) many is = no_guest ports q (MemWrite q at bytes) many is
+from_wire ports (Serve q n) many is = absurd (omega (arith, is))
+from_wire ports (Flr q) many is = no_guest ports q (Flr q) many is
+from_wire ports (PfRead offset) many is = absurd (omega (arith, is))
+from_wire ports (PfWrite offset x) many is = absurd (omega (arith, is))
+from_wire ports PfReset many is = absurd (omega (arith, is))
+from_wire ports (Wire frame) many is = refl
 
 frames_all : (es : List Event) → AllByRecursion IsWire es → frames_of es ≡ map frame_in es
 frames_all [] all = refl
@@ -48,7 +44,7 @@ frames_all (e ∷ es) all = ap (λ (x : Event). frames_of (x ∷ es)) all.0 ∙ 
 
 own_frames : (plan : Planned) → length plan.ports ≡ 64 → frames_of (own_events plan pump) ≡ map frame_in (own_events plan pump)
 own_frames plan many = frames_all (own_events plan pump) (recursion_from_All IsWire (own_events plan pump)
-    (All-from_get_or IsWire (own_events plan pump) PfReset (λ i less. is_wire plan.ports _ many (own_at plan pump i less))))
+    (All-from_get_or IsWire (own_events plan pump) PfReset (λ i less. from_wire plan.ports _ many (own_at plan pump i less))))
 
 pub frames_count : (plan : Planned) → length plan.ports ≡ 64 → length (frames_of (own_events plan pump)) ≡ length (own_events plan pump)
 frames_count plan many = ap length (own_frames plan many) ∙ length-map (own_events plan pump) frame_in
@@ -59,14 +55,10 @@ frame_at plan turn frame many less is =
     ap frame_in is ∙ sym (get_or-map frame_in (own_events plan pump) turn PfReset [] less) ∙ ap (λ (fs : List (List ℕ)). slice_index_or fs turn []) (sym (own_frames plan many))
 
 no_other : (plan : Planned) (turn : ℕ) (e : Event) → length plan.ports ≡ 64 → turn < length (own_events plan pump) → e ≡ slice_index_or (own_events plan pump) turn PfReset → IsWire e
-no_other plan turn e many less is = subst IsWire (sym is) (is_wire plan.ports _ many (own_at plan pump turn less))
+no_other plan turn e many less is = subst IsWire (sym is) (from_wire plan.ports _ many (own_at plan pump turn less))
 
--- a request that brings no frame
-abbrev is_wire_event : Event → Bool
-is_wire_event (Wire frame) = true
-is_wire_event _ = false
-
-other_request : (r : Request) → is_wire_event (event_of r) ≡ true → ((frame : _) → r ≡ Request.Wire frame → ⊥) → ⊥
+-- a request of a frame from the wire is none of the others
+other_request : (r : Request) → is_wire (event_of r) ≡ true → ((frame : _) → r ≡ Request.Wire frame → ⊥) → ⊥
 other_request (Request.Wire frame) is other = other frame refl
 other_request (Request.Open p) is other = false≢true is
 other_request (Request.End p) is other = false≢true is
@@ -83,7 +75,7 @@ other_request Request.PfReset is other = false≢true is
 pub only_frames : (plan : Planned) (turn : ℕ) (r : Request) → length plan.ports ≡ 64 → turn < length (frames_of (own_events plan pump)) → event_of r ≡ slice_index_or (own_events plan pump) turn PfReset
     → ((frame : _) → r ≡ Request.Wire frame → ⊥) → ⊥
 only_frames plan turn r many less is other =
-    other_request r (ap is_wire_event (no_other plan turn (event_of r) many (subst (λ (n : ℕ). turn < n) (frames_count plan many) less) is)) other
+    other_request r (ap is_wire (no_other plan turn (event_of r) many (subst (λ (n : ℕ). turn < n) (frames_count plan many) less) is)) other
 
 -- ---- what is sent of them
 

@@ -13,5 +13,5 @@ frames_of (_ ∷ events) = frames_of events
 
 -- whether a pump ended since its door was full
 abbrev pub is_full : PumpEnd → Bool
-is_full (Full frame) = true
+is_full (Full event) = true
 is_full _ = false

@@ -1,24 +1,26 @@
 //! The pump's door, with its gate and its folds.
-ghost use Rattle.std.specs.Prelude.{◌≡◌, ◌++◌, ◌∷◌, [], if◌then◌else◌};
+ghost use Rattle.std.specs.Prelude.{◌≡◌, ◌++◌, ◌∷◌, [], true, if◌then◌else◌, IfErr, OnOk, OnErr};
 ghost use Rattle.device.specs.declared.event.Event.TheVariants.{Wire};
+ghost use Rattle.wire_pump.specs.Ends.{is_wire};
 ghost use Rattle.workers.specs.Callers.{pump};
 
 use crate::gate::Gate;
-use device_lock::{LockedDevice, PUMP, Share};
+use device::{Answer, Event};
+use device_lock::{Full, LockedDevice, PUMP, Share};
 use guest_memory::GuestMem;
 use std::sync::ledger::Ledger;
 use std::sync::{Arc, Wait};
 use wire_frame::FrameBuf;
 use wire_pump::{Door, LockedDoor};
 
-/// The door to a device that threads share. Where the history is full it is folded, and the frame is given again until it is
+/// The door to a device that threads share. Where the history is full it is folded, and the event is given again until it is
 /// taken, between one call before and one after of the gate.
 #[derive(Drop)]
 pub struct GatedDoor<M: GuestMem, L: Ledger, G: Gate + Drop> {
     inner: LockedDoor<M, L>,
     device: Arc<LockedDevice<M, L>>,
     gate: Arc<G>,
-    // how many frames came
+    // how many events came
     n: u32,
 }
 
@@ -57,7 +59,15 @@ impl<M: GuestMem, L: Ledger, G: Gate + Drop> GatedDoor<M, L, G> {
 impl<M: GuestMem, L: Ledger, G: Gate + Drop> Door for GatedDoor<M, L, G> {
     ghost taken = { λ d. d.inner.asked };
 
-    fn act<R: Wait>(&mut self, rt: &R, frame: &FrameBuf) -> bool {
+    fn act<R: Wait>(&mut self, rt: &R, event: Event) -> Result<Answer, Full> {
+        self.n = self.n.wrapping_add(1);
+        self.gate.before(PUMP, self.n);
+        let answer = act(rt, &self.device, &mut self.inner, event);
+        self.gate.after(PUMP, self.n);
+        answer
+    }
+
+    fn take<R: Wait>(&mut self, rt: &R, frame: &FrameBuf) -> bool {
         self.n = self.n.wrapping_add(1);
         self.gate.before(PUMP, self.n);
         let taken = take(rt, &self.device, &mut self.inner, frame);
@@ -66,8 +76,32 @@ impl<M: GuestMem, L: Ledger, G: Gate + Drop> Door for GatedDoor<M, L, G> {
     }
 }
 
-// Gives a frame to the door until it is taken, and folds the history where it is full. It is not taken where the history
-// can't be folded.
+// Gives an event to the door until it is taken, and folds the history where it is full. It comes back where the history can't
+// be folded.
+fn act<M: GuestMem, L: Ledger, R: Wait>(
+    rt: &R,
+    device: &LockedDevice<M, L>,
+    door: &mut LockedDoor<M, L>,
+    mut event: Event,
+) -> Result<Answer, Full>
+    requires wire { is_wire event ≡ true }
+    ensures taken { OnOk result (door.new.asked ≡ door.old.asked ++ event ∷ []) }
+    ensures full { IfErr result (λ full. full.0 ≡ event) }
+    ensures unchanged { OnErr result (door.new.asked ≡ door.old.asked) }
+{
+    for _ in rt.forever() {
+        match door.act(rt, event) {
+            Ok(answer) => return Ok(answer),
+            Err(Full(back)) => event = back,
+        }
+        if device.fold(rt).is_none() {
+            return Err(Full(event));
+        }
+    }
+    unreachable!()
+}
+
+// The same for a frame: whether its event was taken.
 fn take<M: GuestMem, L: Ledger, R: Wait>(
     rt: &R,
     device: &LockedDevice<M, L>,
@@ -78,7 +112,7 @@ fn take<M: GuestMem, L: Ledger, R: Wait>(
         ≡ (if result then door.old.asked ++ Wire frame.now ∷ [] else door.old.asked) }
 {
     for _ in rt.forever() {
-        if door.act(rt, frame) {
+        if door.take(rt, frame) {
             return true;
         }
         if device.fold(rt).is_none() {

@@ -1,5 +1,5 @@
 -- What both ends know of the sequence of frames may be put together.
-use Rattle.std.proofs.Common.{rules, ◌≡◌}
+use Rattle.std.proofs.Common.{rules}
 use Rattle.wire_pump.proofs.Moves.{merges, compares, forks}
 use Rattle.wire_pump.proofs.ends.FrameSender.beside.Goals as goal
 

@@ -6,4 +6,5 @@ pub mod Lone
 pub mod Outcome
 pub mod Request
 pub mod Resets
+pub mod Slots
 pub mod World

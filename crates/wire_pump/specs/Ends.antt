@@ -27,9 +27,10 @@ channel_of pass = record { table = pass.table_id; key = pass.me.0.of }
 abbrev pub hand_of : Pass WireMsg Hand → Hand
 hand_of pass = view pass
 
--- the end that sends: its channel, and what was sent
+-- the end that sends: its channel, how many messages that holds, and what was sent
 pub record SendEnd : Type 0 where
   pub channel : Channel
+  pub capacity : ℕ
   pub sent : List WireMsg
 
 -- the end that receives: its channel, and what was received

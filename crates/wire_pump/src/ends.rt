@@ -14,7 +14,7 @@ use std::marker::Model;
 use std::sync::Wait;
 use wire_frame::{FrameBuf, FrameLimit};
 
-/// The end of the wire's reader. Contracts see its channel, and the messages that were sent.
+/// The end of the wire's reader. Contracts see its channel, how many messages that holds, and those that were sent.
 #[derive(Drop)]
 pub struct FrameSender {
     pub(crate) end: RuledSender<Parcel, Hand, Flow>,
@@ -33,11 +33,15 @@ impl Model for FrameSender {
 
     ghost use Rattle.std.specs.Prelude.{◌≡◌, true};
     ghost use Rattle.crossbeam_channel.specs.Claims.{IsSeatAt};
-    ghost use Rattle.crossbeam_channel.specs.Ends.{sends_on};
+    ghost use Rattle.crossbeam_channel.specs.Ends.{sends_on, ruled_capacity};
     ghost use Rattle.wire_pump.specs.Pump.{sender, is_ended, is_proper};
     ghost use Rattle.wire_pump.specs.Ends.{channel_of, hand_of};
 
-    ghost view = { λ s. record { channel = channel_of s.pass; sent = (hand_of s.pass).sent } };
+    ghost view = { λ s. record {
+      channel = channel_of s.pass;
+      capacity = ruled_capacity (sends_on s.end);
+      sent = (hand_of s.pass).sent;
+    } };
 
     ghost invariant = { λ s. IsSeatAt (sends_on s.end) s.pass
         × (hand_of s.pass ≡ sender (hand_of s.pass).sent)

@@ -21,6 +21,7 @@ const FRAMES: usize = CAPACITY + 2;
 #[inline(never)]
 pub fn channel(alloc: Global) -> Result<(FrameSender, FrameReceiver), Fault>
     ensures one { IfOk result (λ r. r.0.channel ≡ r.1.channel) }
+    ensures capacity { IfOk result (λ r. r.0.capacity ≡ 64) }
     ensures sent { IfOk result (λ r. r.0.sent ≡ []) }
     ensures received { IfOk result (λ r. r.1.received ≡ []) }
     ensures no_memory { IfErr result (λ fault. fault ≡ NoMemory) }
@@ -34,6 +35,7 @@ pub fn channel(alloc: Global) -> Result<(FrameSender, FrameReceiver), Fault>
 // The two ends.
 fn ends(alloc: Global) -> Result<(FrameSender, FrameReceiver), AllocError>
     ensures one { IfOk result (λ r. r.0.channel ≡ r.1.channel) }
+    ensures capacity { IfOk result (λ r. r.0.capacity ≡ 64) }
     ensures sent { IfOk result (λ r. r.0.sent ≡ []) }
     ensures received { IfOk result (λ r. r.1.received ≡ []) }
 {

@@ -108,9 +108,11 @@ fn receives<R: Wait, L: Ledger>(rt: &R, alloc: Global, blank: Blank) -> Result<b
         let _ = answer(rt, &*device, &mut service, event);
     }
     let mut door = LockedDoor::new(Arc::try_clone(&device)?, shares.pump);
-    match door.act(rt, Event::Wire(frame.copy())) {
-        Ok(answer) if answer.raised[3] == 1 => {}
-        _ => return Ok(false),
+    let Ok(taken) = door.act(rt, Event::Wire(frame.copy())) else {
+        return Ok(false);
+    };
+    if taken.raised[3] != 1 {
+        return Ok(false);
     }
     match answer(rt, &*device, &mut service, Event::MemRead(3, 0x4000, 60)) {
         Some(answer) => match &answer.reply {

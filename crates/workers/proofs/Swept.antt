@@ -1,76 +1,186 @@
--- One note more that a sweep looked at, and one that it took out.
-use Rattle.std.proofs.Common.{◌≡◌, ℕ, ◌+◌, ◌<◌, ◌==◌, List, [], ◌∷◌, ◌++◌, drop, get_or, if◌then◌else◌, length, map, set, sym, ap, ◌∙◌, take, append_assoc, subst, arith}
-use Rattle.std.specs.List.{sum_by}
-use Rattle.std.proofs.lemmas.List.{length-append, length-drop, length-set, length-take-le, map-append, take-append-le, take-set, take_all}
-use Rattle.std.proofs.lemmas.List.Sums.{sum_by-append, sum_by-drop_more, sum_by-set, sum_by-take-drop}
+-- One note more that a sweep came past, and one that it took out.
+use Rattle.std.proofs.Common.{◌≡◌, ℕ, ◌+◌, ◌<◌, ◌≤◌, Bool, true, false, not, cond, List, [], ◌∷◌, ◌++◌, drop, filter, get_or, length, map, set, refl, sym, ap, ◌∙◌, take, append_assoc, subst, arith}
+use Rattle.std.proofs.Math.Seq.{drop-append-add, get_or-append_seam, set-append_seam, take-append_seam}
+use Rattle.std.proofs.lemmas.List.{append-nil, get_or-set_same, length-append, length-set, map-append}
+use Rattle.std.proofs.lemmas.List.Elements.{filter-append, filter_passes}
 use Rattle.device.specs.declared.event.Event.{Event}
 use Rattle.device.specs.declared.event.Event.TheVariants.{End}
 use Rattle.device_lock.specs.Held.{Mine, having_asked, having_asked_all}
-use Rattle.guest_port.specs.Notes.{Known}
-use Rattle.workers.specs.Sweeps.{IsSwept, NoneEnded, notes_of, times}
+use Rattle.guest_port.specs.Notes.{Known, knows}
+use Rattle.workers.specs.Sweeps.{AreLooked, IsLooked, IsSwept, NoneEnded, end_of, is_ended, is_live}
+use Rattle.workers.proofs.First.{none_asked}
 
 abbrev Note : Type 0
 Note = ℕ × Known
 
-out : (q at : ℕ) (notes : List Note) (d : Note) → at < length notes
-    → notes_of q notes ≡ notes_of q (take at notes ++ drop (at + 1) notes) + (if (get_or notes at d).0 == q then 1 else 0)
-out q at notes d less =
-    let f : Note → ℕ = λ n. if n.0 == q then 1 else 0 in
-    let a : sum_by f (take at notes ++ drop (at + 1) notes) ≡ sum_by f (take at notes) + sum_by f (drop (at + 1) notes) = sum_by-append f (take at notes) (drop (at + 1) notes) in
-    let t : sum_by f (take at notes) + sum_by f (drop at notes) ≡ sum_by f notes = sum_by-take-drop f notes at in
-    let m : sum_by f (drop at notes) ≡ f (get_or notes at d) + sum_by f (drop (at + 1) notes) = sum_by-drop_more f notes at d less in
-    omega (arith, a, t, m)
+-- a sweep under way: so many of the notes that it came past stay
+pub record IsUnderWay (first notes : List Note) (at : ℕ) (old new : Mine) : Type 0 where
+  pub swept : IsSwept first notes old new
+  pub place : at ≡ length (filter is_live swept.passed)
 
-out_length : (at : ℕ) (notes : List Note) → at < length notes → length notes ≡ length (take at notes ++ drop (at + 1) notes) + 1
-out_length at notes less =
-    let a = length-append (take at notes) (drop (at + 1) notes) in
-    let t = length-take-le at notes (omega arith) in
-    let d = length-drop (at + 1) notes in
-    omega (arith, a, t, d)
+-- notes at which nobody looked
+are_looked : (notes : List Note) → AreLooked notes notes
+are_looked [] = tt
+are_looked (n ∷ notes) = (record { pool = refl; port = refl; told = refl; found = λ is. is }, are_looked notes)
 
-one_more : (q p : ℕ) (pools : List ℕ) → times q (pools ++ p ∷ []) ≡ times q pools + (if p == q then 1 else 0)
-one_more q p pools =
-    let f : ℕ → ℕ = λ (x : ℕ). if x == q then 1 else 0 in
-    let a : sum_by f (pools ++ p ∷ []) ≡ sum_by f pools + sum_by f (p ∷ []) = sum_by-append f pools (p ∷ []) in
-    omega (arith, a)
+-- one of them is looked at again
+looked_again : (first passed rest : List Note) (n m : Note) → IsLooked n m → AreLooked first (passed ++ n ∷ rest) → AreLooked first (passed ++ m ∷ rest)
+looked_again [] [] rest n m look are = absurd are
+looked_again [] (x ∷ passed) rest n m look are = absurd are
+looked_again (f ∷ first) [] rest n m look are = (
+  record {
+    pool = look.pool ∙ are.0.pool;
+    port = look.port ∙ are.0.port;
+    told = look.told ∙ are.0.told;
+    found = λ is. look.found (are.0.found is);
+  },
+  are.1,
+)
+looked_again (f ∷ first) (x ∷ passed) rest n m look are = (are.0, looked_again first passed rest n m look are.1)
 
--- a note that was looked at is of its pool still
-pub swept_looked : (first notes : List Note) (at : ℕ) (note d : Note) (old new : Mine) → at < length notes → note.0 ≡ (get_or notes at d).0 → IsSwept first notes old new → IsSwept first (set notes at note) old new
-swept_looked first notes at note d old new less same before = record {
-  ended = before.ended;
-  asked = before.asked;
-  each = λ q.
-      let f : Note → ℕ = λ n. if n.0 == q then 1 else 0 in
-      let s : sum_by f (set notes at note) + f (get_or notes at d) ≡ sum_by f notes + f note = sum_by-set f notes at note d less in
-      let k : f note ≡ f (get_or notes at d) = ap {B = ℕ} (λ (n : ℕ). if n == q then 1 else 0) same in
-      let e = before.each q in omega (arith, s, k, e);
-  many = let l = length-set notes at note in let m = before.many in omega (arith, l, m);
+-- ---- the lists of those that know, and of those that don't, with one note more
+
+ended_more : (passed : List Note) (n : Note) → knows n.1 ≡ true → filter is_ended (passed ++ n ∷ []) ≡ filter is_ended passed ++ n ∷ []
+ended_more passed n is = filter-append is_ended passed (n ∷ []) ∙ ap (λ (b : Bool). filter is_ended passed ++ cond b (n ∷ []) []) is
+
+ended_same : (passed : List Note) (n : Note) → knows n.1 ≡ false → filter is_ended (passed ++ n ∷ []) ≡ filter is_ended passed
+ended_same passed n is = filter-append is_ended passed (n ∷ []) ∙ (ap (λ (b : Bool). filter is_ended passed ++ cond b (n ∷ []) []) is ∙ append-nil (filter is_ended passed))
+
+live_more : (passed : List Note) (n : Note) → knows n.1 ≡ false → filter is_live (passed ++ n ∷ []) ≡ filter is_live passed ++ n ∷ []
+live_more passed n is = filter-append is_live passed (n ∷ []) ∙ ap (λ (b : Bool). filter is_live passed ++ cond (not b) (n ∷ []) []) is
+
+live_same : (passed : List Note) (n : Note) → knows n.1 ≡ true → filter is_live (passed ++ n ∷ []) ≡ filter is_live passed
+live_same passed n is = filter-append is_live passed (n ∷ []) ∙ (ap (λ (b : Bool). filter is_live passed ++ cond (not b) (n ∷ []) []) is ∙ append-nil (filter is_live passed))
+
+-- ---- a sweep from its start to its end
+
+pub way_begins : (notes : List Note) (old : Mine) → IsUnderWay notes notes 0 old old
+way_begins notes old = record {
+  swept = record { passed = []; rest = notes; looked = are_looked notes; asked = sym (none_asked old); stay = refl };
+  place = refl;
 }
 
-pub swept_more : (first notes after : List Note) (at p : ℕ) (d : Note) (old mid new : Mine) → at < length notes → after ≡ take at notes ++ drop (at + 1) notes → p ≡ (get_or notes at d).0
-    → new ≡ having_asked (End p) mid → IsSwept first notes old mid → IsSwept first after old new
-swept_more first notes after at p d old mid new less left is more before = record {
-  ended = before.ended ++ p ∷ [];
-  asked =
-      more ∙ ap (having_asked (End p)) before.asked
-      ∙ ap (λ (xs : List Event). record { caller = old.caller; asked = xs })
-      (append_assoc old.asked (map (λ (q : ℕ). End q) before.ended) (End p ∷ []) ∙ ap (λ (xs : List Event). old.asked ++ xs) (sym (map-append (λ (q : ℕ). End q) before.ended (p ∷ []))));
-  each = λ q.
-      before.each q
-      ∙ (let o = out q at notes d less in let m = one_more q p before.ended in let k = ap (notes_of q) left in let s : (if p == q then 1 else 0) ≡ (if (get_or notes at d).0 == q then 1 else 0) = ap {B = ℕ} (λ (n : ℕ). if n == q then 1 else 0) is in omega (arith, o, m, k, s));
-  many =
-      let o = out_length at notes less in let l = length-append before.ended (p ∷ []) in let k = ap length left in let m = before.many in omega (arith, o, l, k, m);
-}
+-- the note at the sweep's place is the first of the rest; once it was looked at it stands there as it is then
+here_is : (front rest notes : List Note) (n d : Note) (at : ℕ) → notes ≡ front ++ n ∷ rest → at ≡ length front → get_or notes at d ≡ n
+here_is front rest notes n d at is place =
+    ap (λ (xs : List Note). get_or xs at d) is ∙ (ap (λ (k : ℕ). get_or (front ++ n ∷ rest) k d) place ∙ get_or-append_seam front n rest d)
 
--- those before a note that is taken out are the ones that were looked at
-pub looked_out : (notes after : List Note) (at : ℕ) (note : Note) → at < length notes → after ≡ take at (set notes at note) ++ drop (at + 1) (set notes at note) → NoneEnded (take at notes) → NoneEnded (take at after)
-looked_out notes after at note less left before =
-    let front : List Note = take at (set notes at note) in
-    let s = length-set notes at note in
-    let l : length front ≡ at = length-take-le at (set notes at note) (omega (arith, s)) in
-    let k : take at after ≡ take at notes =
-    ap (take at) left
-    ∙ take-append-le at front (drop (at + 1) (set notes at note)) (omega (arith, l))
-    ∙ take_all at front (omega (arith, l))
-    ∙ take-set notes at note in
-    subst NoneEnded (sym k) before
+put_here : (front rest notes : List Note) (n note : Note) (at : ℕ) → notes ≡ front ++ n ∷ rest → at ≡ length front → set notes at note ≡ front ++ note ∷ rest
+put_here front rest notes n note at is place =
+    ap (λ (xs : List Note). set xs at note) is ∙ (ap (λ (k : ℕ). set (front ++ n ∷ rest) k note) place ∙ set-append_seam front n rest note)
+
+out_of_here : (front rest : List Note) (note : Note) (at : ℕ) → at ≡ length front → take at (front ++ note ∷ rest) ++ drop (at + 1) (front ++ note ∷ rest) ≡ front ++ rest
+out_of_here front rest note at place =
+    let all : List Note = front ++ note ∷ rest in
+    ap (λ (k : ℕ). take k all ++ drop (k + 1) all) place
+    ∙ (ap (λ (xs : List Note). xs ++ drop (length front + 1) all) (take-append_seam front (note ∷ rest)) ∙ ap (λ (xs : List Note). front ++ xs) (drop-append-add front (note ∷ rest) 1))
+
+-- a place among the notes is one of a note that the sweep has not come past
+nobody_here : (front notes : List Note) (at : ℕ) → notes ≡ front ++ [] → at ≡ length front → at < length notes → ⊥
+nobody_here front notes at is place less = let l = ap length is in let n = length-append front [] in omega (arith, l, n, place, less)
+
+-- what a look at the next note leaves, before anything else is done
+way_looks : (first notes : List Note) (at : ℕ) (d note : Note) (old mid : Mine) → at < length notes → IsLooked (get_or notes at d) note → IsUnderWay first notes at old mid → IsUnderWay first (set notes at note) at old mid
+way_looks first notes at d note old mid less look way = go way.swept.passed way.swept.rest way.swept.looked way.swept.asked way.swept.stay way.place
+  where
+    go : (passed rest : List Note) → AreLooked first (passed ++ rest) → mid ≡ having_asked_all (map end_of (filter is_ended passed)) old → notes ≡ filter is_live passed ++ rest
+        → at ≡ length (filter is_live passed) → IsUnderWay first (set notes at note) at old mid
+    go passed [] are asked stay place = absurd (nobody_here (filter is_live passed) notes at stay place less)
+    go passed (n ∷ rest) are asked stay place = record {
+      swept = record {
+        passed = passed;
+        rest = note ∷ rest;
+        looked = looked_again first passed rest n note (subst (λ (x : Note). IsLooked x note) (here_is (filter is_live passed) rest notes n d at stay place) look) are;
+        asked = asked;
+        stay = put_here (filter is_live passed) rest notes n note at stay place;
+      };
+      place = place;
+    }
+
+-- the next note doesn't know, and stays
+way_leaves : (first notes : List Note) (at : ℕ) (note : Note) (old mid : Mine) → at < length notes → note ≡ get_or notes at note → knows note.1 ≡ false → IsUnderWay first notes at old mid → IsUnderWay first notes (at + 1) old mid
+way_leaves first notes at note old mid less is live way = go way.swept.passed way.swept.rest way.swept.looked way.swept.asked way.swept.stay way.place
+  where
+    go : (passed rest : List Note) → AreLooked first (passed ++ rest) → mid ≡ having_asked_all (map end_of (filter is_ended passed)) old → notes ≡ filter is_live passed ++ rest
+        → at ≡ length (filter is_live passed) → IsUnderWay first notes (at + 1) old mid
+    go passed [] are asked stay place = absurd (nobody_here (filter is_live passed) notes at stay place less)
+    go passed (n ∷ rest) are asked stay place =
+        let unknown : knows n.1 ≡ false = subst (λ (x : Note). knows x.1 ≡ false) (is ∙ here_is (filter is_live passed) rest notes n note at stay place) live in
+        let more = live_more passed n unknown in
+        record {
+          swept = record {
+            passed = passed ++ n ∷ [];
+            rest = rest;
+            looked = subst (AreLooked first) (sym (append_assoc passed (n ∷ []) rest)) are;
+            asked = asked ∙ ap (λ (xs : List Note). having_asked_all (map end_of xs) old) (sym (ended_same passed n unknown));
+            stay = stay ∙ (sym (append_assoc (filter is_live passed) (n ∷ []) rest) ∙ ap (λ (xs : List Note). xs ++ rest) (sym more));
+          };
+          place = let l = ap length more in let k = length-append (filter is_live passed) (n ∷ []) in omega (arith, place, l, k);
+        }
+
+-- the next note knows: its end is asked, and it is taken out
+way_takes : (first notes after : List Note) (at : ℕ) (note : Note) (old mid new : Mine) → at < length notes → note ≡ get_or notes at note → knows note.1 ≡ true → after ≡ take at notes ++ drop (at + 1) notes
+    → new ≡ having_asked (End note.0) mid → IsUnderWay first notes at old mid → IsUnderWay first after at old new
+way_takes first notes after at note old mid new less is ended out ask way = go way.swept.passed way.swept.rest way.swept.looked way.swept.asked way.swept.stay way.place
+  where
+    go : (passed rest : List Note) → AreLooked first (passed ++ rest) → mid ≡ having_asked_all (map end_of (filter is_ended passed)) old → notes ≡ filter is_live passed ++ rest
+        → at ≡ length (filter is_live passed) → IsUnderWay first after at old new
+    go passed [] are asked stay place = absurd (nobody_here (filter is_live passed) notes at stay place less)
+    go passed (n ∷ rest) are asked stay place =
+        let same : note ≡ n = is ∙ here_is (filter is_live passed) rest notes n note at stay place in
+        let known : knows n.1 ≡ true = subst (λ (x : Note). knows x.1 ≡ true) same ended in
+        let none = live_same passed n known in
+        record {
+          swept = record {
+            passed = passed ++ n ∷ [];
+            rest = rest;
+            looked = subst (AreLooked first) (sym (append_assoc passed (n ∷ []) rest)) are;
+            asked =
+                ask ∙ ap (λ (x : Note). having_asked (End x.0) mid) same ∙ ap (having_asked (End n.0)) asked
+                ∙ ap (λ (xs : List Event). record { caller = old.caller; asked = xs })
+                (append_assoc old.asked (map end_of (filter is_ended passed)) (End n.0 ∷ [])
+                ∙ ap (λ (xs : List Event). old.asked ++ xs) (sym (ap (map end_of) (ended_more passed n known) ∙ map-append end_of (filter is_ended passed) (n ∷ []))));
+            stay =
+                out ∙ ap (λ (xs : List Note). take at xs ++ drop (at + 1) xs) stay
+                ∙ (out_of_here (filter is_live passed) rest n at place ∙ ap (λ (xs : List Note). xs ++ rest) (sym none));
+          };
+          place = place ∙ sym (ap length none);
+        }
+
+-- where the sweep is through, none of those that stay knows of an end
+pub way_ends : (first notes : List Note) (at : ℕ) (old new : Mine) → length notes ≤ at → IsUnderWay first notes at old new → NoneEnded notes
+way_ends first notes at old new through way = go way.swept.passed way.swept.rest way.swept.stay way.place
+  where
+    unknown : (b : Bool) → not b ≡ true → b ≡ false
+    unknown false is = refl
+    unknown true is = sym is
+
+    go : (passed rest : List Note) → notes ≡ filter is_live passed ++ rest → at ≡ length (filter is_live passed) → NoneEnded notes
+    go passed [] stay place = subst NoneEnded (sym (stay ∙ append-nil (filter is_live passed))) (λ k d inside. unknown _ (filter_passes is_live passed k d inside))
+    go passed (n ∷ rest) stay place =
+        absurd (let l = ap length stay in let k = length-append (filter is_live passed) (n ∷ rest) in omega (arith, l, k, place, through))
+
+-- ---- one note, from the look at it on
+
+looked_less : (notes : List Note) (at : ℕ) (note : Note) → at < length notes → at < length (set notes at note)
+looked_less notes at note less = let l = length-set notes at note in omega (arith, less, l)
+
+looked_way : (first notes : List Note) (at : ℕ) (was note : Note) (old mid : Mine) → at < length notes → was ≡ get_or notes at was → IsLooked was note → IsUnderWay first notes at old mid → IsUnderWay first (set notes at note) at old mid
+looked_way first notes at was note old mid less is look way = way_looks first notes at was note old mid less (subst (λ (x : Note). IsLooked x note) is look) way
+
+pub way_left : (first notes : List Note) (at : ℕ) (was note : Note) (old mid new : Mine) → at < length notes → was ≡ get_or notes at was → IsLooked was note → knows note.1 ≡ false → new ≡ mid
+    → IsUnderWay first notes at old mid → IsUnderWay first (set notes at note) (at + 1) old new
+way_left first notes at was note old mid new less is look live same way =
+    subst (IsUnderWay first (set notes at note) (at + 1) old) (sym same)
+    (way_leaves first (set notes at note) at note old mid (looked_less notes at note less) (sym (get_or-set_same notes at note note less)) live (looked_way first notes at was note old mid less is look way))
+
+pub way_taken : (first notes after : List Note) (at : ℕ) (was note : Note) (old mid new : Mine) → at < length notes → was ≡ get_or notes at was → IsLooked was note → knows note.1 ≡ true
+    → after ≡ take at (set notes at note) ++ drop (at + 1) (set notes at note) → new ≡ having_asked (End note.0) mid → IsUnderWay first notes at old mid → IsUnderWay first after at old new
+way_taken first notes after at was note old mid new less is look ended out ask way =
+    way_takes first (set notes at note) after at note old mid new (looked_less notes at note less) (sym (get_or-set_same notes at note note less)) ended out ask (looked_way first notes at was note old mid less is look way)
+
+-- the history is full at a note that knows, which stays
+pub way_stops : (first notes : List Note) (at : ℕ) (was note : Note) (old mid new : Mine) → at < length notes → was ≡ get_or notes at was → IsLooked was note → new ≡ mid → IsUnderWay first notes at old mid
+    → IsSwept first (set notes at note) old new
+way_stops first notes at was note old mid new less is look same way =
+    subst (IsSwept first (set notes at note) old) (sym same) (looked_way first notes at was note old mid less is look way).swept

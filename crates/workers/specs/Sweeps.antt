@@ -1,25 +1,44 @@
 -- What a sweep over notes of ports does.
-use Rattle.std.specs.Prelude.{◌≡◌, ℕ, ◌+◌, ◌==◌, true, false, List, length, map, if◌then◌else◌}
-use Rattle.std.specs.List.{All, Contains, sum_by}
+use Rattle.std.specs.Prelude.{◌≡◌, ℕ, true, false, Bool, not, List, [], ◌∷◌, ◌++◌, filter, map}
+use Rattle.std.specs.List.{All, Contains}
 use Rattle.device.specs.declared.event.Event.{Event}
 use Rattle.device.specs.declared.event.Event.TheVariants.{End}
 use Rattle.device_lock.specs.Held.{Mine, having_asked_all}
 use Rattle.guest_port.specs.Notes.{Known, knows}
 
--- how many of the notes are of pool p
-abbrev pub notes_of : ℕ → List (ℕ × Known) → ℕ
-notes_of p notes = sum_by (λ (note : ℕ × Known). if note.0 == p then 1 else 0) notes
+-- whether a note, which stands beside its pool, knows of its port's end, and whether it doesn't
+abbrev pub is_ended : ℕ × Known → Bool
+is_ended note = knows note.1
 
--- how often pool p is among the pools
-abbrev pub times : ℕ → List ℕ → ℕ
-times p pools = sum_by (λ (q : ℕ). if q == p then 1 else 0) pools
+abbrev pub is_live : ℕ × Known → Bool
+is_live note = not (knows note.1)
 
--- each note that was taken out is an end of its pool that the share asked, and nothing else was asked
+-- the end that a note stands for, as an event
+abbrev pub end_of : ℕ × Known → Event
+end_of note = End note.0
+
+-- a note before and after somebody looked at it: it is of the same pool and the same port, it was told as much, and what it had
+-- found it has found still
+pub record IsLooked (before after : ℕ × Known) : Type 0 where
+  pub pool : after.0 ≡ before.0
+  pub port : after.1.port ≡ before.1.port
+  pub told : after.1.told ≡ before.1.told
+  pub found : before.1.found ≡ true → after.1.found ≡ true
+
+-- the same of each note of a list, in order
+abbrev pub AreLooked : List (ℕ × Known) → List (ℕ × Known) → Type 0
+AreLooked [] [] = Unit
+AreLooked (n ∷ before) (m ∷ after) = IsLooked n m × AreLooked before after
+AreLooked _ _ = ⊥
+
+-- a sweep came past the first notes, and the rest of them are left: of those that it came past, the ones that knew of their ports'
+-- ends are gone, and the share asked exactly their ends, in order; the others stay, in order
 pub record IsSwept (before after : List (ℕ × Known)) (old new : Mine) : Type 0 where
-  pub ended : List ℕ
-  pub asked : new ≡ having_asked_all (map (λ (p : ℕ). End p) ended) old
-  pub each : (p : ℕ) → notes_of p before ≡ notes_of p after + times p ended
-  pub many : length before ≡ length after + length ended
+  pub passed : List (ℕ × Known)
+  pub rest : List (ℕ × Known)
+  pub looked : AreLooked before (passed ++ rest)
+  pub asked : new ≡ having_asked_all (map end_of (filter is_ended passed)) old
+  pub stay : after ≡ filter is_live passed ++ rest
 
 -- none of the notes knows of an end
 abbrev pub NoneEnded : List (ℕ × Known) → Type 0

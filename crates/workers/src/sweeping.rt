@@ -1,7 +1,10 @@
 //! The ends of ports, as events.
-ghost use Rattle.std.specs.Prelude.{◌≡◌, ◌+◌, length, IfErr, IfOk, OnOk};
+ghost use Rattle.std.specs.Prelude.{◌≡◌, ◌+◌, length, true, false, IfErr, IfOk, OnOk};
+ghost use Rattle.device.specs.declared.event.Event.TheVariants.{End};
+ghost use Rattle.device_lock.specs.Held.{having_asked};
+ghost use Rattle.guest_port.specs.Notes.{knows};
 ghost use Rattle.workers.specs.Callers.{service};
-ghost use Rattle.workers.specs.Sweeps.{IsEndOfOne, IsSwept, NoneEnded};
+ghost use Rattle.workers.specs.Sweeps.{IsEndOfOne, IsLooked, IsSwept, NoneEnded};
 
 use device::Event;
 use device_lock::{Full, LockedDevice, Share};
@@ -12,7 +15,6 @@ use std::sync::ledger::Ledger;
 
 /// Records `End p` for each pool whose note is found ended, takes that pair out, and answers how many they were: then no note
 /// that stays knows of an end. Where no more calls can be kept the event comes back, its pair stays, and so do those after it.
-#[tactic(auto, using(crate::proofs::Swept::swept_looked))]
 pub fn sweep<M: GuestMem, L: Ledger, R: Wait>(
     rt: &R,
     notes: &mut Vec<(u8, EndNote)>,
@@ -28,8 +30,8 @@ pub fn sweep<M: GuestMem, L: Ledger, R: Wait>(
     let mut count = 0;
     let mut at = 0;
     while at < notes.len() {
-        if notes[at].1.ended() {
-            let _ = device.act(rt, share, Event::End(notes[at].0))?;
+        let ended = end_known(rt, &mut notes[at], device, share)?;
+        if ended {
             let _ = notes.remove(at);
             count += 1;
         } else {
@@ -37,4 +39,30 @@ pub fn sweep<M: GuestMem, L: Ledger, R: Wait>(
         }
     }
     Ok(count)
+}
+
+// Looks at a note, and records its pool's end where it knows of it, which is the answer. (What it says of knowing it says of a
+// note that is there still: of one that is gone it could be made up.)
+fn end_known<M: GuestMem, L: Ledger, R: Wait>(
+    rt: &R,
+    note: &mut (u8, EndNote),
+    device: &LockedDevice<M, L>,
+    share: &mut Share<L>,
+) -> Result<bool, Full>
+    requires { share.old.caller ≡ service }
+    ensures looked { IsLooked note.old note.new }
+    ensures knows { IfOk result (λ ended. ended ≡ knows note.new.1) }
+    ensures ended { IfOk result
+        (λ ended. ended ≡ true → share.new ≡ having_asked (End note.new.0) share.old) }
+    ensures live { IfOk result (λ ended. ended ≡ false → share.new ≡ share.old) }
+    ensures full { IfErr result (λ full. (full.0 ≡ End note.new.0)
+        × (knows note.new.1 ≡ true) × (share.new ≡ share.old)) }
+{
+    if !note.1.ended() {
+        return Ok(false);
+    }
+    match device.act(rt, share, Event::End(note.0)) {
+        Ok(_) => Ok(true),
+        Err(full) => Err(full),
+    }
 }

@@ -1,12 +1,13 @@
--- Each note that was taken out is an end that was asked, and none of those that were looked at and stay knows of one.
-use Rattle.std.proofs.Common.{◌≡◌, ◌+◌, ◌-◌, length, take}
-use Rattle.workers.specs.Sweeps.{IsSwept, NoneEnded}
+-- Each note that was taken out is an end that was asked, and those that the sweep came past and that stay stand before its place.
+use Rattle.std.proofs.Common.{◌≡◌, ◌+◌, ◌-◌, length}
+use Rattle.workers.specs.Callers.{service}
+use Rattle.workers.proofs.Swept.{IsUnderWay}
 use Rattle.workers.proofs.sweeping.sweep.Given as goal
 
 abbrev pub invariant-loop-at : goal.invariant-loop-at
 invariant-loop-at g l = record {
-  swept : IsSwept l.fn.notes.items l.notes.items l.fn.share l.share;
-  looked : NoneEnded (take l.at l.notes.items);
+  way : IsUnderWay l.fn.notes.items l.notes.items l.at l.fn.share l.share;
+  caller : l.share.caller ≡ service;
   count : l.count + length l.notes.items ≡ length l.fn.notes.items;
 }
 

@@ -24,7 +24,7 @@ script() {
 
 # Instructions of a run: MODE SCRIPT.
 instructions() {
-    valgrind --tool=callgrind --callgrind-out-file=/dev/null crates/host/out/host "$1" <"$2" 2>"$work/err" >/dev/null
+    valgrind --tool=callgrind --callgrind-out-file=/dev/null crates/vfdev/out/vfdev "$1" <"$2" 2>"$work/err" >/dev/null
     awk '/Collected/ { print $NF }' "$work/err"
 }
 
@@ -33,7 +33,7 @@ wall() {
     least=
     for _ in 1 2 3 4 5 6 7 8 9; do
         from=$(date +%s%N)
-        crates/host/out/host "$1" <"$2" >/dev/null
+        crates/vfdev/out/vfdev "$1" <"$2" >/dev/null
         took=$(($(date +%s%N) - from))
         if [ -z "$least" ] || [ $took -lt "$least" ]; then least=$took; fi
     done

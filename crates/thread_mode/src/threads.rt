@@ -1,8 +1,9 @@
 //! The mode `threads`: a script that is done by a thread for each guest, and the history that is kept of it.
-ghost use Rattle.std.specs.Prelude.{◌≡◌, [], IfOk};
+ghost use Rattle.std.specs.Prelude.{◌≡◌, [], false, length, IfOk};
 ghost use Rattle.script.specs.Shapes.{asked_by};
-ghost use Rattle.device_lock.specs.Made.{AreUnused, IsFresh};
+ghost use Rattle.device_lock.specs.Made.{AreUnused, IsFresh, begun};
 ghost use Rattle.modes.specs.Program.{device_of};
+ghost use Rattle.thread_mode.specs.Room.{most_calls};
 
 use crate::report::write_report;
 use device::Device;
@@ -13,14 +14,14 @@ use irq_line::{DeviceSeat, make};
 use log::sink::Discard;
 use modes::drive::read;
 use modes::{Fault, make_device, put_away};
-use script::{Script, Shape};
+use script::Script;
 use std::alloc::Global;
 use std::io::{Read, Write};
 use std::marker::Brand;
 use std::sync::ledger::{Blank, Ledger};
 use std::sync::{Arc, Wait};
 use std::thread::Threads;
-use workers::{OpenGate, prepare, run_workers};
+use workers::{Ended, OpenGate, prepare, run_workers};
 
 /// How many more calls may be kept than a script has events: one for the end of each port.
 const MOST_ENDS: usize = 64;
@@ -38,20 +39,36 @@ pub fn drive_threads<R: Threads + Wait + Copy + Send + 'static, I: Read, W: Writ
 ) -> Result<(), Fault> {
     let script = read(alloc, reader)?;
     let shape = script.shape();
-    let live = make_memories(alloc, shape)?;
-    let mut other = make_device(alloc, shape, make_memories(alloc, shape)?)?;
+    let mut live = Vec::with_capacity(alloc, usize::from(shape.functions))?;
+    let mut others = Vec::with_capacity(alloc, usize::from(shape.functions))?;
+    for _ in 0..shape.functions {
+        let memory: Box<dyn GuestMem + Send> = make_memory(alloc, shape.memory_size)?;
+        live.push(memory)?;
+        let memory: Box<dyn GuestMem + Send> = make_memory(alloc, shape.memory_size)?;
+        others.push(memory)?;
+    }
+    with_other(rt, alloc, script, live, others, writer)
+}
+
+// A memory of that size, to be handed on in its box.
+fn make_memory(alloc: Global, size: u64) -> Result<Box<FlatMem>, Fault> {
+    Ok(Box::new(alloc, FlatMem::new(alloc, size)?)?)
+}
+
+// Makes the other device, which is to give the kept answers, and does the script by threads.
+#[inline(never)]
+fn with_other<M: GuestMem + Send + 'static, R: Threads + Wait + Copy + Send + 'static, W: Write>(
+    rt: R,
+    alloc: Global,
+    script: Script,
+    live: Vec<M>,
+    others: Vec<M>,
+    writer: &mut W,
+) -> Result<(), Fault> {
+    let mut other = make_device(alloc, script.shape(), others)?;
     let done = with_ports(rt, alloc, script, live, &mut other, writer);
     put_away(other);
     done
-}
-
-// The memories of a script's shape.
-fn make_memories(alloc: Global, shape: Shape) -> Result<Vec<FlatMem>, Fault> {
-    let mut memories = Vec::with_capacity(alloc, usize::from(shape.functions))?;
-    for _ in 0..shape.functions {
-        memories.push(FlatMem::new(alloc, shape.memory_size)?)?;
-    }
-    Ok(memories)
 }
 
 // Makes a port for each function, in boxes, and does the script by threads. The other device is one as it is made.
@@ -115,8 +132,7 @@ fn play_threads<
     requires line { line.raises ≡ [] }
 {
     let device = make_device(alloc, script.shape(), live)?;
-    let cap = script.len().saturating_add(MOST_ENDS);
-    let (recorded, mut shares) = record::<M, L>(alloc, blank, device, line, cap)?;
+    let (recorded, mut shares) = record::<M, L>(alloc, blank, device, line, &script)?;
     let locked = lock(alloc, recorded)?;
     let pools = match prepare(&rt, alloc, &script, &locked, &mut shares) {
         Ok(pools) => pools,
@@ -126,9 +142,27 @@ fn play_threads<
     let (script, gate) = (Arc::new(alloc, script)?, Arc::new(alloc, OpenGate)?);
     let device = Arc::try_clone(&locked)?;
     match run_workers(rt, &Discard, alloc, script, device, shares, ports, gate) {
-        Ok(ended) => write_report(&rt, alloc, &locked, ended, other, writer),
+        Ok(ended) => report(alloc, locked, ended, other, writer),
         Err(fault) => Err(of_workers(fault)),
     }
+}
+
+// Takes the recorded device out of its lock, and writes what was kept of it. [`Fault::NoMemory`] where somebody else has it too: once
+// all workers have ended, nobody has.
+#[inline(never)]
+fn report<M: GuestMem, L: Ledger, W: Write>(
+    alloc: Global,
+    locked: Arc<LockedDevice<M, L>>,
+    ended: Ended<L>,
+    other: &mut Device<M>,
+    writer: &mut W,
+) -> Result<(), Fault>
+    requires { length ended.shares.items ≡ 67 }
+{
+    let Some(mut recorded) = LockedDevice::into_recorded(locked) else {
+        return Err(Fault::NoMemory);
+    };
+    write_report(alloc, &mut recorded, ended.shares, other, writer)
 }
 
 // The fault of the program for one of the workers.
@@ -139,21 +173,27 @@ fn of_workers(fault: wire_frame::Fault) -> Fault {
     }
 }
 
-// A device whose calls are kept, with the shares of its callers. The device is moved from its box over the stack.
+// A device whose calls are kept, as many as the script can ask, with the shares of its callers. The device is moved from its box over
+// the stack.
 #[inline(never)]
 fn record<M: GuestMem, L: Ledger>(
     alloc: Global,
     blank: Blank,
     device: Box<Device<M>>,
     line: DeviceSeat,
-    cap: usize,
+    script: &Script,
 ) -> Result<(Recorded<M, L>, Shares<L>), Fault>
     requires name { blank.name ≡ L.name }
     requires parts { (blank.parts ≡ L.parts) × (blank.parts ≡ 67) }
     requires fresh { IsFresh device.value }
     requires line { line.raises ≡ [] }
+    ensures begun { IfOk result
+        (λ r. r.0 ≡ begun device.value (most_calls script.now) false line) }
     ensures shares { IfOk result (λ r. AreUnused r.1) }
 {
+    let Some(cap) = script.len().checked_add(MOST_ENDS) else {
+        return Err(Fault::NoMemory);
+    };
     let device = Box::into_inner(device);
     Ok(Recorded::new(alloc, blank, device, line, cap)?)
 }

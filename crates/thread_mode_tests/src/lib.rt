@@ -1,4 +1,5 @@
-//! Tests of the mode `threads` by whole scripts: who made how many calls, beginnings of a script, and readers and writers that break.
+//! Tests of the mode `threads` by whole scripts: who made how many calls, beginnings of a script, and readers and writers that break;
+//! and of its report by itself, of devices that give the kept answers and that don't.
 //!
 //! The calls are counted by hand: they are as many in whatever order the threads run.
 #![tactic(auto)]
@@ -11,3 +12,5 @@ mod callers;
 mod cut;
 #[cfg(test)]
 mod played;
+#[cfg(test)]
+mod reports;

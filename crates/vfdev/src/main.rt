@@ -1,19 +1,16 @@
 //! The program `vfdev`: reads a script of events on standard input, gives them to a device, and writes its answers on
 //! standard output.
 //!
-//! The words of the command line say in which mode; what the program does then stands in `modes`, and for `threads` in `thread_mode`.
-//! Where it fails it writes a line on standard error, and the failure has its status.
+//! The words of the command line say in which mode; what the program does then stands in `modes`, and for `threads` in `thread_mode`,
+//! whose calls it has from `host`. Where it fails it writes a line on standard error, and the failure has its status.
 #![tactic(auto)]
 
-use modes::drive::drive;
-use modes::status::status;
-use modes::{Command, Fault};
+use host::{Command, Fault, drive, drive_threads, status};
 use std::env;
 use std::io::ErrorKind;
 use std::process::ExitCode;
 use std::sync::Wait;
 use std::thread::Threads;
-use thread_mode::threads::drive_threads;
 
 // Does what the words of the command line ask for. The handle of threads is the runtime.
 fn execute<T: Threads + Wait + Copy + Send + 'static>(

@@ -1,0 +1,51 @@
+-- What the mode `threads` reports of a recorded device.
+use Rattle.std.specs.Prelude.{◌≡◌, ℕ, ◌+◌, ◌<◌, ◌==◌, Bool, IsTrue, ◌↔◌, List, [], ◌++◌, length, slice_index, Option, codes, decimal, if◌then◌else◌}
+use Rattle.std.specs.Io.KnownBytes.{Appends}
+use Rattle.device.specs.World.{World, answers}
+use Rattle.history.specs.Entries.{events, given}
+use Rattle.device_lock.specs.Legal.{calls_of}
+use Rattle.device_lock.specs.Held.{Held}
+use Rattle.transcript.specs.Known.{Began}
+use Rattle.transcript.specs.Lines.{numbered}
+use Rattle.thread_mode.specs.declared.report.Report.{Report}
+
+-- ---- what is told
+
+-- how many calls are kept, how many each of the 67 callers made, with those that were folded away, and whether the other device
+-- gives the kept answers
+pub record Tells (held : Held) (other : World) (report : Report) : Type 0 where
+  pub kept : report.kept ≡ length held.kept
+  pub callers : length report.calls ≡ 67
+  pub calls : (c : ℕ) → c < 67 → slice_index report.calls c ≡ slice_index held.tallies c + calls_of c held.kept
+  pub replays : IsTrue report.replays ↔ (answers other (events held.kept) ≡ given held.kept)
+
+-- ---- its text
+
+-- a number after a space, and the end of the line
+unfoldable pub number_end : ℕ → List ℕ
+number_end n = codes " " ++ (decimal n ++ codes "\n")
+
+-- the name of a caller: a port has its pool's number
+unfoldable pub caller_name : ℕ → List ℕ
+caller_name c = if c == 64 then codes "pf" else if c == 65 then codes "pump" else if c == 66 then codes "service" else codes "port" ++ decimal c
+
+-- the line of a caller with the number of its calls; none where it made no call
+unfoldable pub caller_line : ℕ → ℕ → List ℕ
+caller_line c count = if count == 0 then [] else codes "caller " ++ (caller_name c ++ number_end count)
+
+unfoldable pub replay_line : Bool → List ℕ
+replay_line replays = if replays then codes "replay ok\n" else codes "replay differs\n"
+
+-- the line of the history, those of the callers by their numbers, from 0 on, and the line of the replay
+unfoldable pub report_text : Report → List ℕ
+report_text r = codes "history" ++ (number_end r.kept ++ (numbered caller_line 0 r.calls ++ replay_line r.replays))
+
+-- ---- what is written
+
+-- the text of what is so went to a writer whose bytes are known
+abbrev pub Reported : Held → World → Option (List ℕ) → Option (List ℕ) → Type 0
+Reported held other old new = (report : Report) × Tells held other report × Appends old new (report_text report)
+
+-- a beginning of it went there
+abbrev pub BeganToReport : Held → World → Option (List ℕ) → Option (List ℕ) → Type 0
+BeganToReport held other old new = (report : Report) × Tells held other report × Began old new (report_text report)

@@ -9,5 +9,6 @@ use Rattle.workers.proofs.worker.send_frames.Given as goal
 abbrev pub invariant-loop-sent : goal.invariant-loop-sent
 invariant-loop-sent g l = record {
   channel : l.sender.channel ≡ l.fn.sender.channel;
+  capacity : l.sender.capacity ≡ l.fn.sender.capacity;
   sent : l.sender.sent ≡ l.fn.sender.sent ++ map Frame (take l.sent (frames_of (own_events l.plan pump)));
 }

@@ -39,8 +39,9 @@ impl<M: GuestMem, L: Ledger> LockedDevice<M, L> {
         }
     }
 
-    /// Takes the recorded device out of the lock again, where nobody else has it any more. Of that the contracts of [`Recorded`]
-    /// say exactly what is kept, how many calls are each caller's, and whether another device gives the kept answers.
+    /// Takes the recorded device out of the lock again, for its last owner; None where somebody else has it too, for whom it stays.
+    /// Of what comes out the contracts of [`Recorded`] say exactly what is kept, how many calls are each caller's, and whether another
+    /// device gives the kept answers.
     pub fn into_recorded(this: Arc<LockedDevice<M, L>>) -> Option<Recorded<M, L>> {
         match Arc::try_unwrap(this) {
             Ok(locked) => Some(locked.inner.into_inner()),

@@ -1,7 +1,11 @@
 //! A script whose tally is known, with room for all calls and with room for one.
 ghost use Rattle.std.specs.Prelude.{◌≡◌};
 
-use crate::stage::{Seen, done, setting_of};
+use crate::stage::{Seen, Setting, done, ran, setting_of};
+use device::{Event, Reply};
+use device_lock::{LockedDevice, SERVICE, Share};
+use guest_memory::FlatMem;
+use lock_support::answer;
 use log::sink::Discard;
 use std::alloc::Global;
 use std::marker::Brand;
@@ -75,5 +79,66 @@ fn calls_are_counted_kept_and_folded(rt: HostRuntime) -> Result<(), Fail> {
         )?;
         assert_eq!(rt; seen, due, "{cap}");
     }
+    Ok(())
+}
+
+// Three functions are open, of which two have ports.
+const THREE_OPEN: &str = "vfs 3 4096\nopen 0\nopen 1\nopen 2\ngo\nr 0 0x10\nr 2 0x10\n";
+
+// Whether a function is open, by what the service reads of it.
+fn is_open<L: Ledger, R: Wait>(
+    rt: &R,
+    device: &LockedDevice<FlatMem, L>,
+    service: &mut Share<L>,
+    pool: u8,
+) -> Option<bool> {
+    match answer(rt, device, service, Event::VfRead(pool, 0x10)) {
+        Some(answer) => match answer.reply {
+            Reply::Value(_) => Some(true),
+            Reply::Refused(2) => Some(false),
+            _ => None,
+        },
+        None => None,
+    }
+}
+
+// Which functions are open once all workers have ended.
+fn open_after<L: Ledger + Send + Sync + 'static, R: Threads + Wait + Copy + Send + 'static>(
+    rt: R,
+    alloc: Global,
+    blank: Blank,
+    setting: Setting,
+    gate: Arc<OpenGate>,
+) -> Result<[Option<bool>; 3], Fault>
+    requires name { blank.name ≡ L.name }
+    requires parts { (blank.parts ≡ L.parts) × (blank.parts ≡ 67) }
+{
+    let (device, ended) = ran::<L, OpenGate, R, Discard>(
+        rt, &Discard, alloc, blank, setting, THREE_OPEN, gate,
+    )?;
+    let mut open = [None; 3];
+    for mut share in ended.shares {
+        if share.caller() == SERVICE {
+            open = [
+                is_open(&rt, &*device, &mut share, 0),
+                is_open(&rt, &*device, &mut share, 1),
+                is_open(&rt, &*device, &mut share, 2),
+            ];
+        }
+    }
+    Ok(open)
+}
+
+// The functions of ended ports are closed, and the one without a port is open.
+#[test]
+fn functions_of_ended_ports_are_closed(rt: HostRuntime) -> Result<(), Fail> {
+    let alloc = rt.alloc();
+    let mut setting = setting_of(alloc, 0, 2, 40, false)?;
+    if setting.ports.len() == 3 {
+        let _ = setting.ports.remove(1);
+    }
+    let gate = Arc::new(alloc, OpenGate)?;
+    let open = open_after::<Brand, HostRuntime>(rt, alloc, Blank::new(67), setting, gate)?;
+    assert_eq!(rt; open, [Some(false), Some(true), Some(false)]);
     Ok(())
 }

@@ -15,7 +15,7 @@ use std::test::Fail;
 use std::thread::Threads;
 use test_support::memories;
 use wire_frame::Fault;
-use workers::{Gate, prepare, run_workers};
+use workers::{Ended, Gate, prepare, run_workers};
 
 /// A port of a function in a [`FlatMem`].
 pub type Port<L> = LockedPort<FlatMem, L, IrqPort>;
@@ -135,8 +135,8 @@ fn read(alloc: Global, text: &str) -> Result<Script, Fault> {
     }
 }
 
-/// Does a script on a device with ports, and tells what is seen of it.
-pub fn done<
+/// Does a script on a device with ports: the device, and the shares, once all have ended.
+pub fn ran<
     L: Ledger + Send + Sync + 'static,
     G: Gate + Drop + Send + Sync + 'static,
     R: Threads + Wait + Copy + Send + 'static,
@@ -149,7 +149,7 @@ pub fn done<
     setting: Setting,
     text: &str,
     gate: Arc<G>,
-) -> Result<Seen, Fault>
+) -> Result<(Arc<LockedDevice<FlatMem, L>>, Ended<L>), Fault>
     requires name { blank.name ≡ L.name }
     requires parts { (blank.parts ≡ L.parts) × (blank.parts ≡ 67) }
 {
@@ -170,6 +170,28 @@ pub fn done<
         return Err(Fault::NoMemory);
     };
     let ended = run_workers(rt, log, alloc, script, other, shares, ports, gate)?;
+    Ok((device, ended))
+}
+
+/// Does a script on a device with ports, and tells what is seen of it.
+pub fn done<
+    L: Ledger + Send + Sync + 'static,
+    G: Gate + Drop + Send + Sync + 'static,
+    R: Threads + Wait + Copy + Send + 'static,
+    O: Log,
+>(
+    rt: R,
+    log: &O,
+    alloc: Global,
+    blank: Blank,
+    setting: Setting,
+    text: &str,
+    gate: Arc<G>,
+) -> Result<Seen, Fault>
+    requires name { blank.name ≡ L.name }
+    requires parts { (blank.parts ≡ L.parts) × (blank.parts ≡ 67) }
+{
+    let (device, ended) = ran::<L, G, R, O>(rt, log, alloc, blank, setting, text, gate)?;
     let count = ended.shares.len();
     let Some(tally) = device.tally(&rt, ended.shares) else {
         return Err(Fault::NoMemory);

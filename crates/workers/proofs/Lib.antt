@@ -3,3 +3,4 @@ pub mod Places
 pub mod First
 pub mod Wires
 pub mod Swept
+pub mod Closing

@@ -18,24 +18,28 @@ pub record IsUnderWay (first notes : List Note) (at : ℕ) (old new : Mine) : Ty
   pub swept : IsSwept first notes old new
   pub place : at ≡ length (filter is_live swept.passed)
 
+-- a note at which nobody looked, and one at which somebody looked again
+pub looked_none : (n : Note) → IsLooked n n
+looked_none n = record { pool = refl; port = refl; told = refl; found = λ is. is }
+
+pub looked_on : (n m o : Note) → IsLooked n m → IsLooked m o → IsLooked n o
+looked_on n m o first next = record {
+  pool = next.pool ∙ first.pool;
+  port = next.port ∙ first.port;
+  told = next.told ∙ first.told;
+  found = λ is. next.found (first.found is);
+}
+
 -- notes at which nobody looked
-are_looked : (notes : List Note) → AreLooked notes notes
+pub are_looked : (notes : List Note) → AreLooked notes notes
 are_looked [] = tt
-are_looked (n ∷ notes) = (record { pool = refl; port = refl; told = refl; found = λ is. is }, are_looked notes)
+are_looked (n ∷ notes) = (looked_none n, are_looked notes)
 
 -- one of them is looked at again
 looked_again : (first passed rest : List Note) (n m : Note) → IsLooked n m → AreLooked first (passed ++ n ∷ rest) → AreLooked first (passed ++ m ∷ rest)
 looked_again [] [] rest n m look are = absurd are
 looked_again [] (x ∷ passed) rest n m look are = absurd are
-looked_again (f ∷ first) [] rest n m look are = (
-  record {
-    pool = look.pool ∙ are.0.pool;
-    port = look.port ∙ are.0.port;
-    told = look.told ∙ are.0.told;
-    found = λ is. look.found (are.0.found is);
-  },
-  are.1,
-)
+looked_again (f ∷ first) [] rest n m look are = (looked_on f n m are.0 look, are.1)
 looked_again (f ∷ first) (x ∷ passed) rest n m look are = (are.0, looked_again first passed rest n m look are.1)
 
 -- ---- the lists of those that know, and of those that don't, with one note more

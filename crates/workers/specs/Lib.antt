@@ -5,4 +5,5 @@ pub mod Counts
 pub mod Calls
 pub mod Frames
 pub mod Sweeps
+pub mod Ends
 pub mod Opens

@@ -1,8 +1,11 @@
 //! The workers that run.
+ghost use Rattle.std.specs.Prelude.{◌≡◌, true, false, IfOk};
+
 use crate::worker::{Done, Worker};
 use device_lock::Share;
 use log::{Log, debug};
 use std::alloc::{AllocError, Global};
+use std::marker::Model;
 use std::sync::ledger::Ledger;
 use std::thread::{JoinHandle, Threads};
 
@@ -13,12 +16,20 @@ pub struct Ended<L: Ledger> {
     pub shares: Vec<Share<L>>,
 }
 
-/// The workers that were started, in the order of their starts.
+/// The workers that were started, in the order of their starts. Contracts see whether a start was refused.
 #[derive(Drop)]
 pub struct Crew<L: Ledger> {
     running: Vec<(Worker, JoinHandle<Done<L>>)>,
     // a start was refused, and none is tried any more
     was_refused: bool,
+}
+
+impl<L: Ledger> Model for Crew<L> {
+    ghost use Rattle.std.specs.Prelude.{Bool};
+
+    ghost Value = { Bool };
+
+    ghost view = { λ crew. crew.was_refused };
 }
 
 /// How the workers of a crew ended.
@@ -32,7 +43,9 @@ pub struct Ends {
 
 impl<L: Ledger + Send + 'static> Crew<L> {
     /// Nobody yet, with room for so many.
-    pub fn new(alloc: Global, count: usize) -> Result<Crew<L>, AllocError> {
+    pub fn new(alloc: Global, count: usize) -> Result<Crew<L>, AllocError>
+        ensures { IfOk result (λ crew. crew ≡ false) }
+    {
         Ok(Crew {
             running: Vec::with_capacity(alloc, count)?,
             was_refused: false,
@@ -40,7 +53,9 @@ impl<L: Ledger + Send + 'static> Crew<L> {
     }
 
     /// Whether one more may start: no start was refused, and there is room.
-    pub fn is_ready(&mut self) -> bool {
+    pub fn is_ready(&mut self) -> bool
+        ensures stays { self.new ≡ false → self.old ≡ false }
+    {
         if !self.was_refused && self.running.reserve(1).is_err() {
             self.was_refused = true;
         }
@@ -48,7 +63,9 @@ impl<L: Ledger + Send + 'static> Crew<L> {
     }
 
     /// A worker was started, which is logged.
-    pub fn add<O: Log>(&mut self, log: &O, worker: Worker, thread: JoinHandle<Done<L>>) {
+    pub fn add<O: Log>(&mut self, log: &O, worker: Worker, thread: JoinHandle<Done<L>>)
+        ensures stays { self.new ≡ false → self.old ≡ false }
+    {
         debug!(log; "worker {worker} starts");
         if self.running.push((worker, thread)).is_err() {
             self.was_refused = true;
@@ -56,12 +73,16 @@ impl<L: Ledger + Send + 'static> Crew<L> {
     }
 
     /// A start was refused: nobody is started any more.
-    pub fn refuse(&mut self) {
+    pub fn refuse(&mut self)
+        ensures { self.new ≡ true }
+    {
         self.was_refused = true;
     }
 
     /// Waits for the workers in the order of their starts, logs that each has ended, and puts the shares behind the others.
-    pub fn join<R: Threads, O: Log>(self, rt: &R, log: &O, shares: &mut Vec<Share<L>>) -> Ends {
+    pub fn join<R: Threads, O: Log>(self, rt: &R, log: &O, shares: &mut Vec<Share<L>>) -> Ends
+        ensures refused { result.was_refused ≡ false → self ≡ false }
+    {
         let Crew {
             running,
             was_refused,

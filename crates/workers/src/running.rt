@@ -1,14 +1,19 @@
 //! The workers, from their starts to their ends.
-ghost use Rattle.std.specs.Prelude.{◌≡◌, ◌⊎◌, ◌∷◌, false, length, replicate, IfOk, IfErr};
+ghost use Rattle.std.specs.Prelude.{◌≡◌, ◌⊎◌, ◌∷◌, ◌<◌, true, false, length, map, replicate, slice_index_or, All, IfOk, IfErr, IfSome, OnOk};
+ghost use Rattle.device.specs.declared.event.Event.TheVariants.{End};
+ghost use Rattle.device_lock.specs.Held.{having_asked, having_asked_all, unused};
 ghost use Rattle.device_lock.specs.Made.{left_in};
+ghost use Rattle.guest_port.specs.Notes.{knows};
 ghost use Rattle.wire_frame.specs.declared.fault.Fault.{Fault};
 ghost use Rattle.workers.specs.Callers.{pf, pump, service};
+ghost use Rattle.workers.specs.Ends.{HaveEnded, note_of};
+ghost use Rattle.workers.specs.Sweeps.{AreLooked, IsLooked, end_of, is_ended};
 
 use crate::crew::{Crew, Ended};
 use crate::gate::Gate;
 use crate::plan::{Plan, Ports};
 use crate::starting::{Common, start_driver, start_guests, start_pump, start_reader};
-use crate::sweeping::sweep;
+use crate::sweeping::end_known;
 use crate::worker::Worker;
 use device_lock::{CALLERS, LockedDevice, SERVICE, Share, Shares};
 use guest_memory::GuestMem;
@@ -27,9 +32,11 @@ use wire_pump::channel;
 /// pump, and the service does all others. Each port is closed at the end of its thread, and when all have ended, the service
 /// records `End` once for each port. Logs each worker's start and end at debug level.
 ///
-/// [`Fault::NoMemory`] where the host refused a thread or the room for one, after the workers that run have ended. Else
+/// [`Fault::NoMemory`] where the host refused a thread or the room for one, after the workers that run have ended, and where a
+/// note turns out to be of another port, which has not ended. Else
 /// [`Fault::HistoryFull`] where the history was full and can't be folded, after all have ended: the worker that met it ended
 /// there. The shares are spent then.
+#[tactic(auto, using(crate::proofs::Closing::have_ended))]
 pub fn run_workers<
     M: GuestMem + Send + 'static,
     L: Ledger + Send + Sync + 'static,
@@ -51,6 +58,7 @@ pub fn run_workers<
     requires pump { shares.pump.caller ≡ pump }
     requires service { shares.service.caller ≡ service }
     ensures all { IfOk result (λ ended. length ended.shares.items ≡ 67) }
+    ensures ends { IfOk result (λ ended. HaveEnded ports.items ended.shares.items) }
     ensures why { IfErr result (λ e. (e ≡ Fault.NoMemory) ⊎ (e ≡ Fault.HistoryFull)) }
 {
     let Ok(ran) = run(rt, log, alloc, script, &device, shares, ports, gate) else {
@@ -64,10 +72,13 @@ pub fn run_workers<
         mut notes,
         ..
     } = ran;
-    record_ends(&rt, &device, &mut notes, &mut shares)?;
+    let Some(at) = place_of_service(&shares) else {
+        return Err(Fault::NoMemory);
+    };
     if shares.len() != CALLERS {
         return Err(Fault::NoMemory);
     }
+    record_ends(&rt, &device, &mut notes, &mut shares[at])?;
     Ok(Ended { shares })
 }
 
@@ -101,6 +112,7 @@ fn run<
     requires pf { shares.pf.caller ≡ pf }
     requires pump { shares.pump.caller ≡ pump }
     requires service { shares.service.caller ≡ service }
+    ensures notes { IfOk result (λ ran. ran.notes.items ≡ map note_of ports.items) }
 {
     let common = common_of(alloc, script, device, gate, &ports)?;
     let Ok((sender, receiver)) = channel(alloc) else {
@@ -193,42 +205,66 @@ fn no_ports() -> Ports
     [false; 64]
 }
 
-// Records the end of each port, by the service's share, which is among these. Where the history is full it is folded, and
-// [`Fault::HistoryFull`] comes where it can't be. What an event takes of the stack is not to be there while workers run.
-#[inline(never)]
-fn record_ends<M: GuestMem, L: Ledger, R: Wait>(
-    rt: &R,
-    device: &LockedDevice<M, L>,
-    notes: &mut Vec<(u8, EndNote)>,
-    shares: &mut Vec<Share<L>>,
-) -> Result<(), Fault>
-    ensures full { IfErr result (λ e. e ≡ Fault.HistoryFull) }
-    ensures len { length shares.new.items ≡ length shares.old.items }
+// Where the service's share is among these, if none was lost.
+fn place_of_service<L: Ledger>(shares: &[Share<L>]) -> Option<usize>
+    ensures inside { IfSome result (λ at. at < length shares.now) }
+    ensures service { IfSome result (λ at. (slice_index_or shares.now at (unused 0)).caller ≡ service) }
 {
-    for share in shares.iter_mut() {
-        if share.caller() == SERVICE {
-            sweep_all(rt, device, notes, share)?;
+    for at in 0..shares.len() {
+        if shares[at].caller() == SERVICE {
+            return Some(at);
         }
     }
-    Ok(())
+    None
 }
 
-// Sweeps until no ended note is left, and folds the history where it is full.
-fn sweep_all<M: GuestMem, L: Ledger, R: Wait>(
+// Records the end of each port, in order, by the service's share. Where the history is full it is folded, and
+// [`Fault::HistoryFull`] comes where it can't be. [`Fault::NoMemory`] comes where a note doesn't know of an end, of which none is
+// told of a port that is closed. What an event takes of the stack is not to be there while workers run.
+#[inline(never)]
+#[tactic(auto, using(crate::proofs::Closing::ending_begins, crate::proofs::Closing::ending_more, crate::proofs::Closing::ending_known, crate::proofs::Closing::ending_asked))]
+fn record_ends<M: GuestMem, L: Ledger, R: Wait>(
     rt: &R,
     device: &LockedDevice<M, L>,
     notes: &mut Vec<(u8, EndNote)>,
     share: &mut Share<L>,
 ) -> Result<(), Fault>
     requires { share.old.caller ≡ service }
-    ensures { IfErr result (λ e. e ≡ Fault.HistoryFull) }
+    ensures why { IfErr result (λ e. (e ≡ Fault.NoMemory) ⊎ (e ≡ Fault.HistoryFull)) }
+    ensures looked { OnOk result (AreLooked notes.old.items notes.new.items) }
+    ensures known { OnOk result (All (λ note. is_ended note ≡ true) notes.new.items) }
+    ensures ends { OnOk result
+        (share.new ≡ having_asked_all (map end_of notes.old.items) share.old) }
+{
+    for at in 0..notes.len() {
+        record_end(rt, device, &mut notes[at], share)?;
+    }
+    Ok(())
+}
+
+// Records the end of a port, of which its note has to know. Where the history is full it is folded first.
+#[tactic(auto, using(crate::proofs::Swept::looked_on, crate::proofs::Swept::looked_none))]
+fn record_end<M: GuestMem, L: Ledger, R: Wait>(
+    rt: &R,
+    device: &LockedDevice<M, L>,
+    note: &mut (u8, EndNote),
+    share: &mut Share<L>,
+) -> Result<(), Fault>
+    requires { share.old.caller ≡ service }
+    ensures why { IfErr result (λ e. (e ≡ Fault.NoMemory) ⊎ (e ≡ Fault.HistoryFull)) }
+    ensures looked { IsLooked note.old note.new }
+    ensures known { OnOk result (knows note.new.1 ≡ true) }
+    ensures asked { OnOk result (share.new ≡ having_asked (End note.new.0) share.old) }
 {
     for _ in rt.forever() {
-        if sweep(rt, notes, device, share).is_ok() {
-            return Ok(());
-        }
-        if device.fold(rt).is_none() {
-            return Err(Fault::HistoryFull);
+        match end_known(rt, note, device, share) {
+            Ok(true) => return Ok(()),
+            Ok(false) => return Err(Fault::NoMemory),
+            Err(_) => {
+                if device.fold(rt).is_none() {
+                    return Err(Fault::HistoryFull);
+                }
+            }
         }
     }
     unreachable!()

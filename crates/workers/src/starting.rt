@@ -1,6 +1,7 @@
 //! The starts of the workers.
-ghost use Rattle.std.specs.Prelude.{◌≡◌, ◌≤◌};
+ghost use Rattle.std.specs.Prelude.{◌≡◌, ◌≤◌, [], ◌∷◌, ◌++◌, false, map, OnOk};
 ghost use Rattle.workers.specs.Callers.{pump};
+ghost use Rattle.workers.specs.Ends.{note_of};
 
 use crate::crew::Crew;
 use crate::door::GatedDoor;
@@ -40,8 +41,8 @@ impl<M: GuestMem, L: Ledger, G: Gate + Drop> Common<M, L, G> {
     }
 }
 
-/// Starts a worker for each port, and puts the notes of their ends behind the others, with their pools. A port has room for a
-/// frame, which is to be gone from the stack once the workers run.
+/// Starts a worker for each port, and puts the notes of their ends behind the others, in order, each with its port's pool; where
+/// a start is refused, a beginning of them. A port has room for a frame, which is to be gone from the stack once the workers run.
 #[inline(never)]
 pub fn start_guests<
     M: GuestMem + Send + 'static,
@@ -57,14 +58,28 @@ pub fn start_guests<
     ports: Vec<(LockedPort<M, L, P>, EndNote)>,
     notes: &mut Vec<(u8, EndNote)>,
     crew: &mut Crew<L>,
-) {
+)
+    ensures stays { crew.new ≡ false → crew.old ≡ false }
+    ensures notes { crew.new ≡ false
+        → notes.new.items ≡ notes.old.items ++ map note_of ports.items }
+{
     for (port, note) in ports {
-        let pool = port.pool();
-        if notes.push((pool, note)).is_err() {
-            crew.refuse();
-        }
-        start_guest(rt, log, common, pool, port, crew);
+        let Ok(()) = keep_note(notes, &port, note) else {
+            return crew.refuse();
+        };
+        start_guest(rt, log, common, port.pool(), port, crew);
     }
+}
+
+// Puts a note behind the others, with its port's pool.
+fn keep_note<M: GuestMem, L: Ledger, P: GuestPort>(
+    notes: &mut Vec<(u8, EndNote)>,
+    port: &LockedPort<M, L, P>,
+    note: EndNote,
+) -> Result<(), AllocError>
+    ensures { OnOk result (notes.new.items ≡ notes.old.items ++ note_of (port.now, note) ∷ []) }
+{
+    Ok(notes.push((port.pool(), note))?)
 }
 
 // Starts the worker of a port.
@@ -75,14 +90,9 @@ fn start_guest<
     G: Gate + Drop + Send + Sync + 'static,
     R: Threads + Wait + Copy + Send + 'static,
     O: Log,
->(
-    rt: R,
-    log: &O,
-    common: &Common<M, L, G>,
-    pool: u8,
-    port: LockedPort<M, L, P>,
-    crew: &mut Crew<L>,
-) {
+>(rt: R, log: &O, common: &Common<M, L, G>, pool: u8, port: LockedPort<M, L, P>, crew: &mut Crew<L>)
+    ensures stays { crew.new ≡ false → crew.old ≡ false }
+{
     let Ok(mine) = common.another() else {
         return crew.refuse();
     };
@@ -108,6 +118,7 @@ pub fn start_driver<
     O: Log,
 >(rt: R, log: &O, common: &Common<M, L, G>, worker: Worker, share: Share<L>, crew: &mut Crew<L>)
     requires { 64 ≤ share.caller }
+    ensures stays { crew.new ≡ false → crew.old ≡ false }
 {
     let Ok(mine) = common.another() else {
         return crew.refuse();
@@ -141,6 +152,7 @@ pub fn start_pump<
     crew: &mut Crew<L>,
 )
     requires { share.caller ≡ pump }
+    ensures stays { crew.new ≡ false → crew.old ≡ false }
 {
     let (Ok(mine), Ok(other)) = (common.another(), common.another()) else {
         return crew.refuse();
@@ -166,7 +178,9 @@ pub fn start_reader<
     G: Gate + Drop + Send + Sync + 'static,
     R: Threads + Wait + Copy + Send + 'static,
     O: Log,
->(rt: R, log: &O, common: &Common<M, L, G>, sender: FrameSender, crew: &mut Crew<L>) {
+>(rt: R, log: &O, common: &Common<M, L, G>, sender: FrameSender, crew: &mut Crew<L>)
+    ensures stays { crew.new ≡ false → crew.old ≡ false }
+{
     let Ok(mine) = common.another() else {
         return crew.refuse();
     };

@@ -43,7 +43,7 @@ pub fn sweep<M: GuestMem, L: Ledger, R: Wait>(
 
 // Looks at a note, and records its pool's end where it knows of it, which is the answer. (What it says of knowing it says of a
 // note that is there still: of one that is gone it could be made up.)
-fn end_known<M: GuestMem, L: Ledger, R: Wait>(
+pub(crate) fn end_known<M: GuestMem, L: Ledger, R: Wait>(
     rt: &R,
     note: &mut (u8, EndNote),
     device: &LockedDevice<M, L>,

@@ -33,9 +33,8 @@ use wire_pump::channel;
 /// records `End` once for each port. Logs each worker's start and end at debug level.
 ///
 /// [`Fault::NoMemory`] where the host refused a thread or the room for one, after the workers that run have ended, and where a
-/// note turns out to be of another port, which has not ended. Else
-/// [`Fault::HistoryFull`] where the history was full and can't be folded, after all have ended: the worker that met it ended
-/// there. The shares are spent then.
+/// note turns out to be of another port, which has not ended. Else [`Fault::HistoryFull`] where the history was full and can't be
+/// folded, after all have ended: the worker that met it ended there. The shares are spent then.
 #[tactic(auto, using(crate::proofs::Closing::have_ended))]
 pub fn run_workers<
     M: GuestMem + Send + 'static,

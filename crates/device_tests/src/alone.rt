@@ -8,7 +8,7 @@ use pool_filter::{Own, Tables};
 use std::alloc::Global;
 use std::process::Abort;
 use std::test::Fail;
-use test_support::{all_room, memories};
+use test_support::memories;
 use wire_frame::{Fault, FrameBuf, FrameLimit, PoolId};
 
 // Registers of the physical function, and what they are written: functions 0 and 1 have addresses that end with 10 and 11,
@@ -342,26 +342,5 @@ fn a_frame_of_another_function(rt: HostRuntime) -> Result<(), Fail> {
     let mut bytes = [9; 16];
     lone.read_span(span, &mut bytes);
     assert_equal(&rt, bytes, written_back);
-    Ok(())
-}
-
-// The fault of making a function by itself, if it has one.
-fn fault_of(alloc: Global, memory: FlatMem) -> Option<Fault> {
-    match Lone::new(alloc, memory, FrameLimit::standard()) {
-        Ok(_) => None,
-        Err(fault) => Some(fault),
-    }
-}
-
-#[test]
-fn tells_of_refused_memory(rt: HostRuntime) -> Result<(), Fail> {
-    let alloc = rt.alloc();
-    let (first, second) = (FlatMem::new(alloc, 4096)?, FlatMem::new(alloc, 4096)?);
-    // The stack grows to what the call wants before nothing is left.
-    assert_equal(&rt, fault_of(alloc, FlatMem::new(alloc, 4096)?), None);
-    let taken = all_room(alloc).ok_or("the heap does not run out")?;
-    assert_equal(&rt, fault_of(alloc, first), Some(Fault::NoMemory));
-    drop(taken);
-    assert_equal(&rt, fault_of(alloc, second), None);
     Ok(())
 }

@@ -2,7 +2,7 @@
 use crate::compare::assert_equal;
 use device::{Answer, Device, Event, MemBytes, Queue, Reply};
 use guest_memory::{FlatMem, GuestMem};
-use std::alloc::{AllocError, Global};
+use std::alloc::Global;
 use std::process::Abort;
 use std::test::Fail;
 use test_support::memories;
@@ -12,7 +12,6 @@ mod calls;
 mod frames;
 mod making;
 mod registers;
-mod wire_out;
 
 // Registers of the physical function, and what they are written: function 3 has an address and may receive and send.
 pub const SETTINGS: [(u32, u32); 5] = [

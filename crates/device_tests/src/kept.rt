@@ -1,15 +1,14 @@
 //! Values from outside: calls as a host would make them, and what a second device answers.
-use device::{Device, Event, MemSlice, Queue, Request, Taken};
+use device::{Device, MemSlice, Queue, Request, Taken};
 use guest_memory::{FlatMem, GuestMem};
 use history::head::Head;
 use history::{History, Room};
-use irq_causes::{Messages, Vectors};
-use std::alloc::{AllocError, Global};
+use std::alloc::Global;
 use std::mem::size_of;
 use std::process::Abort;
 use std::test::Fail;
 use test_support::memories;
-use wire_frame::{Fault, FrameBuf, PoolId};
+use wire_frame::{Fault, FrameBuf};
 
 mod answers;
 mod entries;

@@ -38,31 +38,6 @@ fn messages_follow_the_mask(rt: HostRuntime) {
     );
 }
 
-// A cause that is set before its vector is enabled is not lost, and is announced once.
-#[test]
-fn a_waiting_cause_is_issued(rt: HostRuntime) {
-    let mut causes = Causes::new();
-    assert_equal(&rt, causes.ics(0b001), 0b000);
-    causes.iac(0b001);
-    assert_equal(&rt, causes.auto_clear(), 0b001);
-    assert_equal(&rt, causes.ims(0b001), 0b001);
-    assert_equal(&rt, causes.read_icr(), 0b000);
-}
-
-// A cause that stands issues no second message until the driver clears it.
-#[test]
-fn a_standing_cause_is_silent(rt: HostRuntime) {
-    let mut causes = Causes::new();
-    assert_equal(&rt, causes.ims(0b111), 0b000);
-    assert_equal(&rt, causes.cause(2), 0b100);
-    assert_equal_at(&rt, causes.cause(2), 0b000, "the cause stands");
-    assert_equal(&rt, causes.cause(0), 0b001);
-    causes.write_icr(0b100);
-    assert_equal_at(&rt, causes.cause(2), 0b100, "the cause was cleared");
-    causes.write_icr(0b001);
-    assert_equal(&rt, causes.read_icr(), 0b100);
-}
-
 // The bits of a register above its three vectors are reserved.
 #[test]
 fn reserved_bits_are_ignored(rt: HostRuntime) {
@@ -93,29 +68,6 @@ fn entries_raise_their_vector(rt: HostRuntime) {
     }
 }
 
-// A function has the vectors 0 to 2, so a cause of any other number is nobody's.
-#[test]
-fn no_vector_is_above_two(rt: HostRuntime) {
-    let mut causes = Causes::default();
-    assert_equal(&rt, causes.ims(0b111), 0);
-    for v in [3, 4, 7, 8, 64, 255] {
-        assert_equal_at(&rt, causes.cause(v), 0, v);
-    }
-    assert_equal(&rt, causes.read_icr(), 0);
-}
-
-// A set of three vectors is a number below 8.
-#[test]
-fn three_vectors_make_eight_sets(rt: HostRuntime) {
-    for (bits, is_set) in [(0, true), (7, true), (8, false), (255, false)] {
-        assert_equal_at(&rt, Vectors::new(bits).is_some(), is_set, bits);
-    }
-    assert_equal(&rt, Vectors::new(0b101), Some(Vectors::from_bits(5)));
-    assert_equal(&rt, Vectors::from_bits(6).bits(), 0b110);
-    assert!(rt; Vectors::from_bits(0).is_empty());
-    assert!(rt; !Vectors::from_bits(0b100).is_empty());
-}
-
 // Pool 0 gets vector 0, pool 5 all three, and pool 63, the highest, vectors 1 and 2.
 #[test]
 fn each_vector_has_its_pools(rt: HostRuntime) -> Result<(), Fail> {
@@ -144,24 +96,6 @@ fn each_vector_has_its_pools(rt: HostRuntime) -> Result<(), Fail> {
     masks[5] = 0b111;
     masks[63] = 0b110;
     assert_equal(&rt, messages.to_masks().as_slice(), masks.as_slice());
-    Ok(())
-}
-
-// A pool that is told anew keeps nothing of what it was told before, and no other pool hears of it.
-#[test]
-fn a_pool_is_told_anew(rt: HostRuntime) -> Result<(), Fail> {
-    let fifth = PoolId::new(5).ok_or("a pool")?;
-    let sixth = PoolId::new(6).ok_or("a pool")?;
-    let first = Messages::of(fifth, Vectors::from_bits(0b110));
-    let mut second = first;
-    second.set(fifth, Vectors::from_bits(0b001));
-    second.masks_are_small();
-    assert_equal(&rt, second.to(fifth).bits(), 0b001);
-    assert!(rt; second.to(sixth).is_empty());
-    assert_equal_at(&rt, first.to(fifth).bits(), 0b110, "the copy stays");
-    assert!(rt; first != second);
-    second.set(fifth, Vectors::from_bits(0));
-    assert_equal(&rt, second, Messages::default());
     Ok(())
 }
 

@@ -1,15 +1,10 @@
 //! Values from outside: the limits of a memory's size, and the bytes of words.
 use crate::compare::{assert_equal, assert_equal_at};
+use Step::*;
 use guest_memory::*;
-use std::alloc::Global;
 use std::process::Abort;
 use std::test::Fail;
-use test_support::all_room;
 use wire_frame::Fault;
-
-mod pages;
-
-use Step::*;
 
 #[test]
 fn makes_memories_within_limits(rt: HostRuntime) {
@@ -48,7 +43,7 @@ fn reads_what_was_written(rt: HostRuntime) -> Result<(), Fail> {
 }
 
 // Eight bytes of a memory of 64 KiB, read over bytes that are not zero.
-pub fn eight<M: GuestMem>(memory: &M, addr: u64) -> [u8; 8] {
+fn eight<M: GuestMem>(memory: &M, addr: u64) -> [u8; 8] {
     let mut bytes = [0xFFu8; 8];
     if memory.size() == 65_536 && addr <= 65_528 {
         read_bytes(memory, addr, &mut bytes);
@@ -111,40 +106,6 @@ fn has_zeros_where_nothing_was_written(rt: HostRuntime) -> Result<(), Fail> {
     )
 }
 
-#[test]
-fn has_zeros_below_the_first_write(rt: HostRuntime) -> Result<(), Fail> {
-    do_steps(
-        &rt,
-        &[
-            // A write of nothing leaves zeros, wherever it is.
-            Put(0xA004, &[]),
-            Finds(0xA000, [0; 8]),
-            // Two bytes high up: below them, over each of their ends, over both, and above them.
-            Put(0x9003, &[1, 2]),
-            Finds(0x8FFB, [0; 8]),
-            Finds(0x8FFC, [0, 0, 0, 0, 0, 0, 0, 1]),
-            Finds(0x9000, [0, 0, 0, 1, 2, 0, 0, 0]),
-            Finds(0x9004, [2, 0, 0, 0, 0, 0, 0, 0]),
-            Finds(0x9005, [0; 8]),
-            // Far below them, then also between the two.
-            Put(0x10, &[3]),
-            Put(0x8000, &[4]),
-            Put(0x7000, &[]),
-            Finds(0x0C, [0, 0, 0, 0, 3, 0, 0, 0]),
-            Finds(0x7FFC, [0, 0, 0, 0, 4, 0, 0, 0]),
-            Finds(0x9000, [0, 0, 0, 1, 2, 0, 0, 0]),
-            Clear,
-            Finds(0x0C, [0; 8]),
-            Finds(0x9000, [0; 8]),
-            // From just below them over the first of them.
-            Put(0x9003, &[1, 2]),
-            Put(0x9001, &[5, 6, 7]),
-            Finds(0x9000, [0, 5, 6, 7, 2, 0, 0, 0]),
-            Finds(0x0C, [0; 8]),
-        ],
-    )
-}
-
 // Sets the first word, by whatever memory it is; what the memory then holds there.
 fn first_word<M: GuestMem>(mut memory: M) -> Option<u64> {
     if memory.size() < 8 {
@@ -159,23 +120,5 @@ fn first_word<M: GuestMem>(mut memory: M) -> Option<u64> {
 fn boxes_are_memories(rt: HostRuntime) -> Result<(), Fail> {
     let boxed: Box<dyn GuestMem + Send> = Box::new(rt.alloc(), FlatMem::new(rt.alloc(), 4096)?)?;
     assert_equal(&rt, first_word(boxed), Some(7));
-    Ok(())
-}
-
-#[test]
-fn tells_of_refused_memory(rt: HostRuntime) -> Result<(), Fail> {
-    let taken = all_room(rt.alloc()).ok_or("the heap does not run out")?;
-    assert_equal(
-        &rt,
-        FlatMem::new(rt.alloc(), 4096).err(),
-        Some(Fault::NoMemory),
-    );
-    assert_equal(
-        &rt,
-        FlatMem::new(rt.alloc(), 4097).err(),
-        Some(Fault::BadMake),
-    );
-    drop(taken);
-    assert!(rt; FlatMem::new(rt.alloc(), 4096).is_ok());
     Ok(())
 }

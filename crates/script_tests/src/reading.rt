@@ -1,4 +1,4 @@
-//! Values from outside: what texts say by the grammar, written out by hand, and readers and heaps that give out.
+//! Values from outside: what texts say by the grammar, written out by hand, and readers that break off.
 use crate::compare::assert_equal;
 use device::{Queue, Request};
 use script::{Fault, Room, Script};

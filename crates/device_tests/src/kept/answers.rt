@@ -1,5 +1,5 @@
 use super::*;
-use crate::compare::{assert_equal, assert_equal_at};
+use crate::compare::assert_equal;
 
 // All functions open, each with one receive descriptor, whose message is that of the vector.
 fn open_all<R: Abort, M: GuestMem>(
@@ -110,108 +110,5 @@ fn a_device_whose_function_is_open_gives_another_answer(rt: HostRuntime) -> Resu
     assert!(rt; !history.gives(2, &mut smaller, &mut room));
     history.step(1, &mut smaller, &mut room);
     assert!(rt; history.gives(2, &mut smaller, &mut room));
-    Ok(())
-}
-
-// The messages of a set of vectors to a pool.
-fn to(pool: u8, bits: u8) -> Messages {
-    match (PoolId::new(pool), Vectors::new(bits)) {
-        (Some(pool), Some(vectors)) => Messages::of(pool, vectors),
-        _ => Messages::none(),
-    }
-}
-
-#[test]
-fn messages_alone_make_another_answer(rt: HostRuntime) -> Result<(), Fail> {
-    let mut room = Room::new();
-    let mut frame = FrameBuf::blank();
-    let every = Messages::from_words([u64::MAX; 3]);
-    for (messages, same) in [
-        (to(3, 4), true),
-        (Messages::none(), false),
-        (to(2, 4), false),
-        (to(3, 2), false),
-        (to(3, 6), false),
-        (every, false),
-    ] {
-        let mut device = device_of_64(rt.alloc())?;
-        let mut history = History::new(rt.alloc(), 4)?;
-        keep(
-            &rt,
-            &mut history,
-            &mut device,
-            66,
-            Request::Open(3),
-            &mut frame,
-        );
-        let mask = Request::VfWrite(3, 0x108, 7);
-        keep(&rt, &mut history, &mut device, 3, mask, &mut frame);
-        // the cause of vector 2 is set
-        let set = Request::VfWrite(3, 0x104, 4);
-        let taken = device.take(set, &mut frame);
-        let kept = Taken {
-            outcome: taken.outcome,
-            messages,
-            sent: None,
-            left: None,
-        };
-        assert!(rt; !history.is_full());
-        history.push(3, set, &device, &kept);
-        let mut twin = device_of_64(rt.alloc())?;
-        let other = first_other(&history, &mut twin, &mut room);
-        assert_equal(&rt, other, if same { None } else { Some(2) });
-    }
-    Ok(())
-}
-
-#[test]
-fn one_byte_alone_makes_another_answer(rt: HostRuntime) -> Result<(), Fail> {
-    let mut device = device_of_64(rt.alloc())?;
-    let mut history = History::new(rt.alloc(), 3)?;
-    let mut frame = FrameBuf::blank();
-    let mut room = Room::new();
-    let written = MemSlice::new(&[7; 2048])?;
-    for request in [
-        Request::Open(0),
-        Request::MemWrite(0, 100, written),
-        Request::MemRead(0, 100, 2048),
-    ] {
-        keep(&rt, &mut history, &mut device, 0, request, &mut frame);
-    }
-    assert!(rt; 2 < history.len());
-    assert!(rt; history.gives(2, &mut device, &mut room));
-    for (at, same) in [
-        (99, true),
-        (100, false),
-        (1123, false),
-        (2147, false),
-        (2148, true),
-    ] {
-        let mut twin = device_of_64(rt.alloc())?;
-        history.step(0, &mut twin, &mut room);
-        history.step(1, &mut twin, &mut room);
-        assert_equal(&rt, twin.mem_write(0, at, MemSlice::new(&[6])?), Ok(()));
-        assert_equal_at(&rt, history.gives(2, &mut twin, &mut room), same, at);
-    }
-    Ok(())
-}
-
-#[test]
-fn a_value_alone_makes_another_answer(rt: HostRuntime) -> Result<(), Fail> {
-    let mut device = device_of_64(rt.alloc())?;
-    let mut history = History::new(rt.alloc(), 1)?;
-    let mut room = Room::new();
-    keep(
-        &rt,
-        &mut history,
-        &mut device,
-        64,
-        Request::PfRead(0x51E0),
-        &mut FrameBuf::blank(),
-    );
-    assert!(rt; 0 < history.len());
-    assert!(rt; history.gives(0, &mut device, &mut room));
-    assert_equal(&rt, device.pf_write(0x51E0, 1), Ok(()));
-    assert!(rt; !history.gives(0, &mut device, &mut room));
     Ok(())
 }

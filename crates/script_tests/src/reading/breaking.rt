@@ -1,12 +1,10 @@
-// Readers that break at a call or do less than they are asked, and heaps that give out.
-use super::{plain, repeated};
+// Readers that break at a call or do less than they are asked.
+use super::plain;
 use crate::compare::{assert_equal, assert_equal_at};
 use script::{Fault, Script};
-use std::alloc::Global;
 use std::io;
 use std::io::{Error, ErrorKind, Read};
 use std::test::Fail;
-use test_support::all_room;
 
 // A reader of a text in parts. It fails at the call of that number, counted from 0.
 #[derive(Drop)]
@@ -82,52 +80,5 @@ fn a_read_that_is_broken_off_is_done_again(rt: HostRuntime) -> Result<(), Fail> 
     };
     let script = Script::read(alloc, &mut reader)?;
     assert_equal(&rt, plain(alloc, &script)?.as_str(), SAID);
-    Ok(())
-}
-
-// How many events a text has, or why it isn't read.
-fn outcome(alloc: Global, text: &[u8]) -> Result<usize, Fault> {
-    let mut reader = text;
-    let script = Script::read(alloc, &mut reader)?;
-    Ok(script.len())
-}
-
-#[test]
-fn refused_memory_is_told(rt: HostRuntime) -> Result<(), Fail> {
-    let alloc = rt.alloc();
-    // records, runs and bytes all grow many times
-    let text = repeated(
-        alloc,
-        "vfs 1 4096\n",
-        "mw 0 0 11223344.5a*9.66778899\n",
-        20_000,
-    )?;
-    let text = text.as_slice();
-    // room for one more growth each time that a part of it is given back, so that another growth is the first refused
-    let mut kept = Vec::with_capacity(alloc, 64)?;
-    let mut size = 2usize << 20;
-    for _ in 0..10 {
-        size /= 2;
-        for _ in 0..3 {
-            kept.push(Vec::<u8>::with_capacity(alloc, size)?)?;
-        }
-    }
-    let taken = all_room(alloc).ok_or("the heap does not run out")?;
-    assert_equal(&rt, outcome(alloc, text), Err(Fault::NoMemory));
-    let mut refused = 1u32;
-    for _ in 0..30 {
-        drop(kept.pop());
-        match outcome(alloc, text) {
-            Ok(events) => assert_equal(&rt, events, 20_000),
-            Err(fault) => {
-                assert_equal(&rt, fault, Fault::NoMemory);
-                refused = refused.saturating_add(1);
-            }
-        }
-    }
-    // some were refused where much had been read
-    assert!(rt; refused > 10, "{refused} refused");
-    drop(taken);
-    assert_equal(&rt, outcome(alloc, text), Ok(20_000));
     Ok(())
 }

@@ -1,10 +1,9 @@
-// Writers that break at a call or take less than they are given, and heaps that give out.
+// Writers that break at a call or take less than they are given.
 use crate::compare::{assert_equal, assert_equal_at};
 use std::alloc::{AllocError, Global};
 use std::io;
 use std::io::{Error, ErrorKind, Write};
 use std::test::Fail;
-use test_support::all_room;
 use transcript::{Fault, Output};
 
 // A writer that takes parts. It fails at the call of that number, counted from 0.
@@ -118,42 +117,5 @@ fn a_write_that_is_broken_off_is_done_again(rt: HostRuntime) -> Result<(), Fail>
     };
     assert_equal(&rt, write_frames(alloc, &mut writer), Ok(()));
     assert!(rt; writer.taken.as_slice() == wanted.as_bytes());
-    Ok(())
-}
-
-// A writer that counts what it takes, and needs no memory.
-#[derive(Drop)]
-struct Count {
-    bytes: usize,
-}
-
-impl Write for Count {
-    fn write(&mut self, buf: &[u8]) -> io::Result<usize> {
-        self.bytes = self.bytes.saturating_add(buf.len());
-        Ok(buf.len())
-    }
-
-    fn flush(&mut self) -> io::Result<()> {
-        Ok(())
-    }
-}
-
-#[test]
-fn only_the_maker_takes_memory(rt: HostRuntime) -> Result<(), Fail> {
-    let alloc = rt.alloc();
-    let mut output = Output::new(alloc)?;
-    let mut writer = Count { bytes: 0 };
-    let taken = all_room(alloc).ok_or("the heap does not run out")?;
-    match Output::new(alloc) {
-        Ok(_) => assert!(rt; false, "an output without room"),
-        Err(fault) => assert_equal(&rt, fault, Fault::NoMemory),
-    }
-    // each line has four letters, two digits a byte, and its end
-    for _ in 0..40 {
-        assert_equal(&rt, output.frame(&[7; 9018], &mut writer), Ok(()));
-    }
-    assert_equal(&rt, output.finish(&mut writer), Ok(()));
-    assert_equal(&rt, writer.bytes, 40 * (4 + 2 * 9018 + 1));
-    drop(taken);
     Ok(())
 }

@@ -1,7 +1,7 @@
 // Each form of a reply, and marks.
-use super::{Step, device_of_8, run};
+use super::{device_of_8, run};
 use crate::compare::assert_equal;
-use device::{Outcome, Taken};
+use device::{MemSlice, Outcome, Request, Taken};
 use irq_causes::Messages;
 use std::test::Fail;
 use transcript::{Fault, Output};
@@ -10,28 +10,28 @@ use transcript::{Fault, Output};
 #[test]
 fn reads_and_refusals(rt: HostRuntime) -> Result<(), Fail> {
     let alloc = rt.alloc();
-    let steps = [
-        Step::VfRead(8, 0),
-        Step::VfRead(0, 0x10),
-        Step::Open(0),
-        Step::Open(0),
-        Step::VfRead(0, 0x4000),
-        Step::VfRead(0, 0x101),
-        Step::MemRead(0, 65535, 2),
-        Step::MemRead(0, 0, 2049),
-        Step::PfRead(0x20000),
-        Step::PfRead(0x51B0),
-        Step::VfRead(0, 0x10),
-        Step::VfRead(0, 0x1014),
+    let asked = [
+        Request::VfRead(8, 0),
+        Request::VfRead(0, 0x10),
+        Request::Open(0),
+        Request::Open(0),
+        Request::VfRead(0, 0x4000),
+        Request::VfRead(0, 0x101),
+        Request::MemRead(0, 65535, 2),
+        Request::MemRead(0, 0, 2049),
+        Request::PfRead(0x20000),
+        Request::PfRead(0x51B0),
+        Request::VfRead(0, 0x10),
+        Request::VfRead(0, 0x1014),
         // no bytes at the end of the memory
-        Step::MemRead(0, 65536, 0),
-        Step::MemWrite(0, 0, &[0xAB, 0xCD, 0x0E]),
-        Step::MemRead(0, 0, 4),
+        Request::MemRead(0, 65536, 0),
+        Request::MemWrite(0, 0, MemSlice::new(&[0xAB, 0xCD, 0x0E])?),
+        Request::MemRead(0, 0, 4),
     ];
     let wanted =
         "1 refused 1\n2 refused 2\n3 ok\n4 refused 7\n5 refused 3\n6 refused 3\n7 refused 4\n8 refused 5\n\
         9 refused 3\n10 = 0x60000001\n11 = 0x70000000\n12 = 0x10000000\n13 bytes -\n14 ok\n15 bytes abcd0e00\n";
-    assert_equal(&rt, run(alloc, &steps)?.as_str(), wanted);
+    assert_equal(&rt, run(alloc, &asked)?.as_str(), wanted);
     Ok(())
 }
 

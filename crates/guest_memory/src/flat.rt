@@ -1,9 +1,11 @@
 //! A memory on the heap.
-ghost use Rattle.std.specs.Prelude.{◌≡◌, ℕ, ◌+◌, ◌-◌, ◌*◌, ◌/◌, ◌%◌, ◌<◌, ◌≤◌, ◌↔◌, ◌++◌, true, false, List, [], ◌∷◌, length, set, replicate, slice_range, vec_capacity, IfOk, IfErr};
-ghost use Rattle.guest_memory.specs.Memory.{overwrite, is_memory_size};
+ghost use Rattle.std.specs.Prelude.{◌≡◌, ℕ, ◌+◌, ◌-◌, ◌*◌, ◌/◌, ◌%◌, ◌<◌, ◌≤◌, ◌↔◌, ◌++◌, true, false, List, [], ◌∷◌, length, set, replicate, slice_range, vec_capacity, IfOk, IfErr, IfSome};
+ghost use Rattle.guest_memory.specs.Memory.{overwrite, is_memory_size, word_at, word_bytes, two_words};
 ghost use Rattle.guest_memory.specs.Pages.{Paired, Listed, place_in, reaching};
 
 use crate::GuestMem;
+use crate::words::{bytes_of, bytes_of_two, words_of};
+use byteorder::{ByteOrder, LittleEndian};
 use std::alloc::Global;
 use std::marker::Model;
 use wire_frame::Fault;
@@ -105,6 +107,48 @@ impl FlatMem {
         } else {
             blank(out);
         }
+    }
+
+    // The `count` bytes from `start` on, where they are bytes of one stored page.
+    #[inline]
+    #[tactic(auto, using(crate::proofs::PagesLemmas::length_paged, crate::proofs::PagesLemmas::read_paged))]
+    fn stored_part(&self, start: usize, count: usize) -> Option<&[u8]>
+        requires fits { start + count ≤ length self.now }
+        ensures { IfSome result (λ part. part.now ≡ slice_range self.now start (start + count)) }
+    {
+        let cells = self.cells.as_slice();
+        let at = place_of(&self.table, start / PAGE) as usize * PAGE + start % PAGE;
+        if start % PAGE + count <= PAGE && at < cells.len() {
+            Some(&cells[at..at + count])
+        } else {
+            None
+        }
+    }
+
+    // A word that isn't in one stored page.
+    #[cold]
+    #[inline(never)]
+    #[tactic(auto, unfolding(crate::specs::Memory::word_at))]
+    fn read_word_apart(&self, addr: u64) -> u64
+        requires { addr + 8 ≤ length self.now }
+        ensures { result ≡ word_at addr self.now }
+    {
+        let mut word = [0u8; 8];
+        self.read_at(addr, &mut word);
+        LittleEndian::read_u64(&word)
+    }
+
+    // Two words that aren't in one stored page.
+    #[cold]
+    #[inline(never)]
+    fn read_words_apart(&self, addr: u64) -> (u64, u64)
+        requires { addr + 16 ≤ length self.now }
+        ensures low { result.0 ≡ word_at addr self.now }
+        ensures high { result.1 ≡ word_at (addr + 8) self.now }
+    {
+        let mut words = [0u8; 16];
+        self.read_at(addr, &mut words);
+        words_of(&words)
     }
 
     // A write within a page.
@@ -278,6 +322,7 @@ impl GuestMem for FlatMem {
         }
     }
 
+    #[inline]
     fn write_at(&mut self, addr: u64, source: &[u8]) {
         let start = addr as usize;
         if start % PAGE + source.len() <= PAGE {
@@ -285,6 +330,30 @@ impl GuestMem for FlatMem {
         } else {
             self.write_pages(start, source);
         }
+    }
+
+    #[tactic(auto, unfolding(crate::specs::Memory::word_at))]
+    fn read_word(&self, addr: u64) -> u64 {
+        match self.stored_part(addr as usize, 8) {
+            Some(word) => LittleEndian::read_u64(word),
+            None => self.read_word_apart(addr),
+        }
+    }
+
+    #[tactic(auto, using(crate::proofs::WordsLemmas::low_word, crate::proofs::WordsLemmas::high_word))]
+    fn read_words(&self, addr: u64) -> (u64, u64) {
+        match self.stored_part(addr as usize, 16) {
+            Some(words) => words_of(words),
+            None => self.read_words_apart(addr),
+        }
+    }
+
+    fn write_word(&mut self, addr: u64, word: u64) {
+        self.write_at(addr, &bytes_of(word));
+    }
+
+    fn write_words(&mut self, addr: u64, low: u64, high: u64) {
+        self.write_at(addr, &bytes_of_two(low, high));
     }
 
     #[tactic(auto, using(crate::proofs::PagesLemmas::length_paged, crate::proofs::PagesLemmas::paged_none))]

@@ -298,10 +298,10 @@ impl<M: GuestMem, L: Ledger, P: GuestPort> LockedPort<M, L, P> {
             .device
             .act_request(rt, share, request, &mut self.room, read);
         self.last = Shadow::of(share);
-        match taken {
-            Some(taken) => Some(taken.outcome),
-            None => None,
-        }
+        let Some(taken) = taken else {
+            return None;
+        };
+        Some(taken.outcome)
     }
 }
 

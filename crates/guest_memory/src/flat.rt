@@ -4,7 +4,7 @@ ghost use Rattle.guest_memory.specs.Memory.{overwrite, is_memory_size, word_at, 
 ghost use Rattle.guest_memory.specs.Pages.{Paired, Listed, place_in, reaching};
 
 use crate::GuestMem;
-use crate::words::{bytes_of, bytes_of_two, words_of};
+use crate::words::{bytes_of, bytes_of_two, put_word, put_words, words_of};
 use byteorder::{ByteOrder, LittleEndian};
 use std::alloc::Global;
 use std::marker::Model;
@@ -134,7 +134,7 @@ impl FlatMem {
         ensures { result ≡ word_at addr self.now }
     {
         let mut word = [0u8; 8];
-        self.read_at(addr, &mut word);
+        self.read_pages(addr as usize, &mut word);
         LittleEndian::read_u64(&word)
     }
 
@@ -147,7 +147,7 @@ impl FlatMem {
         ensures high { result.1 ≡ word_at (addr + 8) self.now }
     {
         let mut words = [0u8; 16];
-        self.read_at(addr, &mut words);
+        self.read_pages(addr as usize, &mut words);
         words_of(&words)
     }
 
@@ -176,7 +176,7 @@ impl FlatMem {
         }
     }
 
-    // A read across pages.
+    // A read across pages, or in one.
     #[cold]
     #[inline(never)]
     #[tactic(auto, using(crate::proofs::PagesLemmas::length_paged))]
@@ -193,7 +193,7 @@ impl FlatMem {
         }
     }
 
-    // A write across pages.
+    // A write across pages, or in one.
     #[cold]
     #[inline(never)]
     #[tactic(auto, using(crate::proofs::PagesLemmas::length_paged))]
@@ -322,7 +322,6 @@ impl GuestMem for FlatMem {
         }
     }
 
-    #[inline]
     fn write_at(&mut self, addr: u64, source: &[u8]) {
         let start = addr as usize;
         if start % PAGE + source.len() <= PAGE {
@@ -348,12 +347,28 @@ impl GuestMem for FlatMem {
         }
     }
 
+    #[tactic(auto, using(crate::proofs::PagesLemmas::length_paged, crate::proofs::PagesLemmas::write_paged, crate::proofs::PagesLemmas::is_paged_same, crate::proofs::WordsLemmas::length_word))]
     fn write_word(&mut self, addr: u64, word: u64) {
-        self.write_at(addr, &bytes_of(word));
+        let start = addr as usize;
+        let place = place_of(&self.table, start / PAGE);
+        if place != UNSTORED && start % PAGE + 8 <= PAGE {
+            let at = place as usize * PAGE + start % PAGE;
+            write_word_within(&mut self.cells, at, word);
+        } else {
+            self.write_pages(start, &bytes_of(word));
+        }
     }
 
+    #[tactic(auto, using(crate::proofs::PagesLemmas::length_paged, crate::proofs::PagesLemmas::write_paged, crate::proofs::PagesLemmas::is_paged_same, crate::proofs::WordsLemmas::length_two))]
     fn write_words(&mut self, addr: u64, low: u64, high: u64) {
-        self.write_at(addr, &bytes_of_two(low, high));
+        let start = addr as usize;
+        let place = place_of(&self.table, start / PAGE);
+        if place != UNSTORED && start % PAGE + 16 <= PAGE {
+            let at = place as usize * PAGE + start % PAGE;
+            write_words_within(&mut self.cells, at, low, high);
+        } else {
+            self.write_pages(start, &bytes_of_two(low, high));
+        }
     }
 
     #[tactic(auto, using(crate::proofs::PagesLemmas::length_paged, crate::proofs::PagesLemmas::paged_none))]
@@ -409,6 +424,30 @@ fn write_within(cells: &mut Vec<u8>, start: usize, source: &[u8])
 {
     let cells = cells.as_mut_slice();
     copy_to(&mut cells[start..start + source.len()], source);
+}
+
+// Writes a word over the cells from `start` on.
+#[inline]
+fn write_word_within(cells: &mut Vec<u8>, start: usize, word: u64)
+    requires { start + 8 ≤ length cells.old.items }
+    ensures cells { cells.new.items ≡ overwrite start (word_bytes word) cells.old.items }
+    ensures len { length cells.new.items ≡ length cells.old.items }
+    ensures capacity { vec_capacity cells.new ≡ vec_capacity cells.old }
+{
+    let cells = cells.as_mut_slice();
+    put_word(&mut cells[start..start + 8], word);
+}
+
+// Writes two words over the cells from `start` on.
+#[inline]
+fn write_words_within(cells: &mut Vec<u8>, start: usize, low: u64, high: u64)
+    requires { start + 16 ≤ length cells.old.items }
+    ensures cells { cells.new.items ≡ overwrite start (two_words low high) cells.old.items }
+    ensures len { length cells.new.items ≡ length cells.old.items }
+    ensures capacity { vec_capacity cells.new ≡ vec_capacity cells.old }
+{
+    let cells = cells.as_mut_slice();
+    put_words(&mut cells[start..start + 16], low, high);
 }
 
 // Copies as many bytes as there is room for. A word and two words of a descriptor go as moves.

@@ -4,28 +4,48 @@ ghost use Rattle.guest_memory.specs.Memory.{word_at, word_bytes, two_words};
 
 use byteorder::{ByteOrder, LittleEndian};
 
-// The bytes of a word.
+// Makes eight bytes those of a word.
 #[inline]
 #[tactic(auto, unfolding(crate::specs::Memory::word_bytes))]
+pub(crate) fn put_word(bytes: &mut [u8], word: u64)
+    requires { length bytes.old ≡ 8 }
+    ensures value { bytes.new ≡ word_bytes word }
+    ensures len { length bytes.new ≡ 8 }
+{
+    LittleEndian::write_u64(bytes, word);
+}
+
+// Makes sixteen bytes those of two words.
+#[inline]
+#[tactic(auto, unfolding(crate::specs::Memory::two_words))]
+pub(crate) fn put_words(bytes: &mut [u8], low: u64, high: u64)
+    requires { length bytes.old ≡ 16 }
+    ensures value { bytes.new ≡ two_words low high }
+    ensures len { length bytes.new ≡ 16 }
+{
+    LittleEndian::write_u64(&mut bytes[..8], low);
+    LittleEndian::write_u64(&mut bytes[8..], high);
+}
+
+// The bytes of a word.
+#[inline]
 pub(crate) fn bytes_of(word: u64) -> [u8; 8]
     ensures value { result ≡ word_bytes word }
     ensures len { length result ≡ 8 }
 {
     let mut bytes = [0u8; 8];
-    LittleEndian::write_u64(&mut bytes, word);
+    put_word(&mut bytes, word);
     bytes
 }
 
 // The bytes of two words.
 #[inline]
-#[tactic(auto, unfolding(crate::specs::Memory::two_words))]
 pub(crate) fn bytes_of_two(low: u64, high: u64) -> [u8; 16]
     ensures value { result ≡ two_words low high }
     ensures len { length result ≡ 16 }
 {
     let mut bytes = [0u8; 16];
-    LittleEndian::write_u64(&mut bytes, low);
-    LittleEndian::write_u64(&mut bytes[8..], high);
+    put_words(&mut bytes, low, high);
     bytes
 }
 

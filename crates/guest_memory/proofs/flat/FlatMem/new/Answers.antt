@@ -1,5 +1,5 @@
 -- A memory that was made has room for all its pages, and none is stored.
-use Rattle.std.proofs.Common.{◌+◌, ◌/◌, rules, arith}
+use Rattle.std.proofs.Common.{rules, arith}
 use Rattle.std.proofs.lemmas.Grind.{common_steps}
 use Rattle.guest_memory.proofs.PagesLemmas.{is_paged_none}
 use Rattle.guest_memory.proofs.flat.FlatMem.new.Goals as goal

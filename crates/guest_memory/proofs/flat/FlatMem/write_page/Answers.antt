@@ -1,5 +1,5 @@
 -- A page that isn't stored gets the next place; the bytes change only where the write is.
-use Rattle.std.proofs.Common.{◌≡◌, ℕ, ◌+◌, ◌*◌, ◌/◌, ◌%◌, ◌<◌, ◌≤◌, List, length, arith, ap, sym, ◌∙◌}
+use Rattle.std.proofs.Common.{ℕ, ◌+◌, ◌*◌, ◌/◌, ◌%◌, ◌≤◌, List, length, arith, ap, sym, ◌∙◌}
 use Rattle.guest_memory.specs.Pages.{place_in}
 use Rattle.guest_memory.proofs.PagesLemmas.{length_paged, free, is_paged_first, write_paged, write_first_paged}
 use Rattle.guest_memory.proofs.flat.FlatMem.write_page.Goals as goal

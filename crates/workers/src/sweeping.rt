@@ -1,7 +1,7 @@
 //! The ends of ports, as events.
-ghost use Rattle.std.specs.Prelude.{◌≡◌, ◌+◌, length, true, false, IfErr, IfOk, OnOk};
+ghost use Rattle.std.specs.Prelude.{◌≡◌, ◌+◌, [], ◌∷◌, length, true, false, IfErr, IfOk, OnOk};
 ghost use Rattle.device.specs.declared.event.Event.TheVariants.{End};
-ghost use Rattle.device_lock.specs.Held.{having_asked};
+ghost use Rattle.recorder.specs.Held.{HasAsked};
 ghost use Rattle.guest_port.specs.Notes.{knows};
 ghost use Rattle.workers.specs.Callers.{service};
 ghost use Rattle.workers.specs.Sweeps.{IsEndOfOne, IsLooked, IsSwept, NoneEnded};
@@ -53,7 +53,7 @@ pub(crate) fn end_known<M: GuestMem, L: Ledger, R: Wait>(
     ensures looked { IsLooked note.old note.new }
     ensures knows { IfOk result (λ ended. ended ≡ knows note.new.1) }
     ensures ended { IfOk result
-        (λ ended. ended ≡ true → share.new ≡ having_asked (End note.new.0) share.old) }
+        (λ ended. ended ≡ true → HasAsked (End note.new.0 ∷ []) share.old share.new) }
     ensures live { IfOk result (λ ended. ended ≡ false → share.new ≡ share.old) }
     ensures full { IfErr result (λ full. (full.0 ≡ End note.new.0)
         × (knows note.new.1 ≡ true) × (share.new ≡ share.old)) }

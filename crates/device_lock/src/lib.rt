@@ -1,29 +1,15 @@
-//! A recorded device: one device for many callers, behind one lock, with the history of all that was asked of it.
+//! A recorded device that threads share, behind one lock.
 //!
-//! A [`Recorded`] device has a live [`Device`](device::Device), the seat of the interrupt line that its messages go to, and
-//! the calls that it took since a base, with their callers and answers. Its type says that they fit: stepped from the base,
-//! the kept events are answered as was kept and lead to the live device; each is one that its caller may make; and each
-//! message that was raised in the line is one of a kept answer, or of a call that was folded away. So the isolation law holds
-//! of the history for each pool, from the base on: [`Recorded::agrees`] states it. [`Recorded::replays`] steps another device
-//! through the history. Where the device was made with a twin, [`Recorded::rebase`] steps the twin through the history and
-//! empties it: the twin is then the base.
+//! A [`LockedDevice`] is a [`Recorded`] device, which the crate `recorder` makes, behind a lock: one call at a time is inside,
+//! and the others wait. Each caller has its [`Share`], and of each call that it makes the share has, from then on, the event
+//! and the very answer that is handed back. A share grows inside `recorder` alone, by the call that the device kept. So this
+//! crate can't answer what was not kept, can't keep what it does not tell, and can't make a call that nobody asked for.
 //!
-//! Each of the 67 callers has a [`Share`]: the ports of the 64 pools, the driver of the physical function, the pump of frames
-//! from the wire, and the service. A share knows the events that its caller asked, each in its call, and nobody else can ask
-//! for it, so [`Recorded::gather`] can say of all shares together that they count the calls that were kept and folded away. A
-//! [`LockedDevice`] is a recorded device that threads share. Of the calls of this crate its own alone wait, for the lock; none
-//! but the makers takes memory. The crate stands on `device`, `history` and `irq_line`.
+//! All names of `recorder` are handed on. Only the calls of a locked device wait, for the lock; none but its maker takes
+//! memory. The crate stands on `recorder` and `device`.
 #![tactic(auto)]
 
-mod asked;
-mod journal;
 mod locked;
-mod makes;
-mod recorded;
-mod share;
-mod shares;
 
 pub use locked::LockedDevice;
-pub use recorded::{Full, Recorded, Tally};
-pub use share::{CALLERS, PF, PUMP, SERVICE, Share};
-pub use shares::Shares;
+pub use recorder::{CALLERS, Full, PF, PUMP, Recorded, SERVICE, Share, Shares, Tally};

@@ -5,14 +5,14 @@ ghost use Rattle.device.specs.Request.{event_of};
 ghost use Rattle.device.specs.World.{World, step, sent_by, world_after, answers};
 ghost use Rattle.device.specs.Outcome.{left_by};
 ghost use Rattle.history.specs.Entries.{Entry, events, given};
-ghost use Rattle.device_lock.specs.Callers.{may};
-ghost use Rattle.device_lock.specs.Held.{having_asked, count_of};
-ghost use Rattle.device_lock.specs.Read.{bytes_asked, bytes_told, answer_with};
+ghost use Rattle.device_lock.specs.Answers.{MayAnswer};
+ghost use Rattle.recorder.specs.Callers.{may};
+ghost use Rattle.recorder.specs.Held.{having_asked, count_of};
+ghost use Rattle.recorder.specs.Read.{bytes_asked, bytes_told, answer_with};
 
-use crate::recorded::{Full, Recorded, Tally};
-use crate::share::Share;
 use device::{Answer, Device, Event, Request, Taken};
 use guest_memory::GuestMem;
+use recorder::{Full, Recorded, Share, Tally};
 use std::alloc::Global;
 use std::sync::ledger::Ledger;
 use std::sync::{Arc, Mutex, Wait};
@@ -49,11 +49,11 @@ impl<M: GuestMem, L: Ledger> LockedDevice<M, L> {
         }
     }
 
-    /// One [`Recorded::record`] under the lock.
+    /// One [`Recorded::record`] under the lock. The share has the call from then on, with the answer that is handed back.
     pub fn act<R: Wait>(&self, rt: &R, share: &mut Share<L>, event: Event) -> Result<Answer, Full>
         requires may { may share.old.caller event ≡ true }
-        ensures answer { IfOk result (λ answer. (w : World) × (answer ≡ (step w event).answer)) }
-        ensures counted { OnOk result (share.new ≡ having_asked event share.old) }
+        ensures answer { IfOk result (λ answer. MayAnswer event answer) }
+        ensures counted { IfOk result (λ answer. share.new ≡ having_asked event answer share.old) }
         ensures full { IfErr result (λ full. full.0 ≡ event) }
         ensures unchanged { OnErr result (share.new ≡ share.old) }
     {
@@ -61,7 +61,7 @@ impl<M: GuestMem, L: Ledger> LockedDevice<M, L> {
     }
 
     /// One [`Recorded::record_read`] under the lock: what an event's [`LockedDevice::act`] answers, in few words, with the
-    /// bytes that were read at the front of `read`.
+    /// bytes that were read at the front of `read`. The share has the call from then on, with that answer.
     #[inline]
     pub fn act_request<'f, R: Wait>(
         &self,
@@ -81,8 +81,9 @@ impl<M: GuestMem, L: Ledger> LockedDevice<M, L> {
         ensures rest { IfSome result
             (λ taken. drop (bytes_told taken.outcome) read.new
             ≡ drop (bytes_told taken.outcome) read.old) }
-        ensures counted { IfSome result
-            (λ taken. share.new ≡ having_asked (event_of request.entry) share.old) }
+        ensures counted { IfSome result (λ taken.
+            share.new ≡ having_asked (event_of request.entry)
+            (answer_with (take (bytes_told taken.outcome) read.new) taken) share.old) }
         ensures unchanged { IfNone result ((share.new ≡ share.old) × (read.new ≡ read.old)) }
     {
         self.inner.lock(rt).record_read(share, request, frame, read)

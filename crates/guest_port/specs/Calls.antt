@@ -1,4 +1,5 @@
--- What the calls of a port with its device do: each is one event of the port's own pool, which is kept with its answer.
+-- What the calls of a port with its device do: each is one event of the port's own pool, which is kept with its answer, and what the
+-- call answers is the reply of that answer.
 use Rattle.std.specs.Prelude.{◌≡◌, ℕ, ◌==◌, Bool, true, false, List, [], ◌∷◌, ◌++◌, drop, length, Result, Ok, Err}
 use Rattle.wire_frame.specs.Fault.{number_of}
 use Rattle.wire_frame.specs.declared.fault.Fault.{Fault}
@@ -6,8 +7,10 @@ use Rattle.wire_frame.specs.declared.fault.Fault.TheVariants.{HistoryFull}
 use Rattle.device.specs.declared.event.Event.{Event}
 use Rattle.device.specs.declared.event.Reply.{Reply}
 use Rattle.device.specs.declared.event.Reply.TheVariants.{Done, Value, Bytes, Refused}
-use Rattle.device.specs.World.{World, step}
-use Rattle.device_lock.specs.Held.{Mine}
+use Rattle.device.specs.declared.event.Answer.{Answer}
+use Rattle.history.specs.Entries.{Entry, entry}
+use Rattle.recorder.specs.Held.{Mine}
+use Rattle.device_lock.specs.Answers.{MayAnswer}
 use Rattle.guest_port.specs.Port.{Port}
 
 -- a port with its device
@@ -15,20 +18,23 @@ pub record CallingPort : Type 0 where
   pub port : Port
   -- its share as it was when the port was made
   pub made : Mine
-  -- the events that it asked in its calls, the oldest first: those that were kept, with the refused ones
-  pub calls : List Event
+  -- its calls, the oldest first, each with its event and its answer: those that were kept, with the refused ones
+  pub calls : List Entry
 
--- what a share asked since it was another
-abbrev pub asked_since : Mine → Mine → List Event
+-- the calls of a share since it was another
+abbrev pub asked_since : Mine → Mine → List Entry
 asked_since old new = drop (length old.asked) new.asked
 
--- a port once it asked one more
-abbrev pub having_called : Event → CallingPort → CallingPort
-having_called event c = record c { calls = c.calls ++ event ∷ [] }
+-- a port once it asked one more event, which got this answer
+abbrev pub having_called : Event → Answer → CallingPort → CallingPort
+having_called event answer c = record c { calls = c.calls ++ entry c.made.caller event answer ∷ [] }
 
--- the event may be replied to so: some world's step does it
-abbrev pub MayReply : Event → Reply → Type 0
-MayReply event reply = (w : World) × (reply ≡ (step w event).answer.reply)
+-- the port asked one more event: the reply is that of the answer which was kept, and which the event may get
+pub record HasCalled (event : Event) (reply : Reply) (old new : CallingPort) : Type 0 where
+  pub answer : Answer
+  pub kept : new ≡ having_called event answer old
+  pub told : answer.reply ≡ reply
+  pub given : MayAnswer event answer
 
 -- the call was not kept, since the history is full
 abbrev pub is_full : {X : Type 0} → Result X Fault → Bool

@@ -2,7 +2,7 @@
 //!
 //! A [`LockedPort`] reads and writes the registers and the memory of its own pool's function, resets it, and takes the
 //! function's interrupt messages. Each call that waits is one event of that pool, which the device keeps with its answer, and
-//! its result is a reply that a device gives to that very event. The calls for messages wait for nobody: they are those of a
+//! its result is the reply of that very answer. The calls for messages wait for nobody: they are those of a
 //! [`GuestPort`], such as the [`IrqPort`] over a seat of the interrupt line. A port ends when it is told to, closed or dropped,
 //! which takes no lock and no memory, and its [`EndNote`]s tell so from then on. A port that is closed hands back, once, its
 //! seat, its note and its share, and so nothing of them is lost. None but the makers of an [`IrqPort`] takes memory.

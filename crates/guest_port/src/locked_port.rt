@@ -5,12 +5,12 @@ ghost use Rattle.device.specs.declared.event.Event.{Event};
 ghost use Rattle.device.specs.declared.span.Span.{Span};
 ghost use Rattle.device.specs.Request.{event_of};
 ghost use Rattle.device.specs.Outcome.{reply_by, done_or_refused, value_or_refused, bytes_or_refused};
-ghost use Rattle.device_lock.specs.Callers.{may};
-ghost use Rattle.device_lock.specs.Held.{having_asked_all};
-ghost use Rattle.device_lock.specs.Read.{bytes_asked, bytes_told};
+ghost use Rattle.recorder.specs.Callers.{may};
+ghost use Rattle.recorder.specs.Held.{having_calls};
+ghost use Rattle.recorder.specs.Read.{bytes_asked, bytes_told};
 ghost use Rattle.irq_line.specs.Line.{StandsIn};
 ghost use Rattle.guest_port.specs.Port.{having_taken, having_peeked, ended, closed};
-ghost use Rattle.guest_port.specs.Calls.{having_called, MayReply, is_full, read_or_refused, IsDone, IsValue, IsRead};
+ghost use Rattle.guest_port.specs.Calls.{HasCalled, is_full, read_or_refused, IsDone, IsValue, IsRead};
 
 use crate::port::{GuestPort, Tokens};
 use device::bytes::MOST_BYTES;
@@ -25,11 +25,11 @@ use wire_frame::{Fault, FrameBuf};
 
 /// A port with the device behind it: what a guest has of its virtual function. The calls that take a handle wait for the
 /// device's lock. Each of them is one event of the port's own pool, which the device keeps with its answer and which counts
-/// as a call made, also where it is refused. They are refused, and nothing is kept, as [`Fault::NotOpen`] once the port has
+/// as a call made, also where it is refused: what it answers is the reply that is kept. They are refused, and nothing is kept, as [`Fault::NotOpen`] once the port has
 /// ended, and as [`Fault::HistoryFull`] where the device can keep no more.
 ///
-/// Contracts see the port, its share as it was when the port was made, and the events that it asked since. No call takes
-/// memory.
+/// Contracts see the port, its share as it was when the port was made, and its calls since, each with
+/// its event and its answer. No call takes memory.
 #[derive(Drop)]
 pub struct LockedPort<M: GuestMem, L: Ledger, P: GuestPort> {
     device: Arc<LockedDevice<M, L>>,
@@ -48,7 +48,7 @@ impl<M: GuestMem, L: Ledger, P: GuestPort> Model for LockedPort<M, L, P> {
     ghost Value = { CallingPort };
 
     ghost use Rattle.std.specs.Prelude.{◌≡◌, true, false, MatchOption};
-    ghost use Rattle.device_lock.specs.Held.{having_asked_all};
+    ghost use Rattle.recorder.specs.Held.{having_calls};
     ghost use Rattle.guest_port.specs.Calls.{asked_since};
 
     ghost view = { λ s. record {
@@ -58,7 +58,7 @@ impl<M: GuestMem, L: Ledger, P: GuestPort> Model for LockedPort<M, L, P> {
     } };
 
     ghost invariant = { λ s.
-        (s.last.value ≡ having_asked_all (asked_since s.first.value s.last.value) s.first.value)
+        (s.last.value ≡ having_calls (asked_since s.first.value s.last.value) s.first.value)
         × MatchOption s.share ((P.meaning s.inner).is_closed ≡ true)
         (λ share. ((P.meaning s.inner).is_closed ≡ false)
         × (share.caller ≡ (P.meaning s.inner).pool)
@@ -106,10 +106,8 @@ impl<M: GuestMem, L: Ledger, P: GuestPort> LockedPort<M, L, P> {
         ensures ended { self.old.port.is_open ≡ false →
             (result ≡ Err Fault.NotOpen) × (self.new ≡ self.old) }
         ensures full { is_full result ≡ true → self.new ≡ self.old }
-        ensures counted { self.old.port.is_open ≡ true → is_full result ≡ false →
-            self.new ≡ having_called (Event.VfRead self.old.port.pool offset) self.old }
-        ensures reply { self.old.port.is_open ≡ true → is_full result ≡ false →
-            MayReply (Event.VfRead self.old.port.pool offset) (value_or_refused result) }
+        ensures kept { self.old.port.is_open ≡ true → is_full result ≡ false →
+            HasCalled (Event.VfRead self.old.port.pool offset) (value_or_refused result) self.old self.new }
     {
         if !self.inner.is_open() {
             return Err(Fault::NotOpen);
@@ -129,10 +127,8 @@ impl<M: GuestMem, L: Ledger, P: GuestPort> LockedPort<M, L, P> {
         ensures ended { self.old.port.is_open ≡ false →
             (result ≡ Err Fault.NotOpen) × (self.new ≡ self.old) }
         ensures full { is_full result ≡ true → self.new ≡ self.old }
-        ensures counted { self.old.port.is_open ≡ true → is_full result ≡ false →
-            self.new ≡ having_called (Event.VfWrite self.old.port.pool offset value) self.old }
-        ensures reply { self.old.port.is_open ≡ true → is_full result ≡ false →
-            MayReply (Event.VfWrite self.old.port.pool offset value) (done_or_refused result) }
+        ensures kept { self.old.port.is_open ≡ true → is_full result ≡ false →
+            HasCalled (Event.VfWrite self.old.port.pool offset value) (done_or_refused result) self.old self.new }
     {
         if !self.inner.is_open() {
             return Err(Fault::NotOpen);
@@ -152,10 +148,8 @@ impl<M: GuestMem, L: Ledger, P: GuestPort> LockedPort<M, L, P> {
         ensures ended { self.old.port.is_open ≡ false →
             (result ≡ Err Fault.NotOpen) × (self.new ≡ self.old) }
         ensures full { is_full result ≡ true → self.new ≡ self.old }
-        ensures counted { self.old.port.is_open ≡ true → is_full result ≡ false →
-            self.new ≡ having_called (Event.MemRead self.old.port.pool addr len) self.old }
-        ensures reply { self.old.port.is_open ≡ true → is_full result ≡ false →
-            MayReply (Event.MemRead self.old.port.pool addr len) (read_or_refused result) }
+        ensures kept { self.old.port.is_open ≡ true → is_full result ≡ false →
+            HasCalled (Event.MemRead self.old.port.pool addr len) (read_or_refused result) self.old self.new }
     {
         if !self.inner.is_open() {
             return Err(Fault::NotOpen);
@@ -178,13 +172,9 @@ impl<M: GuestMem, L: Ledger, P: GuestPort> LockedPort<M, L, P> {
         ensures too_long { self.old.port.is_open ≡ true → 2048 < length out.old →
             (result ≡ Err Fault.TooLong) × (self.new ≡ self.old) }
         ensures full { is_full result ≡ true → self.new ≡ self.old }
-        ensures counted { self.old.port.is_open ≡ true → length out.old ≤ 2048
+        ensures kept { self.old.port.is_open ≡ true → length out.old ≤ 2048
             → is_full result ≡ false →
-            self.new
-            ≡ having_called (Event.MemRead self.old.port.pool addr (length out.old)) self.old }
-        ensures reply { self.old.port.is_open ≡ true → length out.old ≤ 2048
-            → is_full result ≡ false →
-            MayReply (Event.MemRead self.old.port.pool addr (length out.old)) (bytes_or_refused result out.new) }
+            HasCalled (Event.MemRead self.old.port.pool addr (length out.old)) (bytes_or_refused result out.new) self.old self.new }
         ensures unread { OnErr result (out.new ≡ out.old) }
     {
         if !self.inner.is_open() {
@@ -210,12 +200,9 @@ impl<M: GuestMem, L: Ledger, P: GuestPort> LockedPort<M, L, P> {
         ensures too_long { self.old.port.is_open ≡ true → 2048 < length bytes.now →
             (result ≡ Err Fault.TooLong) × (self.new ≡ self.old) }
         ensures full { is_full result ≡ true → self.new ≡ self.old }
-        ensures counted { self.old.port.is_open ≡ true → length bytes.now ≤ 2048
+        ensures kept { self.old.port.is_open ≡ true → length bytes.now ≤ 2048
             → is_full result ≡ false →
-            self.new ≡ having_called (Event.MemWrite self.old.port.pool addr bytes.now) self.old }
-        ensures reply { self.old.port.is_open ≡ true → length bytes.now ≤ 2048
-            → is_full result ≡ false →
-            MayReply (Event.MemWrite self.old.port.pool addr bytes.now) (done_or_refused result) }
+            HasCalled (Event.MemWrite self.old.port.pool addr bytes.now) (done_or_refused result) self.old self.new }
     {
         if !self.inner.is_open() {
             return Err(Fault::NotOpen);
@@ -237,10 +224,8 @@ impl<M: GuestMem, L: Ledger, P: GuestPort> LockedPort<M, L, P> {
         ensures ended { self.old.port.is_open ≡ false →
             (result ≡ Err Fault.NotOpen) × (self.new ≡ self.old) }
         ensures full { is_full result ≡ true → self.new ≡ self.old }
-        ensures counted { self.old.port.is_open ≡ true → is_full result ≡ false →
-            self.new ≡ having_called (Event.Flr self.old.port.pool) self.old }
-        ensures reply { self.old.port.is_open ≡ true → is_full result ≡ false →
-            MayReply (Event.Flr self.old.port.pool) (done_or_refused result) }
+        ensures kept { self.old.port.is_open ≡ true → is_full result ≡ false →
+            HasCalled (Event.Flr self.old.port.pool) (done_or_refused result) self.old self.new }
     {
         if !self.inner.is_open() {
             return Err(Fault::NotOpen);
@@ -286,7 +271,7 @@ impl<M: GuestMem, L: Ledger, P: GuestPort> LockedPort<M, L, P> {
             (λ r. (self.old.port.is_closed ≡ false) × (r.0.caller ≡ self.old.port.pool)
             × (r.1.seat ≡ self.old.port.seat) × (r.1.seat.view.pool ≡ self.old.port.pool)
             × (r.1.note ≡ self.new.port.note)) }
-        ensures share { IfSome result (λ r. r.0 ≡ having_asked_all self.old.calls self.old.made) }
+        ensures share { IfSome result (λ r. r.0 ≡ having_calls self.old.calls self.old.made) }
     {
         let tokens = self.inner.close();
         let share = self.share.take();
@@ -299,12 +284,10 @@ impl<M: GuestMem, L: Ledger, P: GuestPort> LockedPort<M, L, P> {
         requires open { self.old.port.is_closed ≡ false }
         requires may { may self.old.port.pool (event_of request) ≡ true }
         requires room { bytes_asked (event_of request) ≤ length read.old }
-        ensures reply { IfSome result (λ outcome. MayReply (event_of request.entry)
-            (reply_by (λ span. take (bytes_told outcome) read.new) outcome)) }
+        ensures kept { IfSome result (λ outcome. HasCalled (event_of request.entry)
+            (reply_by (λ span. take (bytes_told outcome) read.new) outcome) self.old self.new) }
         ensures rest { IfSome result
             (λ outcome. drop (bytes_told outcome) read.new ≡ drop (bytes_told outcome) read.old) }
-        ensures counted { IfSome result
-            (λ outcome. self.new ≡ having_called (event_of request.entry) self.old) }
         ensures full { IfNone result ((self.new ≡ self.old) × (read.new ≡ read.old)) }
     {
         let Some(share) = &mut self.share else {

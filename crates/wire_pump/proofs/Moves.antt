@@ -8,7 +8,7 @@ use Rattle.atomic_table.proofs.Lists.{at_set}
 use Rattle.crossbeam_channel.specs.Fifo.{Pushes, Pops, Forks, Merges, Learns}
 use Rattle.device.specs.declared.event.Event.{Event}
 use Rattle.device.specs.declared.event.Event.TheVariants.{Open, End, VfRead, VfWrite, MemRead, MemWrite, Serve, Flr, PfRead, PfWrite, PfReset, Wire}
-use Rattle.device_lock.specs.Callers.{may}
+use Rattle.recorder.specs.Callers.{may}
 use Rattle.wire_pump.specs.declared.message.WireMsg.{WireMsg}
 use Rattle.wire_pump.specs.declared.message.WireMsg.TheVariants.{Frame, Last}
 use Rattle.wire_pump.specs.declared.flow.Hand.{Hand}

@@ -1,3 +1,4 @@
 pub mod Parcel
 pub mod Pump
+pub mod Doors
 pub mod Ends

@@ -10,8 +10,8 @@ use std::sync::ledger::Ledger;
 use std::sync::{Arc, Wait};
 use wire_frame::FrameBuf;
 
-/// The door to a device that threads share, with the pump's share. Contracts see that share: what the door took is what its
-/// share asked.
+/// The door to a device that threads share, with the pump's share. Contracts see that share: what the door took are the
+/// calls that its share made.
 #[derive(Drop)]
 pub struct LockedDoor<M: GuestMem, L: Ledger> {
     device: Arc<LockedDevice<M, L>>,
@@ -21,7 +21,7 @@ pub struct LockedDoor<M: GuestMem, L: Ledger> {
 }
 
 impl<M: GuestMem, L: Ledger> Model for LockedDoor<M, L> {
-    ghost use Rattle.device_lock.specs.Held.{Mine};
+    ghost use Rattle.recorder.specs.Held.{Mine};
 
     ghost Value = { Mine };
 
@@ -56,10 +56,11 @@ impl<M: GuestMem, L: Ledger> LockedDoor<M, L> {
 }
 
 impl<M: GuestMem, L: Ledger> Door for LockedDoor<M, L> {
-    ghost use Rattle.std.specs.Prelude.{◌≡◌, ◌++◌, ◌∷◌, [], true, if◌then◌else◌, IfOk, IfErr, OnOk, OnErr};
+    ghost use Rattle.std.specs.Prelude.{◌≡◌, ◌∷◌, [], true, false, if◌then◌else◌, IfOk, IfErr, OnOk, OnErr};
     ghost use Rattle.device.specs.declared.event.Event.TheVariants.{Wire};
-    ghost use Rattle.device.specs.World.{World, step};
-    ghost use Rattle.device_lock.specs.Held.{having_asked};
+    ghost use Rattle.recorder.specs.Held.{having_asked};
+    ghost use Rattle.device_lock.specs.Answers.{MayAnswer, HasAskedOne};
+    ghost use Rattle.wire_pump.specs.Doors.{HasTaken};
     ghost use Rattle.wire_pump.specs.Ends.{is_wire};
 
     ghost taken = { λ d. d.asked };
@@ -68,9 +69,9 @@ impl<M: GuestMem, L: Ledger> Door for LockedDoor<M, L> {
     #[tactic(auto, using(crate::proofs::Moves::pump_may))]
     fn act<R: Wait>(&mut self, rt: &R, event: Event) -> Result<Answer, Full>
         requires wire { is_wire event ≡ true }
-        ensures taken { OnOk result (self.new.asked ≡ self.old.asked ++ event ∷ []) }
-        ensures counted { OnOk result (self.new ≡ having_asked event self.old) }
-        ensures answer { IfOk result (λ answer. (w : World) × (answer ≡ (step w event).answer)) }
+        ensures taken { OnOk result (HasTaken (event ∷ []) self.old.asked self.new.asked) }
+        ensures counted { IfOk result (λ answer. self.new ≡ having_asked event answer self.old) }
+        ensures answer { IfOk result (λ answer. MayAnswer event answer) }
         ensures full { IfErr result (λ full. full.0 ≡ event) }
         ensures unchanged { OnErr result (self.new.asked ≡ self.old.asked) }
         ensures same { OnErr result (self.new ≡ self.old) }
@@ -80,10 +81,10 @@ impl<M: GuestMem, L: Ledger> Door for LockedDoor<M, L> {
 
     /// The same for a frame, of which no event is made.
     fn take<R: Wait>(&mut self, rt: &R, frame: &FrameBuf) -> bool
-        ensures taken { self.new.asked
-            ≡ (if result then self.old.asked ++ Wire frame.now ∷ [] else self.old.asked) }
-        ensures counted { self.new
-            ≡ (if result then having_asked (Wire frame.now) self.old else self.old) }
+        ensures taken { HasTaken (if result then Wire frame.now ∷ [] else []) self.old.asked
+            self.new.asked }
+        ensures counted { result ≡ true → HasAskedOne (Wire frame.now) self.old self.new }
+        ensures same { result ≡ false → self.new ≡ self.old }
     {
         let request = Request::Wire(frame);
         self.device

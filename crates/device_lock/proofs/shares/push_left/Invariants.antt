@@ -1,7 +1,0 @@
--- Those so far stand behind the others.
-use Rattle.std.proofs.Common.{◌≡◌, ◌++◌}
-use Rattle.device_lock.specs.Held.{left_of}
-use Rattle.device_lock.proofs.shares.push_left.Given as goal
-
-abbrev pub invariant-loop-port : goal.invariant-loop-port
-invariant-loop-port g l = l.others.items ≡ l.initial.others.items ++ left_of l.yielded

@@ -1,0 +1,37 @@
+-- A recorded device as it is made, with the shares of its callers.
+use Rattle.std.specs.Prelude.{◌≡◌, ℕ, ◌<◌, Bool, [], replicate, Some, slice_get, List, ◌∷◌, Option}
+use Rattle.device.specs.World.{World, fresh, sizes_of}
+use Rattle.irq_line.specs.Line.{DeviceEnd}
+use Rattle.recorder.specs.declared.shares.Shares.{Shares}
+use Rattle.recorder.specs.Held.{Held, Mine, unused, left_of}
+
+-- a device as it is made, for frames up to some limit, over memories of some sizes
+abbrev pub IsFresh : World → Type 0
+IsFresh w = (limit : ℕ) × (sizes : List ℕ) × (w ≡ fresh limit sizes)
+
+-- two devices whose frames may be as long, and whose memories have the same sizes
+abbrev pub SameMake : World → World → Type 0
+SameMake w v = (w.limit ≡ v.limit) × (sizes_of w ≡ sizes_of v)
+
+-- no call was made yet
+abbrev pub begun : World → ℕ → Bool → DeviceEnd → Held
+begun w cap twin line = record {
+  base = w;
+  kept = [];
+  live = w;
+  cap = cap;
+  has_twin = twin;
+  tallies = replicate 67 0;
+  line = line;
+}
+
+-- the share of each caller, unused; those of the ports by their pools
+pub record AreUnused {L : Type 0} (shares : Shares L) : Type 0 where
+  pub pf : shares.pf ≡ unused 64
+  pub pump : shares.pump ≡ unused 65
+  pub service : shares.service ≡ unused 66
+  pub ports : (p : ℕ) → p < 64 → slice_get shares.ports.items p ≡ Some (Some (unused p))
+
+-- the shares that were not handed out
+abbrev pub left_in : {L : Type 0} → Shares L → List Mine
+left_in shares = shares.pf ∷ shares.pump ∷ shares.service ∷ left_of shares.ports.items

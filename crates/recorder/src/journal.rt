@@ -1,0 +1,283 @@
+//! A device, the line that its messages go to, and the calls that it took since a base.
+ghost use Rattle.std.specs.Prelude.{◌≡◌, ℕ, ◌+◌, ◌<◌, ◌≤◌, ◌^◌, [], ◌∷◌, ◌++◌, true, false, IsTrue, ◌↔◌, IfSome, IfNone, is_some, length, replicate, slice_index, sum, option_copied, ◌⊎◌};
+ghost use Rattle.std.specs.Int.{bit_at};
+ghost use Rattle.std.specs.List.{All};
+ghost use Rattle.vf_unit.specs.Unit.{bytes_at};
+ghost use Rattle.device.specs.World.{step, sent_by, world_after, answers, function_of, fresh, sizes_of};
+ghost use Rattle.device.specs.Outcome.{answer_in, left_by};
+ghost use Rattle.device.specs.Lone.{keep, lone_of, lone_seen, lone_after, seen_by};
+ghost use Rattle.device.specs.Request.{event_of};
+ghost use Rattle.irq_line.specs.Line.{raised, bit_for};
+ghost use Rattle.history.specs.Entries.{Entry, events, given};
+ghost use Rattle.recorder.specs.Callers.{may};
+ghost use Rattle.recorder.specs.Legal.{Legal, calls_of, kept_raises};
+ghost use Rattle.recorder.specs.Held.{Keeps, Rebased, folded, folded_raises};
+ghost use Rattle.recorder.specs.Last.{last_of};
+ghost use Rattle.recorder.specs.Made.{IsFresh, begun};
+
+use crate::asked::Asked;
+use crate::share::CALLERS;
+use device::laws::isolation;
+use device::{Answer, Device, Request, Span, Taken};
+use guest_memory::GuestMem;
+use history::History;
+use irq_causes::Messages;
+use irq_line::DeviceSeat;
+use std::marker::Model;
+use wire_frame::{FrameBuf, PoolId};
+
+// How many calls may be folded away.
+const MOST_FOLDED: u64 = 1 << 62;
+
+/// A device, the line that its messages go to, and the calls that it took since a base.
+#[derive(Drop)]
+pub struct Journal<M: GuestMem> {
+    // in boxes, so that a journal is small wherever it is moved
+    live: Box<Device<M>>,
+    // the base, where there is one that can be moved
+    twin: Option<Box<Device<M>>>,
+    line: DeviceSeat,
+    history: History,
+    // how many calls were folded away, and how many of each caller
+    folded: u64,
+    tallies: [u64; CALLERS],
+}
+
+impl<M: GuestMem> Model for Journal<M> {
+    ghost use Rattle.recorder.specs.Held.{Held};
+
+    ghost Value = { Held };
+
+    ghost use Rattle.recorder.specs.Inside.{held_of, IsHeld};
+
+    ghost view = { held_of };
+
+    ghost invariant = { IsHeld };
+}
+
+impl<M: GuestMem> Journal<M> {
+    /// The base is the device as it is, and no calls are kept: the history is empty.
+    pub fn new(
+        live: Box<Device<M>>,
+        twin: Option<Box<Device<M>>>,
+        line: DeviceSeat,
+        history: History,
+    ) -> Journal<M>
+        requires fresh { IsFresh live.value }
+        requires twin { IfSome twin (λ t. t.value ≡ live.value) }
+        requires line { line.raises ≡ [] }
+        requires empty { history.entries ≡ [] }
+        requires few { history.cap ≤ 65536 }
+        ensures begun { result ≡ begun live.value history.cap (is_some twin) line }
+    {
+        Journal {
+            live,
+            twin,
+            line,
+            history,
+            folded: 0,
+            tallies: no_calls(),
+        }
+    }
+
+    /// Takes the event on the live device, raises its messages and keeps the call; or no more calls can be kept, and nothing
+    /// changes.
+    #[inline]
+    pub fn keep<'f>(
+        &mut self,
+        caller: u8,
+        request: Request<'_>,
+        frame: &'f mut FrameBuf,
+    ) -> Option<Taken<'f>>
+        requires may { may caller (event_of request) ≡ true }
+        ensures answer { IfSome result (λ taken.
+            answer_in self.new.live taken ≡ (step self.old.live (event_of request.entry)).answer) }
+        ensures sent { IfSome result
+            (λ taken. option_copied taken.sent ≡ sent_by self.old.live (event_of request.entry)) }
+        ensures left { IfSome result
+            (λ taken. option_copied taken.left ≡ left_by self.old.live (event_of request.entry)) }
+        ensures kept { IfSome result
+            (λ taken. Keeps self.old caller (event_of request.entry) self.new) }
+        ensures full { IfNone result (length self.old.kept ≡ self.old.cap) }
+        ensures unchanged { IfNone result (self.new ≡ self.old) }
+    {
+        if self.history.is_full() {
+            return None;
+        }
+        let taken = self.history.record(caller, request, &mut self.live, frame);
+        raise_all(&mut self.line, &taken.messages);
+        Some(taken)
+    }
+
+    /// Calls that contracts alone see, and the one that was kept last.
+    #[inline]
+    pub(crate) fn noted(&self, asked: &Asked) -> Asked
+        ensures { result.calls ≡ asked.now.calls ++ last_of self.now.kept ∷ [] }
+    {
+        asked.and(&self.history)
+    }
+
+    /// The answer that a [`Taken`] stands for, right after it.
+    #[inline]
+    pub fn answer(&self, taken: &Taken<'_>) -> Answer
+        ensures { result ≡ answer_in self.now.live taken.now }
+    {
+        self.live.answer(taken)
+    }
+
+    /// Fills `out` with the bytes from a span's address on.
+    #[inline]
+    pub fn read_span(&self, span: Span, out: &mut [u8])
+        ensures { out.new
+            ≡ bytes_at (function_of span.pool self.now.live) span.at
+            (replicate {A = ℕ} (length out.old) 0) }
+    {
+        self.live.read_span(span, out);
+    }
+
+    /// Steps the twin through the kept calls, which are then folded away, and tells how many they are. None where there is no
+    /// twin or they would be more than 2^62 with those before.
+    #[tactic(auto, using(crate::proofs::CallerLemmas::callers_below))]
+    pub fn rebase(&mut self) -> Option<usize>
+        ensures count { IfSome result (λ count. count ≡ length self.old.kept) }
+        ensures few { IfSome result (λ count. count ≤ 65536) }
+        ensures rebased { IfSome result (λ count. Rebased self.old self.new) }
+        ensures can { IfSome result
+            (λ count. (self.old.has_twin ≡ true)
+            × (folded self.old + length self.old.kept ≤ 2 ^ 62)) }
+        ensures cannot { IfNone result
+            ((self.old.has_twin ≡ false) ⊎ (2 ^ 62 < folded self.old + length self.old.kept)) }
+        ensures unchanged { IfNone result (self.new ≡ self.old) }
+    {
+        let count = self.history.len();
+        if count as u64 > MOST_FOLDED - self.folded {
+            return None;
+        }
+        let Some(twin) = &mut self.twin else {
+            return None;
+        };
+        self.history.step_all(twin);
+        self.tallies = with_calls(&self.tallies, &self.history);
+        self.folded += count as u64;
+        self.history.clear();
+        Some(count)
+    }
+
+    /// How many calls each caller made, with those that were folded away.
+    #[tactic(auto, using(crate::proofs::CallerLemmas::callers_below))]
+    pub fn tally(&self) -> [u64; CALLERS]
+        ensures each { (c : ℕ) → c < 67
+            → slice_index result c ≡ slice_index self.now.tallies c + calls_of c self.now.kept }
+        ensures all { sum result ≡ folded self.now + length self.now.kept }
+    {
+        with_calls(&self.tallies, &self.history)
+    }
+
+    /// Steps a device through the kept calls, and tells whether it gave the kept answers.
+    pub fn replays(&self, device: &mut Device<M>) -> bool
+        ensures world { device.new ≡ world_after device.old (events self.now.kept) }
+        ensures same { IsTrue result
+            ↔ (answers device.old (events self.now.kept) ≡ given self.now.kept) }
+        ensures base { device.old ≡ self.now.base → IsTrue result }
+    {
+        self.history.gives_all(device)
+    }
+
+    /// How many calls are kept.
+    #[inline]
+    pub fn kept(&self) -> usize
+        ensures kept { result ≡ length self.now.kept }
+        ensures few { result ≤ 65536 }
+    {
+        self.history.len()
+    }
+
+    /// How many calls were folded away.
+    #[inline]
+    pub fn folded(&self) -> usize
+        ensures folded { result ≡ folded self.now }
+        ensures few { result ≤ 2 ^ 62 }
+    {
+        self.folded as usize
+    }
+
+    /// A law: the base, the kept calls, the live device and the line agree, and to each function the kept calls are as if it
+    /// were alone. The call does nothing.
+    pub fn agrees(&self)
+        ensures legal { Legal self.now.base self.now.kept self.now.live }
+        ensures few { length self.now.kept ≤ self.now.cap }
+        ensures first { folded self.now ≡ 0
+            → self.now.base ≡ fresh self.now.live.limit (sizes_of self.now.live) }
+        ensures raised { (p v : ℕ) → p < 64 →
+            raised p v self.now.line.raises
+            ≡ kept_raises p v self.now.kept + folded_raises p v self.now }
+        ensures folded { (p v : ℕ) → p < 64 → folded_raises p v self.now ≤ folded self.now }
+        ensures seen { (p : ℕ) → p < length self.now.base.functions →
+            seen_by p (events self.now.kept) (given self.now.kept)
+            ≡ lone_seen (lone_of p self.now.base) (keep p self.now.base (events self.now.kept)) }
+        ensures state { (p : ℕ) → p < length self.now.base.functions →
+            lone_of p self.now.live
+            ≡ lone_after (lone_of p self.now.base) (keep p self.now.base (events self.now.kept)) }
+    {
+        isolation();
+        let _functions = self.live.functions();
+        let _kept = self.history.len();
+    }
+}
+
+// Raises the messages that the pools got.
+#[inline]
+fn raise_all(line: &mut DeviceSeat, messages: &Messages)
+    ensures raised { (p v : ℕ) → p < 64 →
+        raised p v line.new.raises
+        ≡ raised p v line.old.raises + bit_at (slice_index messages.now p) v }
+    ensures line { line.new.line ≡ line.old.line }
+{
+    let mut rest = messages.pools();
+    while rest != 0 {
+        let pool = rest.trailing_zeros();
+        raise(line, pool as u8, messages);
+        rest &= !(1 << pool);
+    }
+}
+
+// Raises the messages that one pool got.
+#[inline]
+fn raise(line: &mut DeviceSeat, pool: u8, messages: &Messages)
+    requires { pool < 64 }
+    ensures raised { (p v : ℕ) →
+        raised p v line.new.raises
+        ≡ raised p v line.old.raises + bit_for p v pool (slice_index messages.now pool) }
+    ensures line { line.new.line ≡ line.old.line }
+{
+    if let Some(pool) = PoolId::new(pool) {
+        line.raise(pool.get(), messages.to(pool).bits());
+    }
+}
+
+// No call of any caller.
+fn no_calls() -> [u64; CALLERS]
+    ensures value { result ≡ replicate 67 0 }
+    ensures long { length result ≡ 67 }
+    ensures all { sum result ≡ 0 }
+{
+    [0; CALLERS]
+}
+
+// Adds to each caller's number the calls that it made.
+fn with_calls(tallies: &[u64; CALLERS], history: &History) -> [u64; CALLERS]
+    requires callers { All (λ (call : Entry). call.caller < 67) history.now.entries }
+    requires long { length tallies.now ≡ 67 }
+    requires few { history.now.cap ≤ 65536 }
+    requires room { sum tallies.now ≤ 2 ^ 62 }
+    ensures long { length result ≡ 67 }
+    ensures each { (c : ℕ) → c < 67
+        → slice_index result c ≡ slice_index tallies.now c + calls_of c history.now.entries }
+    ensures all { sum result ≡ sum tallies.now + length history.now.entries }
+{
+    let mut tallies = *tallies;
+    for index in 0..history.len() {
+        tallies[usize::from(history.caller(index))] += 1;
+    }
+    tallies
+}

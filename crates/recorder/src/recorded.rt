@@ -1,0 +1,379 @@
+//! A recorded device, and what its callers ask of it.
+ghost use Rattle.std.specs.Prelude.{◌≡◌, ◌≢◌, ℕ, ◌+◌, ◌<◌, ◌≤◌, ◌^◌, [], true, false, IsTrue, ◌↔◌, IfOk, IfErr, OnOk, OnErr, IfSome, IfNone, Err, length, take, drop, slice_index, sum, option_copied, ◌⊎◌};
+ghost use Rattle.std.specs.List.{sum_by};
+ghost use Rattle.device.specs.World.{step, sent_by, world_after, answers, fresh, sizes_of};
+ghost use Rattle.device.specs.Outcome.{answer_in, reply_by, reply_in, left_by};
+ghost use Rattle.device.specs.Lone.{keep, lone_of, lone_seen, lone_after, seen_by};
+ghost use Rattle.device.specs.Request.{event_of};
+ghost use Rattle.irq_line.specs.Line.{raised};
+ghost use Rattle.history.specs.Entries.{is_cap, events, given};
+ghost use Rattle.recorder.specs.Callers.{may};
+ghost use Rattle.recorder.specs.Legal.{Legal, calls_of, kept_raises};
+ghost use Rattle.recorder.specs.Held.{having_asked, count_of, Keeps, Rebased, folded, folded_raises};
+ghost use Rattle.recorder.specs.Made.{IsFresh, SameMake, AreUnused, begun};
+ghost use Rattle.recorder.specs.Read.{bytes_asked, bytes_told, answer_with};
+
+use crate::journal::Journal;
+use crate::makes::is_same_make;
+use crate::share::{CALLERS, Share};
+use crate::shares::Shares;
+use device::{Answer, Device, Event, Outcome, Request, Taken};
+use guest_memory::GuestMem;
+use history::History;
+use irq_line::DeviceSeat;
+use std::alloc::Global;
+use std::marker::Model;
+use std::sync::ledger::{Blank, Book, Ledger, Share as Part};
+use wire_frame::{Fault, FrameBuf};
+
+/// No more calls can be kept. The event comes back, and nothing was done.
+#[derive(Drop)]
+pub struct Full(pub Event);
+
+/// How many calls each caller made, with those that were folded away.
+#[derive(Debug, Drop, PartialEq, Eq)]
+pub struct Tally {
+    /// The numbers, in the order of the callers.
+    pub entries: [u64; CALLERS],
+}
+
+/// A device with the calls that were made on it. Contracts see the base that the kept calls begin at, those calls, and the
+/// live device.
+#[derive(Drop)]
+pub struct Recorded<M: GuestMem, L: Ledger> {
+    journal: Journal<M>,
+    book: Book<L>,
+}
+
+impl<M: GuestMem, L: Ledger> Model for Recorded<M, L> {
+    ghost use Rattle.recorder.specs.Held.{Held};
+
+    ghost Value = { Held };
+
+    ghost use Rattle.std.specs.Prelude.{◌≡◌, ◌+◌, length};
+    ghost use Rattle.recorder.specs.Held.{folded};
+
+    ghost view = { λ r. r.journal };
+
+    ghost invariant = { λ r. (r.book.total ≡ folded r.journal + length r.journal.kept)
+        × (L.parts ≡ 67) };
+}
+
+impl<M: GuestMem, L: Ledger> Recorded<M, L> {
+    /// A device as it is made, whose calls will be kept, `cap` at most, and the shares of its callers.
+    ///
+    /// [`Fault::BadMake`] comes exactly where `cap` is not 1 to 65,536; [`Fault::NoMemory`] only where the host refused the
+    /// room.
+    pub fn new(
+        alloc: Global,
+        blank: Blank,
+        device: Device<M>,
+        line: DeviceSeat,
+        cap: usize,
+    ) -> Result<(Recorded<M, L>, Shares<L>), Fault>
+        requires name { blank.name ≡ L.name }
+        requires parts { (blank.parts ≡ L.parts) × (blank.parts ≡ 67) }
+        requires fresh { IsFresh device }
+        requires line { line.raises ≡ [] }
+        ensures begun { IfOk result (λ r. r.0 ≡ begun device cap false line) }
+        ensures shares { IfOk result (λ r. AreUnused r.1) }
+        ensures bad_make { is_cap cap ≡ false → result ≡ Err Fault.BadMake }
+        ensures no_memory { IfErr result (λ e. is_cap cap ≡ true → e ≡ Fault.NoMemory) }
+    {
+        let history = History::new(alloc, cap)?;
+        let device = boxed(alloc, device)?;
+        shared(alloc, blank, Journal::new(device, None, line, history))
+    }
+
+    /// The same with a twin of the device, equal to it, by which [`Recorded::rebase`] moves the base.
+    ///
+    /// [`Fault::BadMake`] comes exactly where `cap` is not 1 to 65,536, or the two differ in how long a frame may be, in
+    /// their number of functions, or in the size of a memory; [`Fault::NoMemory`] only where the host refused the room.
+    pub fn with_twin(
+        alloc: Global,
+        blank: Blank,
+        live: Device<M>,
+        twin: Device<M>,
+        line: DeviceSeat,
+        cap: usize,
+    ) -> Result<(Recorded<M, L>, Shares<L>), Fault>
+        requires name { blank.name ≡ L.name }
+        requires parts { (blank.parts ≡ L.parts) × (blank.parts ≡ 67) }
+        requires fresh { IsFresh live × IsFresh twin }
+        requires line { line.raises ≡ [] }
+        ensures begun { IfOk result (λ r. r.0 ≡ begun live cap true line) }
+        ensures shares { IfOk result (λ r. AreUnused r.1) }
+        ensures bad_make { is_cap cap ≡ false → result ≡ Err Fault.BadMake }
+        ensures bad_twin { ¬ (SameMake live twin) → result ≡ Err Fault.BadMake }
+        ensures no_memory { IfErr result
+            (λ e. is_cap cap ≡ true → SameMake live twin → e ≡ Fault.NoMemory) }
+    {
+        if !is_same_make(&live, &twin) {
+            return Err(Fault::BadMake);
+        }
+        let history = History::new(alloc, cap)?;
+        let live = boxed(alloc, live)?;
+        let twin = boxed(alloc, twin)?;
+        shared(alloc, blank, Journal::new(live, Some(twin), line, history))
+    }
+
+    /// Takes the event that a request stands for on the device, raises its messages in the line and keeps the call, which the
+    /// share has from then on, with its answer. None where no more calls can be kept, and then nothing changes.
+    ///
+    /// A frame that a service sends is put together in `frame`, and handed out from there. Bytes that are read stand in the
+    /// device's memory still: [`Recorded::record_read`] copies them.
+    #[inline]
+    pub fn record_request<'f>(
+        &mut self,
+        share: &mut Share<L>,
+        request: Request<'_>,
+        frame: &'f mut FrameBuf,
+    ) -> Option<Taken<'f>>
+        requires may { may share.old.caller (event_of request) ≡ true }
+        ensures answer { IfSome result (λ taken.
+            answer_in self.new.live taken ≡ (step self.old.live (event_of request.entry)).answer) }
+        ensures sent { IfSome result
+            (λ taken. option_copied taken.sent ≡ sent_by self.old.live (event_of request.entry)) }
+        ensures left { IfSome result
+            (λ taken. option_copied taken.left ≡ left_by self.old.live (event_of request.entry)) }
+        ensures kept { IfSome result
+            (λ taken. Keeps self.old share.old.caller (event_of request.entry) self.new) }
+        ensures counted { IfSome result (λ taken.
+            share.new ≡ having_asked (event_of request.entry) (answer_in self.new.live taken) share.old) }
+        ensures full { IfNone result (length self.old.kept ≡ self.old.cap) }
+        ensures unchanged { IfNone result ((self.new ≡ self.old) × (share.new ≡ share.old)) }
+    {
+        let Recorded { journal, book } = self;
+        let caller = share.caller;
+        let Some(taken) = journal.keep(caller, request, frame) else {
+            return None;
+        };
+        book.add(&mut share.part, 1);
+        share.count = share.count.wrapping_add(1);
+        share.asked = journal.noted(&share.asked);
+        Some(taken)
+    }
+
+    /// The same, and bytes that the event reads are copied to the front of `read`: as many as the outcome's span has.
+    #[inline]
+    pub fn record_read<'f>(
+        &mut self,
+        share: &mut Share<L>,
+        request: Request<'_>,
+        frame: &'f mut FrameBuf,
+        read: &mut [u8],
+    ) -> Option<Taken<'f>>
+        requires may { may share.old.caller (event_of request) ≡ true }
+        requires room { bytes_asked (event_of request) ≤ length read.old }
+        ensures answer { IfSome result (λ taken.
+            answer_with (take (bytes_told taken.outcome) read.new) taken
+            ≡ (step self.old.live (event_of request.entry)).answer) }
+        ensures rest { IfSome result
+            (λ taken. drop (bytes_told taken.outcome) read.new
+            ≡ drop (bytes_told taken.outcome) read.old) }
+        ensures sent { IfSome result
+            (λ taken. option_copied taken.sent ≡ sent_by self.old.live (event_of request.entry)) }
+        ensures left { IfSome result
+            (λ taken. option_copied taken.left ≡ left_by self.old.live (event_of request.entry)) }
+        ensures kept { IfSome result
+            (λ taken. Keeps self.old share.old.caller (event_of request.entry) self.new) }
+        ensures counted { IfSome result (λ taken.
+            share.new ≡ having_asked (event_of request.entry)
+            (answer_with (take (bytes_told taken.outcome) read.new) taken) share.old) }
+        ensures full { IfNone result (length self.old.kept ≡ self.old.cap) }
+        ensures unchanged { IfNone result
+            ((self.new ≡ self.old) × (share.new ≡ share.old) × (read.new ≡ read.old)) }
+    {
+        let Some(taken) = self.record_request(share, request, frame) else {
+            return None;
+        };
+        self.copy_read(taken.outcome, read);
+        Some(taken)
+    }
+
+    // Copies the bytes of an outcome to the front of `read`.
+    #[inline]
+    fn copy_read(&self, outcome: Outcome, read: &mut [u8])
+        requires { bytes_told outcome ≤ length read.old }
+        ensures read { reply_by (λ span. take (bytes_told outcome) read.new) outcome
+            ≡ reply_in self.now.live outcome }
+        ensures rest { drop (bytes_told outcome) read.new ≡ drop (bytes_told outcome) read.old }
+    {
+        if let Outcome::Bytes(span) = outcome {
+            let (front, _) = read.split_at_mut(span.count());
+            self.journal.read_span(span, front);
+        }
+    }
+
+    /// The same as [`Recorded::record_request`] of an event, which comes back where no more calls can be kept.
+    pub fn record(&mut self, share: &mut Share<L>, event: Event) -> Result<Answer, Full>
+        requires may { may share.old.caller event ≡ true }
+        ensures answer { IfOk result (λ answer. answer ≡ (step self.old.live event).answer) }
+        ensures kept { OnOk result (Keeps self.old share.old.caller event self.new) }
+        ensures counted { IfOk result (λ answer. share.new ≡ having_asked event answer share.old) }
+        ensures full { IfErr result
+            (λ full. (full.0 ≡ event) × (length self.old.kept ≡ self.old.cap)) }
+        ensures unchanged { OnErr result ((self.new ≡ self.old) × (share.new ≡ share.old)) }
+    {
+        let mut frame = FrameBuf::blank();
+        let request = event.as_request();
+        match self.record_request(share, request, &mut frame) {
+            Some(taken) => Ok(self.journal.answer(&taken)),
+            None => Err(Full(event)),
+        }
+    }
+
+    /// Moves the base to the live device: the twin steps through the kept calls, which are then folded away. Answers how many
+    /// they are, and leaves room for as many as at the start. None where the device has no twin or more than 2^62 calls would
+    /// be folded away, and then nothing changes.
+    pub fn rebase(&mut self) -> Option<usize>
+        ensures count { IfSome result (λ count. count ≡ length self.old.kept) }
+        ensures few { IfSome result (λ count. count ≤ 65536) }
+        ensures rebased { IfSome result (λ count. Rebased self.old self.new) }
+        ensures can { IfSome result
+            (λ count. (self.old.has_twin ≡ true)
+            × (folded self.old + length self.old.kept ≤ 2 ^ 62)) }
+        ensures cannot { IfNone result
+            ((self.old.has_twin ≡ false) ⊎ (2 ^ 62 < folded self.old + length self.old.kept)) }
+        ensures unchanged { IfNone result (self.new ≡ self.old) }
+    {
+        self.journal.rebase()
+    }
+
+    /// How many calls each caller made, where the shares are all 67. None where they are not. The shares are spent.
+    pub fn gather(&mut self, shares: Vec<Share<L>>) -> Option<Tally>
+        ensures none { IfNone result (length shares.items ≢ 67) }
+        ensures some { IfSome result (λ tally. length shares.items ≡ 67) }
+        ensures each { IfSome result (λ tally. (c : ℕ) → c < 67 →
+            slice_index tally.entries c
+            ≡ slice_index self.old.tallies c + calls_of c self.old.kept) }
+        ensures all { IfSome result
+            (λ tally. sum tally.entries ≡ folded self.old + length self.old.kept) }
+        ensures counts { IfSome result (λ tally. sum tally.entries ≡ sum_by count_of shares.items) }
+        ensures unchanged { self.new ≡ self.old }
+    {
+        if shares.len() != CALLERS {
+            return None;
+        }
+        let mut all = merged(shares)?;
+        let Recorded { journal, book } = self;
+        book.audit(&mut all);
+        Some(Tally {
+            entries: journal.tally(),
+        })
+    }
+
+    /// Steps a device through the kept calls, and tells whether it gave the kept answers: each reply with its bytes, and all
+    /// messages.
+    pub fn replays(&self, device: &mut Device<M>) -> bool
+        ensures world { device.new ≡ world_after device.old (events self.now.kept) }
+        ensures same { IsTrue result
+            ↔ (answers device.old (events self.now.kept) ≡ given self.now.kept) }
+        // of the base, and of a device of the live one's make while no calls were folded away
+        ensures base { device.old ≡ self.now.base → IsTrue result }
+        ensures fresh { folded self.now ≡ 0
+            → device.old ≡ fresh self.now.live.limit (sizes_of self.now.live) → IsTrue result }
+    {
+        self.journal.agrees();
+        self.journal.replays(device)
+    }
+
+    /// How many calls are kept.
+    #[inline]
+    pub fn kept(&self) -> usize
+        ensures kept { result ≡ length self.now.kept }
+        ensures few { result ≤ 65536 }
+    {
+        self.journal.kept()
+    }
+
+    /// How many calls were folded away.
+    #[inline]
+    pub fn folded(&self) -> usize
+        ensures folded { result ≡ folded self.now }
+        ensures few { result ≤ 2 ^ 62 }
+    {
+        self.journal.folded()
+    }
+
+    /// A law: the base, the kept calls, the live device and the line agree, and to each function the kept calls are as if it
+    /// were alone. The call does nothing.
+    pub fn agrees(&self)
+        // the kept events are answered so from the base on, lead to the live device, and each is one that its caller may make
+        ensures legal { Legal self.now.base self.now.kept self.now.live }
+        ensures few { length self.now.kept ≤ self.now.cap }
+        // until calls are folded away, the base is a device as it is made
+        ensures first { folded self.now ≡ 0
+            → self.now.base ≡ fresh self.now.live.limit (sizes_of self.now.live) }
+        // each message that was raised is one of a kept answer, or of a call that was folded away
+        ensures raised { (p v : ℕ) → p < 64 →
+            raised p v self.now.line.raises
+            ≡ kept_raises p v self.now.kept + folded_raises p v self.now }
+        ensures folded { (p v : ℕ) → p < 64 → folded_raises p v self.now ≤ folded self.now }
+        // each function sees what it would see alone, and is as it would be alone
+        ensures seen { (p : ℕ) → p < length self.now.base.functions →
+            seen_by p (events self.now.kept) (given self.now.kept)
+            ≡ lone_seen (lone_of p self.now.base) (keep p self.now.base (events self.now.kept)) }
+        ensures state { (p : ℕ) → p < length self.now.base.functions →
+            lone_of p self.now.live
+            ≡ lone_after (lone_of p self.now.base) (keep p self.now.base (events self.now.kept)) }
+    {
+        self.journal.agrees();
+    }
+}
+
+// A device in a box. It is a call of its own, so that the copies that it makes of the device are gone from the stack after it.
+#[inline(never)]
+fn boxed<M: GuestMem>(alloc: Global, device: Device<M>) -> Result<Box<Device<M>>, Fault>
+    ensures same { IfOk result (λ b. b.value ≡ device) }
+    ensures no_memory { IfErr result (λ e. e ≡ Fault.NoMemory) }
+{
+    let Ok(boxed) = Box::new(alloc, device) else {
+        return Err(Fault::NoMemory);
+    };
+    Ok(boxed)
+}
+
+// The journal with a book of its own, in which nothing is counted, and the shares of all callers.
+fn shared<M: GuestMem, L: Ledger>(
+    alloc: Global,
+    blank: Blank,
+    journal: Journal<M>,
+) -> Result<(Recorded<M, L>, Shares<L>), Fault>
+    requires name { blank.name ≡ L.name }
+    requires parts { (blank.parts ≡ L.parts) × (blank.parts ≡ 67) }
+    requires empty { (journal.kept ≡ []) × (folded journal ≡ 0) }
+    ensures recorded { IfOk result (λ r. r.0 ≡ journal) }
+    ensures shares { IfOk result (λ r. AreUnused r.1) }
+    ensures no_memory { IfErr result (λ e. e ≡ Fault.NoMemory) }
+{
+    let (book, all) = blank.open::<L>();
+    let Ok(shares) = Shares::new(alloc, all) else {
+        return Err(Fault::NoMemory);
+    };
+    Ok((Recorded { journal, book }, shares))
+}
+
+// The parts of shares as one.
+fn merged<L: Ledger>(mut shares: Vec<Share<L>>) -> Option<Part<L>>
+    ensures none { IfNone result (length shares.items ≡ 0) }
+    ensures parts { IfSome result (λ all. all.parts ≡ length shares.items) }
+    ensures amount { IfSome result (λ all. all.amount ≡ sum_by count_of shares.items) }
+{
+    let Share {
+        caller: _,
+        count: _,
+        part: mut all,
+        asked: _,
+    } = shares.pop()?;
+    while let Some(share) = shares.pop() {
+        let Share {
+            caller: _,
+            count: _,
+            part,
+            asked: _,
+        } = share;
+        all.merge(part);
+    }
+    Some(all)
+}

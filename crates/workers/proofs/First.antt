@@ -10,23 +10,23 @@ use Rattle.device.specs.declared.event.Answer.{Answer}
 use Rattle.device.specs.declared.event.Reply.{Reply}
 use Rattle.history.specs.Entries.{Entry, entry, events}
 use Rattle.recorder.specs.declared.shares.Shares.{Shares}
-use Rattle.recorder.specs.Held.{Mine}
+use Rattle.recorder.specs.Held.{Mine, having_calls}
 use Rattle.script.specs.Reading.{Meaning}
 use Rattle.workers.specs.Asked.{HasTold}
 use Rattle.workers.specs.Callers.{caller_before, pf, service}
-use Rattle.workers.specs.Counts.{HasRecorded, HaveKept, HaveRecorded, IsFirst, having_made, made_by}
+use Rattle.workers.specs.Counts.{HasRecorded, HaveKept, HaveRecorded, IsFirst, made_by}
 use Rattle.workers.specs.Opens.{HaveLeft, IsPrepared, all_closed, opened, opened_after, pools_from}
 use Rattle.workers.specs.Plans.{events_before}
 
 -- ---- calls behind others
 
-made_none : (m : Mine) → having_made [] m ≡ m
+made_none : (m : Mine) → having_calls [] m ≡ m
 made_none m = ap (λ (xs : List Entry). record { caller = m.caller; asked = xs }) (append-nil m.asked)
 
-made_more : (c : ℕ) (calls more : List Entry) (old mid new : Mine) → mid ≡ having_made (made_by c calls) old → new ≡ having_made (made_by c more) mid
-    → new ≡ having_made (made_by c (calls ++ more)) old
+made_more : (c : ℕ) (calls more : List Entry) (old mid new : Mine) → mid ≡ having_calls (made_by c calls) old → new ≡ having_calls (made_by c more) mid
+    → new ≡ having_calls (made_by c (calls ++ more)) old
 made_more c calls more old mid new before after =
-    after ∙ ap (having_made (made_by c more)) before
+    after ∙ ap (having_calls (made_by c more)) before
     ∙ ap (λ (xs : List Entry). record { caller = old.caller; asked = xs })
     (append_assoc old.asked (made_by c calls) (made_by c more) ∙ ap (λ (xs : List Entry). old.asked ++ xs) (sym (filter-append (λ (call : Entry). call.caller == c) calls more)))
 

@@ -3,7 +3,8 @@ use Rattle.std.specs.Prelude.{◌≡◌, List, Option, Some}
 use Rattle.device.specs.declared.event.Event.{Event}
 use Rattle.device.specs.declared.event.Reply.{Reply}
 use Rattle.device.specs.declared.event.Answer.{Answer}
-use Rattle.recorder.specs.Held.{HasAsked, MayAnswer, Mine, having_asked}
+use Rattle.recorder.specs.Held.{HasAsked, Mine, having_asked}
+use Rattle.device_lock.specs.Answers.{MayAnswer}
 
 -- a share asked one more event, and what was told is the reply of the answer that was kept, which some device gives
 pub record HasTold (event : Event) (reply : Reply) (old new : Mine) : Type 0 where

@@ -1,21 +1,18 @@
 -- What the shares of callers asked before `go`, and what they were answered.
-use Rattle.std.specs.Prelude.{◌≡◌, ℕ, ◌==◌, List, [], ◌∷◌, ◌++◌, filter}
+use Rattle.std.specs.Prelude.{◌≡◌, ℕ, ◌==◌, List, [], ◌∷◌, filter}
 use Rattle.std.specs.List.{All}
 use Rattle.device.specs.declared.event.Event.{Event}
 use Rattle.device.specs.declared.event.Reply.{Reply}
 use Rattle.device.specs.declared.event.Answer.{Answer}
 use Rattle.history.specs.Entries.{Entry, entry, events}
 use Rattle.recorder.specs.declared.shares.Shares.{Shares}
-use Rattle.recorder.specs.Held.{MayAnswer, Mine}
+use Rattle.recorder.specs.Held.{having_calls}
+use Rattle.device_lock.specs.Answers.{MayAnswer}
 use Rattle.workers.specs.Callers.{caller_before, pf, service}
 
 -- those of calls that a caller made
 abbrev pub made_by : ℕ → List Entry → List Entry
 made_by c calls = filter (λ (call : Entry). call.caller == c) calls
-
--- a share with these calls behind its own
-abbrev pub having_made : List Entry → Mine → Mine
-having_made calls m = record { caller = m.caller; asked = m.asked ++ calls }
 
 -- a call before `go`: made by the caller of its event, and answered as some device does
 abbrev pub IsFirst : Entry → Type 0
@@ -24,8 +21,8 @@ IsFirst call = (call.caller ≡ caller_before call.event) × MayAnswer call.even
 -- the shares once these calls before `go` are kept, each in its caller's share
 pub record HaveKept {L : Type 0} (calls : List Entry) (old new : Shares L) : Type 0 where
   pub first : All IsFirst calls
-  pub pf : new.pf ≡ having_made (made_by pf calls) old.pf
-  pub service : new.service ≡ having_made (made_by service calls) old.service
+  pub pf : new.pf ≡ having_calls (made_by pf calls) old.pf
+  pub service : new.service ≡ having_calls (made_by service calls) old.service
   pub pump : new.pump ≡ old.pump
   pub ports : new.ports ≡ old.ports
 

@@ -2,7 +2,7 @@
 ghost use Rattle.std.specs.Prelude.{◌≡◌, ℕ, ◌<◌, ◌≤◌, List, ◌++◌, true, false, length, map, take, Some, None, IfSome, MatchOption};
 ghost use Rattle.wire_pump.specs.declared.feeding.FeedEnd.{FeedEnd};
 ghost use Rattle.device.specs.declared.event.Event.TheVariants.{Wire};
-ghost use Rattle.recorder.specs.Held.{HasAsked};
+ghost use Rattle.recorder.specs.Held.{HasAsked, having_calls};
 ghost use Rattle.wire_pump.specs.declared.pumping.PumpEnd.{PumpEnd};
 ghost use Rattle.wire_pump.specs.Ends.{fed, IsCounted, pumped};
 ghost use Rattle.workers.specs.Callers.{pump};
@@ -80,7 +80,7 @@ pub fn guest<M: GuestMem, L: Ledger, P: GuestPort, G: Gate, R: Wait>(
     ensures share { MatchOption result.share (port.old.port.is_closed ≡ true)
         (λ share. (port.old.port.is_closed ≡ false) × (share.caller ≡ port.old.port.pool)) }
     ensures asked { IfSome result.share
-        (λ share. share ≡ having_asked_all port.new.calls port.new.made) }
+        (λ share. share ≡ having_calls port.new.calls port.new.made) }
 {
     let was_full = !calls(rt, plan, device, port, gate);
     let share = match port.close() {
@@ -234,8 +234,7 @@ pub fn pumping<M: GuestMem, L: Ledger, G: Gate + Drop, R: Wait>(
     ensures asked { (frames : List (List ℕ)) × (end : PumpEnd)
         × (receiver.new
         ≡ record receiver.old { received = receiver.old.received ++ pumped frames end })
-        × (result.share
-        ≡ Some (record { caller = pump; asked = door.inner.asked ++ map Wire frames }))
+        × HasLeft (map Wire frames) (record { caller = pump; asked = door.inner.asked }) result.share
         × (result.was_full ≡ is_full end) }
 {
     let was_full = match pump(receiver, rt, &mut door) {

@@ -1,5 +1,5 @@
 -- What a caller's own events are: those that it may make, and what comes of them all.
-use Rattle.std.proofs.Common.{◌≡◌, ℕ, ◌<◌, ◌≤◌, ◌==◌, ◌||◌, Bool, true, false, nat_lt, nat_le, List, [], ◌∷◌, ◌++◌, ◌+◌, length, take, drop, if◌then◌else◌, refl, sym, ap, ◌∙◌, subst, arith, append_assoc}
+use Rattle.std.proofs.Common.{◌≡◌, ℕ, ◌<◌, ◌≤◌, ◌==◌, ◌||◌, Bool, true, false, not, nat_lt, nat_le, List, [], ◌∷◌, ◌++◌, ◌+◌, length, take, drop, if◌then◌else◌, refl, sym, ap, ◌∙◌, subst, arith, append_assoc}
 use Rattle.std.specs.Prelude.{slice_index_or}
 use Rattle.std.proofs.lemmas.Bool.{eqb-true, false≢true}
 use Rattle.std.proofs.lemmas.Bool.Decides.{nat_tests}
@@ -10,9 +10,10 @@ use Rattle.device.specs.declared.event.Event.TheVariants.{Open, End, VfRead, VfW
 use Rattle.recorder.specs.Callers.{may, is_port, is_pf, is_pump, is_service}
 use Rattle.recorder.specs.Read.{bytes_asked}
 use Rattle.workers.specs.Callers.{caller_before, caller_of, port_or_service}
-use Rattle.guest_port.specs.Calls.{CallingPort}
-use Rattle.guest_port.specs.Port.{Port}
-use Rattle.workers.specs.Calls.{HasDone, HasDoneAll, HasMade, IsPortEvent}
+use Rattle.device.specs.declared.event.Reply.{Reply}
+use Rattle.guest_port.specs.Calls.{CallingPort, HasCalled}
+use Rattle.guest_port.specs.Port.{Port, closed}
+use Rattle.workers.specs.Calls.{HasClosed, HasDone, HasDoneAll, HasMade, IsPortEvent}
 use Rattle.workers.specs.Plans.{Planned, own_events, start_of}
 
 -- ---- events before `go`
@@ -178,3 +179,20 @@ pub done_more : (es : List Event) (k : ℕ) (e : Event) (c old new : CallingPort
     → HasDoneAll (take (k + 1) es) c new
 done_more es k e c old new less is before done =
     subst (λ (xs : List Event). HasDoneAll xs c new) (ap (λ (x : Event). take k es ++ x ∷ []) is ∙ sym (take_more es k PfReset less)) (done_last (take k es) e c old new before done)
+
+pub has_closed : (es : List Event) (old last new : CallingPort) → HasDoneAll es old last → new ≡ record last { port = closed last.port } → HasClosed es old new
+has_closed es old last new done is = (last, done, is)
+
+-- ---- one call of a port
+
+not_full : (is_full : Bool) → not is_full ≡ true → is_full ≡ false
+not_full false is = refl
+not_full true is = sym is
+
+-- a call that was not refused for a full history: it is kept, or the port has ended
+pub has_made : {X : Type 0} (e : Event) (reply : Reply) (old new : CallingPort) (is_taken is_full : Bool) → is_taken ≡ not is_full → is_taken ≡ true → (old.port.is_open ≡ false → X × (new ≡ old))
+    → (old.port.is_open ≡ true → is_full ≡ false → HasCalled e reply old new) → HasMade e old new
+has_made e reply old new is_taken is_full by yes ended kept = record {
+  asked = λ is_open. (reply, kept is_open (not_full is_full (sym by ∙ yes)));
+  ended = λ is_closed. (ended is_closed).1;
+}

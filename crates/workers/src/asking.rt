@@ -18,6 +18,7 @@ use wire_frame::{Fault, FrameBuf};
 /// event is taken once there is room. [`Fault::HistoryFull`] where it can't be folded: nothing was taken.
 ///
 /// `frame` and `read` are lent for what the event sends and reads. Bytes that are read stand at the front of `read`.
+#[tactic(auto, using(crate::proofs::Asks::has_told))]
 pub fn ask<M: GuestMem, L: Ledger, R: Wait>(
     rt: &R,
     device: &LockedDevice<M, L>,
@@ -32,6 +33,7 @@ pub fn ask<M: GuestMem, L: Ledger, R: Wait>(
         (reply_by (λ span. take (bytes_told outcome) read.new) outcome) share.old share.new) }
     ensures rest { IfOk result
         (λ outcome. drop (bytes_told outcome) read.new ≡ drop (bytes_told outcome) read.old) }
+    ensures caller { share.new.caller ≡ share.old.caller }
     ensures unchanged { OnErr result ((share.new ≡ share.old) × (read.new ≡ read.old)) }
     ensures full { IfErr result (λ e. e ≡ Fault.HistoryFull) }
     ensures read { length read.new ≡ length read.old }

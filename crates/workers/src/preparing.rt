@@ -1,5 +1,5 @@
 //! The events before `go`.
-ghost use Rattle.std.specs.Prelude.{◌≡◌, ℕ, ◌<◌, ◌≤◌, ◌⊎◌, List, [], length, take, IfErr, IfOk, OnErr};
+ghost use Rattle.std.specs.Prelude.{◌≡◌, ℕ, ◌<◌, ◌≤◌, ◌⊎◌, List, [], length, take, IfErr, IfOk, OnErr, OnOk};
 ghost use Rattle.wire_frame.specs.declared.fault.Fault.{Fault};
 ghost use Rattle.device.specs.declared.span.Span.{Span};
 ghost use Rattle.device.specs.Request.{event_of};
@@ -28,6 +28,7 @@ use wire_frame::{Fault, FrameBuf, PoolId};
 ///
 /// A call that finds the history full folds it and is made again. [`Fault::HistoryFull`] where it can't be folded, and then
 /// the events from that one on are not recorded; [`Fault::NoMemory`] where the host refused the room for the answer.
+#[tactic(auto, using(crate::proofs::First::prepared_whole, crate::proofs::First::prepared_go))]
 pub fn prepare<M: GuestMem, L: Ledger, R: Wait>(
     rt: &R,
     alloc: Global,
@@ -60,6 +61,7 @@ pub fn prepare<M: GuestMem, L: Ledger, R: Wait>(
 }
 
 // Records the first events of a script, and answers for each pool whether it is open after them.
+#[tactic(auto, using(crate::proofs::First::left_recorded))]
 fn record_first<M: GuestMem, L: Ledger, R: Wait>(
     rt: &R,
     script: &Script,
@@ -76,6 +78,8 @@ fn record_first<M: GuestMem, L: Ledger, R: Wait>(
     ensures full { IfErr result (λ e. e ≡ Fault.HistoryFull) }
     ensures left { IfOk result
         (λ pools. HaveLeft (take count script.now.events) pools shares.old shares.new) }
+    ensures recorded { OnOk result
+        (HaveRecorded (take count script.now.events) shares.old shares.new) }
     ensures part { OnErr result
         ((done : ℕ) × (done < count)
         × HaveRecorded (take done script.now.events) shares.old shares.new) }

@@ -254,6 +254,7 @@ fn record_end<M: GuestMem, L: Ledger, R: Wait>(
     ensures looked { IsLooked note.old note.new }
     ensures known { OnOk result (knows note.new.1 ≡ true) }
     ensures asked { OnOk result (HasAsked (End note.new.0 ∷ []) share.old share.new) }
+    ensures caller { share.new.caller ≡ share.old.caller }
 {
     for _ in rt.forever() {
         match end_known(rt, note, device, share) {

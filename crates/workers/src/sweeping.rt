@@ -43,6 +43,7 @@ pub fn sweep<M: GuestMem, L: Ledger, R: Wait>(
 
 // Looks at a note, and records its pool's end where it knows of it, which is the answer. (What it says of knowing it says of a
 // note that is there still: of one that is gone it could be made up.)
+#[tactic(auto, using(crate::proofs::Asks::has_asked))]
 pub(crate) fn end_known<M: GuestMem, L: Ledger, R: Wait>(
     rt: &R,
     note: &mut (u8, EndNote),
@@ -55,6 +56,7 @@ pub(crate) fn end_known<M: GuestMem, L: Ledger, R: Wait>(
     ensures ended { IfOk result
         (λ ended. ended ≡ true → HasAsked (End note.new.0 ∷ []) share.old share.new) }
     ensures live { IfOk result (λ ended. ended ≡ false → share.new ≡ share.old) }
+    ensures caller { share.new.caller ≡ share.old.caller }
     ensures full { IfErr result (λ full. (full.0 ≡ End note.new.0)
         × (knows note.new.1 ≡ true) × (share.new ≡ share.old)) }
 {

@@ -1,5 +1,5 @@
 -- What a device replies to a port's events: what was asked for, or a refusal that is not of a full history.
-use Rattle.std.proofs.Common.{arith, ◌≡◌, ◌+◌, ◌-◌, ◌≤◌, ℕ, Bool, true, false, List, [], Option, Some, None, length, take, drop, length-drop, replicate, refl, sym, ◌∙◌, subst}
+use Rattle.std.proofs.Common.{arith, ◌≡◌, ◌+◌, ◌-◌, ◌≤◌, ℕ, Bool, true, false, List, [], Option, Some, None, length, take, drop, length-drop, replicate, refl, sym, ap, ◌∙◌, subst}
 use Rattle.std.specs.Prelude.{not, ◌&&◌, if◌then◌else◌, nat_le, slice_range}
 use Rattle.std.proofs.lemmas.Bool.{leb-true}
 use Rattle.std.proofs.lemmas.Int.{clamps}
@@ -10,6 +10,7 @@ use Rattle.wire_frame.specs.declared.fault.Fault.TheVariants.{NoSuchVf, NotOpen,
 use Rattle.vf_unit.specs.Unit.{Function, Closed, Open, size_of, is_open, bytes_at}
 use Rattle.device.specs.declared.event.Event.{Event}
 use Rattle.device.specs.declared.event.Event.TheVariants.{VfRead, VfWrite, MemRead, MemWrite, Flr}
+use Rattle.device.specs.declared.event.Answer.{Answer}
 use Rattle.device.specs.declared.event.Reply.{Reply}
 use Rattle.device.specs.declared.event.Reply.TheVariants.{Bytes, Refused}
 use Rattle.device.specs.declared.outcome.Outcome.{Outcome}
@@ -17,8 +18,16 @@ use Rattle.device.specs.declared.outcome.Outcome.TheVariants.{Done, Value, Bytes
 use Rattle.device.specs.declared.span.Span.{Span}
 use Rattle.device.specs.Outcome.{reply_by}
 use Rattle.device.specs.Act.{opens, names_bad_offset, is_too_long, passes_end, performed, unless_refused, refusal, act, is_done}
-use Rattle.device.specs.World.{World, Stepped, function_of, own_step, flagged}
-use Rattle.guest_port.specs.Calls.{MayReply, IsRefusal, IsDone, IsValue, IsRead}
+use Rattle.device.specs.World.{World, Stepped, step, function_of, own_step, flagged}
+use Rattle.guest_port.specs.Calls.{CallingPort, HasCalled, IsRefusal, IsDone, IsValue, IsRead}
+
+-- the event may be replied to so: some world's step does it
+abbrev MayReply : Event → Reply → Type 0
+MayReply event reply = (w : World) × (reply ≡ (step w event).answer.reply)
+
+-- as is the reply of an answer that was kept
+pub replied : (e : Event) (r : Reply) (old new : CallingPort) → HasCalled e r old new → MayReply e r
+replied e r old new called = (called.given.0, sym called.told ∙ ap (λ (a : Answer). a.reply) called.given.1)
 
 -- what holds of both branches holds of either
 either : {A : Type 0} (Q : A → Type 0) (test : Bool) (x y : A) → Q x → Q y → Q (if test then x else y)

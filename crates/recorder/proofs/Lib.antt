@@ -1,5 +1,6 @@
 mod CallLemmas
 mod CallerLemmas
+mod NotedLemmas
 mod RaiseLemmas
 mod ReadLemmas
 mod ShareLemmas

@@ -66,7 +66,7 @@ impl<M: GuestMem, L: Ledger> Door for LockedDoor<M, L> {
     ghost taken = { λ d. d.asked };
 
     /// Gives the event to the device, as one call of the pump. It comes back where the kept history is full.
-    #[tactic(auto, using(crate::proofs::Moves::pump_may))]
+    #[tactic(auto, using(crate::proofs::Moves::pump_may, crate::proofs::Taken::one_taken))]
     fn act<R: Wait>(&mut self, rt: &R, event: Event) -> Result<Answer, Full>
         requires wire { is_wire event ≡ true }
         ensures taken { OnOk result (HasTaken (event ∷ []) self.old.asked self.new.asked) }
@@ -80,6 +80,7 @@ impl<M: GuestMem, L: Ledger> Door for LockedDoor<M, L> {
     }
 
     /// The same for a frame, of which no event is made.
+    #[tactic(auto, using(crate::proofs::Taken::one_taken, crate::proofs::Taken::none_taken, crate::proofs::Taken::asked_one))]
     fn take<R: Wait>(&mut self, rt: &R, frame: &FrameBuf) -> bool
         ensures taken { HasTaken (if result then Wire frame.now ∷ [] else []) self.old.asked
             self.new.asked }

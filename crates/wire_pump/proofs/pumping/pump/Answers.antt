@@ -4,6 +4,7 @@ use Rattle.std.specs.Box.{box_value}
 use Rattle.device.specs.declared.event.Event.TheVariants.{Wire}
 use Rattle.wire_pump.specs.declared.message.WireMsg.TheVariants.{Frame}
 use Rattle.wire_pump.proofs.Moves.{one_more}
+use Rattle.wire_pump.proofs.Taken.{frame_taken}
 use Rattle.wire_pump.proofs.pumping.pump.Goals as goal
 
 -- the frame that the door took is one more
@@ -12,6 +13,6 @@ loop-preserved g c =
     let before = c.loop.invariant in
     let frame = box_value c.in-Some-frame.frame in (
       before.0 ++ frame ∷ [],
-      search (rules, one_more Wire _ _ before.0 frame before.1),
+      search (rules, frame_taken before.0 frame _ _ _ before.1),
       search (rules, one_more Frame _ _ before.0 frame (ap (λ r. r.received) before.2)),
     )

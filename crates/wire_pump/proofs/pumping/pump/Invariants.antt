@@ -2,9 +2,10 @@
 use Rattle.std.proofs.Common.{◌≡◌, ℕ, List, ◌++◌, map}
 use Rattle.device.specs.declared.event.Event.TheVariants.{Wire}
 use Rattle.wire_pump.specs.declared.message.WireMsg.TheVariants.{Frame}
+use Rattle.wire_pump.specs.Doors.{HasTaken}
 use Rattle.wire_pump.proofs.pumping.pump.Given as goal
 
 abbrev pub invariant-loop : goal.invariant-loop
 invariant-loop g l = (frames : List (List ℕ))
-    × (g.D.Door.taken l.door ≡ g.D.Door.taken l.initial.door ++ map Wire frames)
+    × HasTaken (map Wire frames) (g.D.Door.taken l.initial.door) (g.D.Door.taken l.door)
     × (l.receiver ≡ record l.initial.receiver { received = l.initial.receiver.received ++ map Frame frames })

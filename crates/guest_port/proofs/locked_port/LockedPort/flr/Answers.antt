@@ -1,6 +1,6 @@
 -- A reset is done or refused.
-use Rattle.guest_port.proofs.Replies.{reset_told}
+use Rattle.guest_port.proofs.Replies.{reset_told, replied}
 use Rattle.guest_port.proofs.locked_port.LockedPort.flr.Goals as goal
 
 pub done_of-requires : goal.done_of-requires
-done_of-requires g c = reset_told c.in-Some.outcome _ _ c.in-Some.ensures.reply
+done_of-requires g c = reset_told c.in-Some.outcome _ _ (replied _ _ _ _ c.in-Some.ensures.kept)

@@ -192,7 +192,7 @@ not_full true is = sym is
 -- a call that was not refused for a full history: it is kept, or the port has ended
 pub has_made : {X : Type 0} (e : Event) (reply : Reply) (old new : CallingPort) (is_taken is_full : Bool) → is_taken ≡ not is_full → is_taken ≡ true → (old.port.is_open ≡ false → X × (new ≡ old))
     → (old.port.is_open ≡ true → is_full ≡ false → HasCalled e reply old new) → HasMade e old new
-has_made e reply old new is_taken is_full by yes ended kept = record {
-  asked = λ is_open. (reply, kept is_open (not_full is_full (sym by ∙ yes)));
+has_made e reply old new is_taken is_full by was ended kept = record {
+  asked = λ is_open. (reply, kept is_open (not_full is_full (sym by ∙ was)));
   ended = λ is_closed. (ended is_closed).1;
 }

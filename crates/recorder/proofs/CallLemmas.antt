@@ -8,7 +8,7 @@ use Rattle.std.proofs.lemmas.Nat.Bits.{bit_at-lt}
 use Rattle.std.proofs.lemmas.List.Sums.{sum_by_push, sum_by-cons}
 use Rattle.std.proofs.lemmas.List.Elements.{All-append, All-cons, All-nil}
 use Rattle.device.specs.declared.event.Event.{Event}
-use Rattle.device.specs.World.{World, step, fresh, sizes_of, answers, world_after}
+use Rattle.device.specs.World.{World, step, fresh, sizes_of, world_after}
 use Rattle.device.proofs.Shape.{step_shape}
 use Rattle.history.specs.Entries.{Entry, entry, events}
 use Rattle.recorder.specs.Callers.{may}

@@ -1,6 +1,5 @@
 mod CallLemmas
 mod CallerLemmas
-mod NotedLemmas
 mod RaiseLemmas
 mod ReadLemmas
 mod ShareLemmas

@@ -1,5 +1,5 @@
 -- A recorded device as it is made, with the shares of its callers.
-use Rattle.std.specs.Prelude.{◌≡◌, ℕ, ◌<◌, Bool, [], replicate, Some, slice_get, List, ◌∷◌, Option}
+use Rattle.std.specs.Prelude.{◌≡◌, ℕ, ◌<◌, Bool, [], replicate, Some, slice_get, List, ◌∷◌}
 use Rattle.device.specs.World.{World, fresh, sizes_of}
 use Rattle.irq_line.specs.Line.{DeviceEnd}
 use Rattle.recorder.specs.declared.shares.Shares.{Shares}

@@ -1,6 +1,6 @@
 //! A recorded device, by itself and behind its lock, and what a caller is answered.
 ghost use Rattle.std.specs.Prelude.{◌≡◌, [], IfOk, IfSome};
-ghost use Rattle.device_lock.specs.Made.{AreUnused, IsFresh};
+ghost use Rattle.recorder.specs.Made.{AreUnused, IsFresh};
 
 use device::{Answer, Device, Event};
 use device_lock::{LockedDevice, Recorded, Share, Shares};

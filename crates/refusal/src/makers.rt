@@ -1,6 +1,6 @@
 //! The makers, one by one.
 ghost use Rattle.std.specs.Prelude.{◌≡◌, IfOk};
-ghost use Rattle.device_lock.specs.Made.{IsFresh};
+ghost use Rattle.recorder.specs.Made.{IsFresh};
 
 use crate::sheet::{Came, Sheet};
 use device::{Answer, Device, Event, Reply};

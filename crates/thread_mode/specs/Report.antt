@@ -3,8 +3,8 @@ use Rattle.std.specs.Prelude.{◌≡◌, ℕ, ◌+◌, ◌<◌, ◌==◌, Bool, 
 use Rattle.std.specs.Io.KnownBytes.{Appends}
 use Rattle.device.specs.World.{World, answers}
 use Rattle.history.specs.Entries.{events, given}
-use Rattle.device_lock.specs.Legal.{calls_of}
-use Rattle.device_lock.specs.Held.{Held}
+use Rattle.recorder.specs.Legal.{calls_of}
+use Rattle.recorder.specs.Held.{Held}
 use Rattle.transcript.specs.Known.{Began}
 use Rattle.transcript.specs.Lines.{numbered}
 use Rattle.thread_mode.specs.declared.report.Report.{Report}

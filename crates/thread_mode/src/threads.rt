@@ -1,7 +1,7 @@
 //! The mode `threads`: a script that is done by a thread for each guest, and the history that is kept of it.
 ghost use Rattle.std.specs.Prelude.{◌≡◌, [], false, length, IfOk};
 ghost use Rattle.script.specs.Shapes.{asked_by};
-ghost use Rattle.device_lock.specs.Made.{AreUnused, IsFresh, begun};
+ghost use Rattle.recorder.specs.Made.{AreUnused, IsFresh, begun};
 ghost use Rattle.modes.specs.Program.{device_of};
 ghost use Rattle.thread_mode.specs.Room.{most_calls};
 

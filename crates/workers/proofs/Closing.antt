@@ -1,18 +1,17 @@
 -- One port's end more that is recorded, and the notes that stand behind others.
-use Rattle.std.proofs.Common.{◌≡◌, ℕ, ◌+◌, ◌<◌, ◌≤◌, zero, suc, true, List, [], ◌∷◌, ◌++◌, All, Contains, get_or, length, map, set, take, refl, sym, ap, ◌∙◌, subst, append_assoc, below_more, arith}
+use Rattle.std.proofs.Common.{◌≡◌, ℕ, ◌+◌, ◌<◌, ◌≤◌, zero, suc, true, List, [], ◌∷◌, ◌++◌, All, get_or, length, map, set, take, refl, sym, ap, ◌∙◌, subst, append_assoc, below_more, arith}
 use Rattle.std.specs.Prelude.{slice_index_or}
 use Rattle.std.proofs.lemmas.List.{get_or-map, get_or-set_other, get_or-set_same, length-map, length-set, map-append, take_all}
 use Rattle.device.specs.declared.event.Event.{Event}
 use Rattle.device.specs.declared.event.Event.TheVariants.{End, PfReset}
-use Rattle.device_lock.specs.Held.{Mine, having_asked, having_asked_all}
+use Rattle.recorder.specs.Held.{HasAsked, Mine}
 use Rattle.guest_port.specs.Calls.{CallingPort}
 use Rattle.guest_port.specs.Notes.{Known, knows}
 use Rattle.workers.specs.Callers.{service}
 use Rattle.workers.specs.Ends.{HaveEnded, note_of, port_end}
 use Rattle.workers.specs.Sweeps.{AreLooked, IsLooked, end_of, is_ended}
-use Rattle.workers.proofs.First.{none_asked}
+use Rattle.workers.proofs.Asks.{asked_more, asked_none}
 use Rattle.workers.proofs.Swept.{are_looked, looked_on}
-use Rattle.workers.proofs.Turns.{asked_more}
 
 abbrev Note : Type 0
 Note = ℕ × Known
@@ -21,7 +20,7 @@ Note = ℕ × Known
 pub record IsEnding (first notes : List Note) (at : ℕ) (old new : Mine) : Type 0 where
   pub looked : AreLooked first notes
   pub known : (k : ℕ) → k < at → (d : Note) → is_ended (get_or notes k d) ≡ true
-  pub asked : new ≡ having_asked_all (take at (map end_of first)) old
+  pub asked : HasAsked (take at (map end_of first)) old new
 
 looked_set : (first notes : List Note) (at : ℕ) (d note : Note) → at < length notes → IsLooked (get_or notes at d) note → AreLooked first notes → AreLooked first (set notes at note)
 looked_set first [] at d note less look are = absurd (omega (arith, less))
@@ -39,9 +38,9 @@ same_length : (first notes : List Note) → AreLooked first notes → length not
 same_length first notes are = let l = ap length (ends_same first notes are) in sym (length-map notes end_of) ∙ l ∙ length-map first end_of
 
 pub ending_begins : (notes : List Note) (old : Mine) → IsEnding notes notes 0 old old
-ending_begins notes old = record { looked = are_looked notes; known = λ k less d. absurd (omega (arith, less)); asked = sym (none_asked old) }
+ending_begins notes old = record { looked = are_looked notes; known = λ k less d. absurd (omega (arith, less)); asked = asked_none old }
 
-pub ending_more : (first notes : List Note) (at : ℕ) (was note : Note) (old mid new : Mine) → at < length notes → was ≡ get_or notes at was → IsLooked was note → knows note.1 ≡ true → new ≡ having_asked (End note.0) mid
+pub ending_more : (first notes : List Note) (at : ℕ) (was note : Note) (old mid new : Mine) → at < length notes → was ≡ get_or notes at was → IsLooked was note → knows note.1 ≡ true → HasAsked (End note.0 ∷ []) mid new
     → IsEnding first notes at old mid → IsEnding first (set notes at note) (at + 1) old new
 ending_more first notes at was note old mid new less is look ended ask ending =
     let there : AreLooked first (set notes at note) = looked_set first notes at was note less (subst (λ (x : Note). IsLooked x note) is look) ending.looked in
@@ -62,9 +61,9 @@ ending_more first notes at was note old mid new less is look ended ask ending =
 pub ending_known : (first notes : List Note) (at : ℕ) (old new : Mine) → length first ≤ at → IsEnding first notes at old new → All (λ (n : Note). is_ended n ≡ true) notes
 ending_known first notes at old new through ending k d inside = let l = same_length first notes ending.looked in ending.known k (omega (arith, through, l, inside)) d
 
-pub ending_asked : (first notes : List Note) (at : ℕ) (old new : Mine) → length first ≤ at → IsEnding first notes at old new → new ≡ having_asked_all (map end_of first) old
+pub ending_asked : (first notes : List Note) (at : ℕ) (old new : Mine) → length first ≤ at → IsEnding first notes at old new → HasAsked (map end_of first) old new
 ending_asked first notes at old new through ending =
-    let m = length-map first end_of in ending.asked ∙ ap (λ (es : List Event). having_asked_all es old) (take_all at (map end_of first) (omega (arith, m, through)))
+    let m = length-map first end_of in subst (λ (es : List Event). HasAsked es old new) (take_all at (map end_of first) (omega (arith, m, through))) ending.asked
 
 -- one port's note more stands behind the others
 pub noted_more : (before notes after : List Note) (ports : List (CallingPort × Known)) (p : CallingPort × Known) → notes ≡ before ++ map note_of ports → after ≡ notes ++ note_of p ∷ [] → after ≡ before ++ map note_of (ports ++ p ∷ [])
@@ -77,11 +76,12 @@ ends_of_ports (p ∷ ports) = ap (λ (es : List Event). port_end p ∷ es) (ends
 
 -- the service's share, which stands at a place, asked the ends of all ports
 pub have_ended : (ports : List (CallingPort × Known)) (notes : List Note) (shares : List Mine) (at : ℕ) (before share : Mine) → at < length shares → before.caller ≡ service → notes ≡ map note_of ports
-    → share ≡ having_asked_all (map end_of notes) before → HaveEnded ports (set shares at share)
+    → HasAsked (map end_of notes) before share → HaveEnded ports (set shares at share)
 have_ended ports notes shares at before share less is noted asked =
-    let all : share ≡ having_asked_all (map port_end ports) before = asked ∙ ap (λ (es : List Event). having_asked_all es before) (ap (map end_of) noted ∙ ends_of_ports ports) in
     record {
       before = before;
+      after = share;
       service = is;
-      among = subst (Contains (set shares at share)) all (at, (let l = length-set shares at share in omega (arith, less, l)), get_or-set_same shares at share share less);
+      asked = subst (λ (es : List Event). HasAsked es before share) (ap (map end_of) noted ∙ ends_of_ports ports) asked;
+      among = (at, (let l = length-set shares at share in omega (arith, less, l)), get_or-set_same shares at share share less);
     }

@@ -1,88 +1,123 @@
 -- Events before `go`: what they add to the shares, and what they leave open.
 use Rattle.std.proofs.Common.{◌≡◌, ◌≢◌, ℕ, ◌+◌, ◌<◌, ◌==◌, Bool, List, [], ◌∷◌, ◌++◌, length, take, refl, sym, ap, ◌∙◌, subst, append_assoc}
-use Rattle.std.specs.Prelude.{cond, slice_index_or}
-use Rattle.std.proofs.lemmas.List.{append-nil, take_more}
-use Rattle.std.proofs.lemmas.List.Elements.{filter-append}
+use Rattle.std.specs.Prelude.{MatchOption, None, Option, Some, slice_index_or, unwrap_or}
+use Rattle.std.proofs.lemmas.List.{append-nil, map-append, take_more}
+use Rattle.std.proofs.lemmas.List.Elements.{All-append, All-nil, All-push, filter-append}
 use Rattle.device.specs.declared.event.Event.{Event}
 use Rattle.device.specs.declared.event.Event.TheVariants.{Open, End, VfRead, VfWrite, MemRead, MemWrite, Serve, Flr, PfRead, PfWrite, PfReset, Wire}
-use Rattle.device.specs.declared.outcome.Outcome.{Outcome}
-use Rattle.device_lock.specs.declared.shares.Shares.{Shares}
-use Rattle.device_lock.specs.Held.{Mine, having_asked, having_asked_all}
+use Rattle.device.specs.declared.event.Reply.{Reply}
+use Rattle.history.specs.Entries.{Entry, entry}
+use Rattle.recorder.specs.declared.shares.Shares.{Shares}
+use Rattle.recorder.specs.Held.{Mine, having_calls}
+use Rattle.script.specs.Reading.{Meaning}
+use Rattle.workers.specs.Asked.{HasTold}
 use Rattle.workers.specs.Callers.{caller_before, pf, service}
-use Rattle.workers.specs.Counts.{HaveRecorded}
-use Rattle.workers.specs.Opens.{MayCome, MayLeave, opened}
-use Rattle.workers.specs.Plans.{first_events}
+use Rattle.workers.specs.Counts.{HasRecorded, HaveKept, HaveRecorded, IsFirst, made_by}
+use Rattle.workers.specs.Opens.{HaveLeft, IsPrepared, all_closed, opened, opened_after, pools_from}
 
-first_more : (c : ℕ) (es : List Event) (e : Event) → first_events c (es ++ e ∷ []) ≡ first_events c es ++ first_events c (e ∷ [])
-unfolding first_events
-first_more c es e = filter-append (λ x. caller_before x == c) es (e ∷ [])
+-- ---- calls behind others
 
--- a caller's events, and then one more of them
-first_asked_more : (c : ℕ) (es : List Event) (e : Event) (old mid new : Mine) → mid ≡ having_asked_all (first_events c es) old → new ≡ having_asked_all (first_events c (e ∷ [])) mid
-    → new ≡ having_asked_all (first_events c (es ++ e ∷ [])) old
-first_asked_more c es e old mid new before more =
-    more ∙ ap (having_asked_all (first_events c (e ∷ []))) before
-    ∙ ap (λ (xs : List Event). record { caller = old.caller; asked = xs })
-    (append_assoc old.asked (first_events c es) (first_events c (e ∷ [])) ∙ ap (λ (xs : List Event). old.asked ++ xs) (sym (first_more c es e)))
+made_none : (m : Mine) → having_calls [] m ≡ m
+made_none m = ap (λ (xs : List Entry). record { caller = m.caller; asked = xs }) (append-nil m.asked)
 
-recorded_more : {L : Type 0} (es : List Event) (e : Event) (old mid new : Shares L) → HaveRecorded es old mid → HaveRecorded (e ∷ []) mid new → HaveRecorded (es ++ e ∷ []) old new
-recorded_more es e old mid new before more = record {
-  pf = first_asked_more pf es e old.pf mid.pf new.pf before.pf more.pf;
-  service = first_asked_more service es e old.service mid.service new.service before.service more.service;
-  pump = more.pump ∙ before.pump;
-  ports = more.ports ∙ before.ports;
+made_more : (c : ℕ) (calls more : List Entry) (old mid new : Mine) → mid ≡ having_calls (made_by c calls) old → new ≡ having_calls (made_by c more) mid
+    → new ≡ having_calls (made_by c (calls ++ more)) old
+made_more c calls more old mid new before after =
+    after ∙ ap (having_calls (made_by c more)) before
+    ∙ ap (λ (xs : List Entry). record { caller = old.caller; asked = xs })
+    (append_assoc old.asked (made_by c calls) (made_by c more) ∙ ap (λ (xs : List Entry). old.asked ++ xs) (sym (filter-append (λ (call : Entry). call.caller == c) calls more)))
+
+kept_more : {L : Type 0} (calls more : List Entry) (old mid new : Shares L) → HaveKept calls old mid → HaveKept more mid new → HaveKept (calls ++ more) old new
+kept_more calls more old mid new before after = record {
+  first = All-append IsFirst calls more before.first after.first;
+  pf = made_more pf calls more old.pf mid.pf new.pf before.pf after.pf;
+  service = made_more service calls more old.service mid.service new.service before.service after.service;
+  pump = after.pump ∙ before.pump;
+  ports = after.ports ∙ before.ports;
 }
 
--- the events of a list so far, and the next
-pub recorded_next : {L : Type 0} (es : List Event) (k : ℕ) (e : Event) (old mid new : Shares L) → k < length es → e ≡ slice_index_or es k PfReset
-    → HaveRecorded (take k es) old mid → HaveRecorded (e ∷ []) mid new → HaveRecorded (take (k + 1) es) old new
-recorded_next es k e old mid new less is before more =
-    subst (λ (xs : List Event). HaveRecorded xs old new) (ap (λ (x : Event). take k es ++ x ∷ []) is ∙ sym (take_more es k PfReset less)) (recorded_more (take k es) e old mid new before more)
-
-left_more : (es : List Event) (e : Event) (o : Outcome) (old mid new : List Bool) → MayLeave es old mid → MayCome e o → new ≡ opened e o mid → MayLeave (es ++ e ∷ []) old new
-left_more [] e o old mid new before come is = (o, come, is ∙ ap (opened e o) before)
-left_more (x ∷ es) e o old mid new before come is = (before.0, before.1, left_more es e o (opened x before.0 old) mid new before.2 come is)
-
-pub left_next : (es : List Event) (k : ℕ) (e : Event) (o : Outcome) (old mid new : List Bool) → k < length es → e ≡ slice_index_or es k PfReset
-    → MayLeave (take k es) old mid → MayCome e o → new ≡ opened e o mid → MayLeave (take (k + 1) es) old new
-left_next es k e o old mid new less is before come left =
-    subst (λ (xs : List Event). MayLeave xs old new) (ap (λ (x : Event). take k es ++ x ∷ []) is ∙ sym (take_more es k PfReset less)) (left_more (take k es) e o old mid new before come left)
-
--- ---- where a list begins
-
-pub none_asked : (m : Mine) → having_asked_all [] m ≡ m
-none_asked m = ap (λ (xs : List Event). record { caller = m.caller; asked = xs }) (append-nil m.asked)
-
-pub recorded_none : {L : Type 0} (old new : Shares L) → new.pf ≡ old.pf → new.service ≡ old.service → new.pump ≡ old.pump → new.ports ≡ old.ports → HaveRecorded [] old new
-unfolding first_events
-recorded_none old new pf service pump ports = record {
-  pf = pf ∙ sym (none_asked old.pf);
-  service = service ∙ sym (none_asked old.service);
-  pump = pump;
-  ports = ports;
+pub kept_none : {L : Type 0} (old new : Shares L) → new.pf ≡ old.pf → new.service ≡ old.service → new.pump ≡ old.pump → new.ports ≡ old.ports → HaveKept [] old new
+kept_none old new pf_same service_same pump_same ports_same = record {
+  first = All-nil IsFirst;
+  pf = pf_same ∙ sym (made_none old.pf);
+  service = service_same ∙ sym (made_none old.service);
+  pump = pump_same;
+  ports = ports_same;
 }
 
--- and where it stops
-pub recorded_still : {L : Type 0} (es : List Event) (old mid new : Shares L) → HaveRecorded es old mid → HaveRecorded [] mid new → HaveRecorded es old new
-unfolding first_events
-recorded_still es old mid new before none = record {
-  pf = none.pf ∙ none_asked mid.pf ∙ before.pf;
-  service = none.service ∙ none_asked mid.service ∙ before.service;
-  pump = none.pump ∙ before.pump;
-  ports = none.ports ∙ before.ports;
+-- ---- the events of a list so far
+
+opened_last : (calls : List Entry) (call : Entry) (pools : List Bool) → opened_after (calls ++ call ∷ []) pools ≡ opened call.event call.answer.reply (opened_after calls pools)
+opened_last [] call pools = refl
+opened_last (x ∷ calls) call pools = opened_last calls call (opened x.event x.answer.reply pools)
+
+left_more : {L : Type 0} (es : List Event) (e : Event) (reply : Reply) (pools left : List Bool) (old mid new : Shares L) → HaveLeft es pools old mid → HasRecorded e reply mid new → left ≡ opened e reply pools
+    → HaveLeft (es ++ e ∷ []) left old new
+left_more es e reply pools left old mid new before more is =
+    let call : Entry = entry (caller_before e) e more.answer in
+    record {
+      calls = before.calls ++ call ∷ [];
+      asked = map-append (λ (c : Entry). c.event) before.calls (call ∷ []) ∙ ap (λ (xs : List Event). xs ++ e ∷ []) before.asked;
+      kept = kept_more before.calls (call ∷ []) old mid new before.kept more.kept;
+      left =
+          is ∙ ap (opened e reply) before.left ∙ ap (λ (r : Reply). opened e r (opened_after before.calls all_closed)) (sym more.told)
+          ∙ sym (opened_last before.calls call all_closed);
+    }
+
+pub left_next : {L : Type 0} (es : List Event) (k : ℕ) (e : Event) (reply : Reply) (pools left : List Bool) (old mid new : Shares L) → k < length es → e ≡ slice_index_or es k PfReset
+    → HaveLeft (take k es) pools old mid → HasRecorded e reply mid new → left ≡ opened e reply pools → HaveLeft (take (k + 1) es) left old new
+left_next es k e reply pools left old mid new less is before more by =
+    subst (λ (xs : List Event). HaveLeft xs left old new) (ap (λ (x : Event). take k es ++ x ∷ []) is ∙ sym (take_more es k PfReset less)) (left_more (take k es) e reply pools left old mid new before more by)
+
+-- where a list begins
+pub left_none : {L : Type 0} (pools : List Bool) (shares : Shares L) → pools ≡ all_closed → HaveLeft [] pools shares shares
+left_none pools shares none = record { calls = []; asked = refl; kept = kept_none shares shares refl refl refl refl; left = none }
+
+-- where it stops
+pub recorded_still : {L : Type 0} (es : List Event) (pools : List Bool) (old mid new : Shares L) → HaveLeft es pools old mid → HaveKept [] mid new → HaveRecorded es old new
+recorded_still es pools old mid new before none = record {
+  calls = before.calls;
+  asked = before.asked;
+  kept = subst (λ (calls : List Entry). HaveKept calls old new) (append-nil before.calls) (kept_more before.calls [] old mid new before.kept none);
+}
+
+-- and what it is in the end
+pub left_recorded : {L : Type 0} (es : List Event) (pools : List Bool) (old new : Shares L) → HaveLeft es pools old new → HaveRecorded es old new
+left_recorded es pools old new left = record { calls = left.calls; asked = left.asked; kept = left.kept }
+
+pub prepared_whole : {L : Type 0} (script : Meaning) (pools : List ℕ) (left : List Bool) (old new : Shares L) → script.go ≡ None → pools ≡ [] → HaveLeft (take (length script.events) script.events) left old new
+    → IsPrepared script pools old new
+prepared_whole script pools left old new whole none all = record {
+  calls = all.calls;
+  asked = all.asked ∙ ap (λ (go : Option ℕ). take (unwrap_or go (length script.events)) script.events) (sym whole);
+  kept = all.kept;
+  left = subst (λ (go : Option ℕ). MatchOption go (pools ≡ []) (λ go. pools ≡ pools_from 0 (opened_after all.calls all_closed))) (sym whole) none;
+}
+
+pub prepared_go : {L : Type 0} (script : Meaning) (go : ℕ) (pools : List ℕ) (left : List Bool) (old new : Shares L) → script.go ≡ Some go → pools ≡ pools_from 0 left → HaveLeft (take go script.events) left old new
+    → IsPrepared script pools old new
+prepared_go script go pools left old new is listed all = record {
+  calls = all.calls;
+  asked = all.asked ∙ ap (λ (go : Option ℕ). take (unwrap_or go (length script.events)) script.events) (sym is);
+  kept = all.kept;
+  left = subst (λ (go : Option ℕ). MatchOption go (pools ≡ []) (λ go. pools ≡ pools_from 0 (opened_after all.calls all_closed))) (sym is) (listed ∙ ap (pools_from 0) all.left);
 }
 
 -- ---- one event
 
 -- the driver's call, or the service's
-pub recorded_pf : {L : Type 0} (e : Event) (old new : Shares L) → caller_before e ≡ pf → new.pf ≡ having_asked e old.pf → new.service ≡ old.service → new.pump ≡ old.pump → new.ports ≡ old.ports
-    → HaveRecorded (e ∷ []) old new
-unfolding first_events
-recorded_pf e old new is pf_called service_same pump_same ports_same = record {
-  pf = pf_called ∙ ap (λ (c : ℕ). having_asked_all (cond (c == 64) (e ∷ []) []) old.pf) (sym is);
-  service = service_same ∙ sym (none_asked old.service) ∙ ap (λ (c : ℕ). having_asked_all (cond (c == 66) (e ∷ []) []) old.service) (sym is);
-  pump = pump_same;
-  ports = ports_same;
+pub recorded_pf : {L : Type 0} (e : Event) (reply : Reply) (old new : Shares L) → caller_before e ≡ pf → old.pf.caller ≡ pf → HasTold e reply old.pf new.pf → new.service ≡ old.service → new.pump ≡ old.pump → new.ports ≡ old.ports
+    → HasRecorded e reply old new
+recorded_pf e reply old new is own told service_same pump_same ports_same = record {
+  answer = told.answer;
+  kept = subst (λ (c : ℕ). HaveKept (entry c e told.answer ∷ []) old new) (sym is) (record {
+    first = All-push IsFirst [] (entry pf e told.answer) (All-nil IsFirst) (sym is, told.given);
+    pf = told.kept ∙ ap (λ (c : ℕ). record { caller = old.pf.caller; asked = old.pf.asked ++ entry c e told.answer ∷ [] }) own;
+    service = service_same ∙ sym (made_none old.service);
+    pump = pump_same;
+    ports = ports_same;
+  });
+  told = told.told;
 }
 
 is_pf_or_service : (e : Event) → caller_before e ≢ pf → caller_before e ≡ service
@@ -99,12 +134,20 @@ is_pf_or_service (PfWrite offset x) other = absurd (other refl)
 is_pf_or_service PfReset other = absurd (other refl)
 is_pf_or_service (Wire frame) other = refl
 
-pub recorded_service : {L : Type 0} (e : Event) (old new : Shares L) → caller_before e ≢ pf → new.service ≡ having_asked e old.service → new.pf ≡ old.pf → new.pump ≡ old.pump → new.ports ≡ old.ports
-    → HaveRecorded (e ∷ []) old new
-unfolding first_events
-recorded_service e old new other service_called pf_same pump_same ports_same = record {
-  pf = pf_same ∙ sym (none_asked old.pf) ∙ ap (λ (c : ℕ). having_asked_all (cond (c == 64) (e ∷ []) []) old.pf) (sym (is_pf_or_service e other));
-  service = service_called ∙ ap (λ (c : ℕ). having_asked_all (cond (c == 66) (e ∷ []) []) old.service) (sym (is_pf_or_service e other));
-  pump = pump_same;
-  ports = ports_same;
+by_service : {L : Type 0} (e : Event) (reply : Reply) (old new : Shares L) → caller_before e ≡ service → old.service.caller ≡ service → HasTold e reply old.service new.service → new.pf ≡ old.pf → new.pump ≡ old.pump
+    → new.ports ≡ old.ports → HasRecorded e reply old new
+by_service e reply old new is own told pf_same pump_same ports_same = record {
+  answer = told.answer;
+  kept = subst (λ (c : ℕ). HaveKept (entry c e told.answer ∷ []) old new) (sym is) (record {
+    first = All-push IsFirst [] (entry service e told.answer) (All-nil IsFirst) (sym is, told.given);
+    pf = pf_same ∙ sym (made_none old.pf);
+    service = told.kept ∙ ap (λ (c : ℕ). record { caller = old.service.caller; asked = old.service.asked ++ entry c e told.answer ∷ [] }) own;
+    pump = pump_same;
+    ports = ports_same;
+  });
+  told = told.told;
 }
+
+pub recorded_service : {L : Type 0} (e : Event) (reply : Reply) (old new : Shares L) → caller_before e ≢ pf → old.service.caller ≡ service → HasTold e reply old.service new.service → new.pf ≡ old.pf → new.pump ≡ old.pump
+    → new.ports ≡ old.ports → HasRecorded e reply old new
+recorded_service e reply old new other own told pf_same pump_same ports_same = by_service e reply old new (is_pf_or_service e other) own told pf_same pump_same ports_same

@@ -1,5 +1,6 @@
 pub mod Turns
 pub mod Places
+pub mod Asks
 pub mod First
 pub mod Wires
 pub mod Swept

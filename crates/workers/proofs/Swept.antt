@@ -5,10 +5,10 @@ use Rattle.std.proofs.lemmas.List.{append-nil, get_or-set_same, length-append, l
 use Rattle.std.proofs.lemmas.List.Elements.{filter-append, filter_passes}
 use Rattle.device.specs.declared.event.Event.{Event}
 use Rattle.device.specs.declared.event.Event.TheVariants.{End}
-use Rattle.device_lock.specs.Held.{Mine, having_asked, having_asked_all}
+use Rattle.recorder.specs.Held.{HasAsked, Mine}
 use Rattle.guest_port.specs.Notes.{Known, knows}
 use Rattle.workers.specs.Sweeps.{AreLooked, IsLooked, IsSwept, NoneEnded, end_of, is_ended, is_live}
-use Rattle.workers.proofs.First.{none_asked}
+use Rattle.workers.proofs.Asks.{asked_behind, asked_none}
 
 abbrev Note : Type 0
 Note = ℕ × Known
@@ -60,7 +60,7 @@ live_same passed n is = filter-append is_live passed (n ∷ []) ∙ (ap (λ (b :
 
 pub way_begins : (notes : List Note) (old : Mine) → IsUnderWay notes notes 0 old old
 way_begins notes old = record {
-  swept = record { passed = []; rest = notes; looked = are_looked notes; asked = sym (none_asked old); stay = refl };
+  swept = record { passed = []; rest = notes; looked = are_looked notes; asked = asked_none old; stay = refl };
   place = refl;
 }
 
@@ -87,7 +87,7 @@ nobody_here front notes at is place less = let l = ap length is in let n = lengt
 way_looks : (first notes : List Note) (at : ℕ) (d note : Note) (old mid : Mine) → at < length notes → IsLooked (get_or notes at d) note → IsUnderWay first notes at old mid → IsUnderWay first (set notes at note) at old mid
 way_looks first notes at d note old mid less look way = go way.swept.passed way.swept.rest way.swept.looked way.swept.asked way.swept.stay way.place
   where
-    go : (passed rest : List Note) → AreLooked first (passed ++ rest) → mid ≡ having_asked_all (map end_of (filter is_ended passed)) old → notes ≡ filter is_live passed ++ rest
+    go : (passed rest : List Note) → AreLooked first (passed ++ rest) → HasAsked (map end_of (filter is_ended passed)) old mid → notes ≡ filter is_live passed ++ rest
         → at ≡ length (filter is_live passed) → IsUnderWay first (set notes at note) at old mid
     go passed [] are asked stay place = absurd (nobody_here (filter is_live passed) notes at stay place less)
     go passed (n ∷ rest) are asked stay place = record {
@@ -105,7 +105,7 @@ way_looks first notes at d note old mid less look way = go way.swept.passed way.
 way_leaves : (first notes : List Note) (at : ℕ) (note : Note) (old mid : Mine) → at < length notes → note ≡ get_or notes at note → knows note.1 ≡ false → IsUnderWay first notes at old mid → IsUnderWay first notes (at + 1) old mid
 way_leaves first notes at note old mid less is live way = go way.swept.passed way.swept.rest way.swept.looked way.swept.asked way.swept.stay way.place
   where
-    go : (passed rest : List Note) → AreLooked first (passed ++ rest) → mid ≡ having_asked_all (map end_of (filter is_ended passed)) old → notes ≡ filter is_live passed ++ rest
+    go : (passed rest : List Note) → AreLooked first (passed ++ rest) → HasAsked (map end_of (filter is_ended passed)) old mid → notes ≡ filter is_live passed ++ rest
         → at ≡ length (filter is_live passed) → IsUnderWay first notes (at + 1) old mid
     go passed [] are asked stay place = absurd (nobody_here (filter is_live passed) notes at stay place less)
     go passed (n ∷ rest) are asked stay place =
@@ -116,7 +116,7 @@ way_leaves first notes at note old mid less is live way = go way.swept.passed wa
             passed = passed ++ n ∷ [];
             rest = rest;
             looked = subst (AreLooked first) (sym (append_assoc passed (n ∷ []) rest)) are;
-            asked = asked ∙ ap (λ (xs : List Note). having_asked_all (map end_of xs) old) (sym (ended_same passed n unknown));
+            asked = subst (λ (xs : List Note). HasAsked (map end_of xs) old mid) (sym (ended_same passed n unknown)) asked;
             stay = stay ∙ (sym (append_assoc (filter is_live passed) (n ∷ []) rest) ∙ ap (λ (xs : List Note). xs ++ rest) (sym more));
           };
           place = let l = ap length more in let k = length-append (filter is_live passed) (n ∷ []) in omega (arith, place, l, k);
@@ -124,10 +124,10 @@ way_leaves first notes at note old mid less is live way = go way.swept.passed wa
 
 -- the next note knows: its end is asked, and it is taken out
 way_takes : (first notes after : List Note) (at : ℕ) (note : Note) (old mid new : Mine) → at < length notes → note ≡ get_or notes at note → knows note.1 ≡ true → after ≡ take at notes ++ drop (at + 1) notes
-    → new ≡ having_asked (End note.0) mid → IsUnderWay first notes at old mid → IsUnderWay first after at old new
+    → HasAsked (End note.0 ∷ []) mid new → IsUnderWay first notes at old mid → IsUnderWay first after at old new
 way_takes first notes after at note old mid new less is ended out ask way = go way.swept.passed way.swept.rest way.swept.looked way.swept.asked way.swept.stay way.place
   where
-    go : (passed rest : List Note) → AreLooked first (passed ++ rest) → mid ≡ having_asked_all (map end_of (filter is_ended passed)) old → notes ≡ filter is_live passed ++ rest
+    go : (passed rest : List Note) → AreLooked first (passed ++ rest) → HasAsked (map end_of (filter is_ended passed)) old mid → notes ≡ filter is_live passed ++ rest
         → at ≡ length (filter is_live passed) → IsUnderWay first after at old new
     go passed [] are asked stay place = absurd (nobody_here (filter is_live passed) notes at stay place less)
     go passed (n ∷ rest) are asked stay place =
@@ -140,10 +140,8 @@ way_takes first notes after at note old mid new less is ended out ask way = go w
             rest = rest;
             looked = subst (AreLooked first) (sym (append_assoc passed (n ∷ []) rest)) are;
             asked =
-                ask ∙ ap (λ (x : Note). having_asked (End x.0) mid) same ∙ ap (having_asked (End n.0)) asked
-                ∙ ap (λ (xs : List Event). record { caller = old.caller; asked = xs })
-                (append_assoc old.asked (map end_of (filter is_ended passed)) (End n.0 ∷ [])
-                ∙ ap (λ (xs : List Event). old.asked ++ xs) (sym (ap (map end_of) (ended_more passed n known) ∙ map-append end_of (filter is_ended passed) (n ∷ []))));
+                subst (λ (es : List Event). HasAsked es old new) (sym (ap (map end_of) (ended_more passed n known) ∙ map-append end_of (filter is_ended passed) (n ∷ [])))
+                (asked_behind (map end_of (filter is_ended passed)) (End n.0 ∷ []) old mid new asked (subst (λ (x : Note). HasAsked (End x.0 ∷ []) mid new) same ask));
             stay =
                 out ∙ ap (λ (xs : List Note). take at xs ++ drop (at + 1) xs) stay
                 ∙ (out_of_here (filter is_live passed) rest n at place ∙ ap (λ (xs : List Note). xs ++ rest) (sym none));
@@ -179,7 +177,7 @@ way_left first notes at was note old mid new less is look live same way =
     (way_leaves first (set notes at note) at note old mid (looked_less notes at note less) (sym (get_or-set_same notes at note note less)) live (looked_way first notes at was note old mid less is look way))
 
 pub way_taken : (first notes after : List Note) (at : ℕ) (was note : Note) (old mid new : Mine) → at < length notes → was ≡ get_or notes at was → IsLooked was note → knows note.1 ≡ true
-    → after ≡ take at (set notes at note) ++ drop (at + 1) (set notes at note) → new ≡ having_asked (End note.0) mid → IsUnderWay first notes at old mid → IsUnderWay first after at old new
+    → after ≡ take at (set notes at note) ++ drop (at + 1) (set notes at note) → HasAsked (End note.0 ∷ []) mid new → IsUnderWay first notes at old mid → IsUnderWay first after at old new
 way_taken first notes after at was note old mid new less is look ended out ask way =
     way_takes first (set notes at note) after at note old mid new (looked_less notes at note less) (sym (get_or-set_same notes at note note less)) ended out ask (looked_way first notes at was note old mid less is look way)
 

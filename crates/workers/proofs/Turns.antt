@@ -1,5 +1,5 @@
 -- What a caller's own events are: those that it may make, and what comes of them all.
-use Rattle.std.proofs.Common.{◌≡◌, ℕ, ◌<◌, ◌≤◌, ◌==◌, ◌||◌, Bool, true, false, nat_lt, nat_le, List, [], ◌∷◌, ◌++◌, ◌+◌, length, take, drop, if◌then◌else◌, refl, sym, ap, ◌∙◌, subst, arith, append_assoc}
+use Rattle.std.proofs.Common.{◌≡◌, ℕ, ◌<◌, ◌≤◌, ◌==◌, ◌||◌, Bool, true, false, not, nat_lt, nat_le, List, [], ◌∷◌, ◌++◌, ◌+◌, length, take, drop, if◌then◌else◌, refl, sym, ap, ◌∙◌, subst, arith}
 use Rattle.std.specs.Prelude.{slice_index_or}
 use Rattle.std.proofs.lemmas.Bool.{eqb-true, false≢true}
 use Rattle.std.proofs.lemmas.Bool.Decides.{nat_tests}
@@ -7,12 +7,13 @@ use Rattle.std.proofs.lemmas.List.{get_or_past, take_more}
 use Rattle.std.proofs.lemmas.List.Elements.{filter_passes}
 use Rattle.device.specs.declared.event.Event.{Event}
 use Rattle.device.specs.declared.event.Event.TheVariants.{Open, End, VfRead, VfWrite, MemRead, MemWrite, Serve, Flr, PfRead, PfWrite, PfReset, Wire}
-use Rattle.device_lock.specs.Callers.{may, is_port, is_pf, is_pump, is_service}
-use Rattle.device_lock.specs.Held.{Mine, having_asked, having_asked_all}
-use Rattle.device_lock.specs.Read.{bytes_asked}
+use Rattle.recorder.specs.Callers.{may, is_port, is_pf, is_pump, is_service}
+use Rattle.recorder.specs.Read.{bytes_asked}
 use Rattle.workers.specs.Callers.{caller_before, caller_of, port_or_service}
-use Rattle.guest_port.specs.Calls.{CallingPort, having_called}
-use Rattle.workers.specs.Calls.{IsPortEvent, called, called_all, one_call}
+use Rattle.device.specs.declared.event.Reply.{Reply}
+use Rattle.guest_port.specs.Calls.{CallingPort, HasCalled}
+use Rattle.guest_port.specs.Port.{Port, closed}
+use Rattle.workers.specs.Calls.{HasClosed, HasDone, HasDoneAll, HasMade, IsPortEvent}
 use Rattle.workers.specs.Plans.{Planned, own_events, start_of}
 
 -- ---- events before `go`
@@ -134,52 +135,64 @@ Seat = ℕ × Bool
 seat_of : CallingPort → Seat
 seat_of c = (c.port.pool, c.port.is_closed)
 
-one_call_seat : (e : Event) (c : CallingPort) → seat_of (one_call e c) ≡ seat_of c
-unfolding seat_of
-one_call_seat e c = go c.port.is_open
+made_port : (e : Event) (old new : CallingPort) → HasMade e old new → new.port ≡ old.port
+made_port e old new made = go old.port.is_open refl
   where
-    go : (is_open : Bool) → seat_of (if is_open then having_called e c else c) ≡ seat_of c
-    go true = refl
-    go false = refl
+    go : (is_open : Bool) → old.port.is_open ≡ is_open → new.port ≡ old.port
+    go true is = ap (λ (c : CallingPort). c.port) (made.asked is).1.kept
+    go false is = ap (λ (c : CallingPort). c.port) (made.ended is)
 
-called_seat : (e : Event) (c : CallingPort) → seat_of (called e c) ≡ seat_of c
+made_seat : (e : Event) (old new : CallingPort) → HasMade e old new → seat_of new ≡ seat_of old
 unfolding seat_of
-called_seat (Open p) c = one_call_seat (Open p) c
-called_seat (End p) c = refl
-called_seat (VfRead p offset) c = one_call_seat (VfRead p offset) c
-called_seat (VfWrite p offset x) c = one_call_seat (VfWrite p offset x) c
-called_seat (MemRead p at count) c = one_call_seat (MemRead p at count) c
-called_seat (MemWrite p at bytes) c = one_call_seat (MemWrite p at bytes) c
-called_seat (Serve p q) c = one_call_seat (Serve p q) c
-called_seat (Flr p) c = one_call_seat (Flr p) c
-called_seat (PfRead offset) c = one_call_seat (PfRead offset) c
-called_seat (PfWrite offset x) c = one_call_seat (PfWrite offset x) c
-called_seat PfReset c = one_call_seat PfReset c
-called_seat (Wire frame) c = one_call_seat (Wire frame) c
+made_seat e old new made = ap (λ (p : Port). (p.pool, p.is_closed)) (made_port e old new made)
 
-pub same_pool : (e : Event) (old new : CallingPort) (p : ℕ) → new ≡ called e old → old.port.pool ≡ p → new.port.pool ≡ p
+done_seat : (e : Event) (old new : CallingPort) → HasDone e old new → seat_of new ≡ seat_of old
 unfolding seat_of
-same_pool e old new p is before = ap (λ (c : CallingPort). c.port.pool) is ∙ ap (λ (s : Seat). s.0) (called_seat e old) ∙ before
+done_seat (Open p) old new done = made_seat (Open p) old new done
+done_seat (End p) old new done = ap (λ (c : CallingPort). (c.port.pool, c.port.is_closed)) done
+done_seat (VfRead p offset) old new done = made_seat (VfRead p offset) old new done
+done_seat (VfWrite p offset x) old new done = made_seat (VfWrite p offset x) old new done
+done_seat (MemRead p at count) old new done = made_seat (MemRead p at count) old new done
+done_seat (MemWrite p at bytes) old new done = made_seat (MemWrite p at bytes) old new done
+done_seat (Serve p q) old new done = made_seat (Serve p q) old new done
+done_seat (Flr p) old new done = made_seat (Flr p) old new done
+done_seat (PfRead offset) old new done = made_seat (PfRead offset) old new done
+done_seat (PfWrite offset x) old new done = made_seat (PfWrite offset x) old new done
+done_seat PfReset old new done = made_seat PfReset old new done
+done_seat (Wire frame) old new done = made_seat (Wire frame) old new done
 
-pub same_close : (e : Event) (old new : CallingPort) (closed : Bool) → new ≡ called e old → old.port.is_closed ≡ closed → new.port.is_closed ≡ closed
+pub same_pool : (e : Event) (old new : CallingPort) (p : ℕ) → HasDone e old new → old.port.pool ≡ p → new.port.pool ≡ p
 unfolding seat_of
-same_close e old new closed is before = ap (λ (c : CallingPort). c.port.is_closed) is ∙ ap (λ (s : Seat). s.1) (called_seat e old) ∙ before
+same_pool e old new p done before = ap (λ (s : Seat). s.0) (done_seat e old new done) ∙ before
+
+pub same_close : (e : Event) (old new : CallingPort) (closed : Bool) → HasDone e old new → old.port.is_closed ≡ closed → new.port.is_closed ≡ closed
+unfolding seat_of
+same_close e old new closed done before = ap (λ (s : Seat). s.1) (done_seat e old new done) ∙ before
 
 -- ---- the events so far
 
-pub asked_more : (es : List Event) (k : ℕ) (e : Event) (m old new : Mine) → k < length es → e ≡ slice_index_or es k PfReset → old ≡ having_asked_all (take k es) m → new ≡ having_asked e old
-    → new ≡ having_asked_all (take (k + 1) es) m
-asked_more es k e m old new less is before more =
-    more ∙ ap (having_asked e) before
-    ∙ ap (λ (xs : List Event). record { caller = m.caller; asked = xs })
-    (append_assoc m.asked (take k es) (e ∷ []) ∙ ap (λ (x : Event). m.asked ++ (take k es ++ x ∷ [])) is ∙ ap (λ (xs : List Event). m.asked ++ xs) (sym (take_more es k PfReset less)))
+done_last : (es : List Event) (e : Event) (c old new : CallingPort) → HasDoneAll es c old → HasDone e old new → HasDoneAll (es ++ e ∷ []) c new
+done_last [] e c old new none done = (new, subst (λ (x : CallingPort). HasDone e x new) none done, refl)
+done_last (x ∷ es) e c old new all done = (all.0, all.1, done_last es e all.0 old new all.2 done)
 
-called_last : (es : List Event) (e : Event) (c : CallingPort) → called_all (es ++ e ∷ []) c ≡ called e (called_all es c)
-called_last [] e c = refl
-called_last (x ∷ es) e c = called_last es e (called x c)
+pub done_more : (es : List Event) (k : ℕ) (e : Event) (c old new : CallingPort) → k < length es → e ≡ slice_index_or es k PfReset → HasDoneAll (take k es) c old → HasDone e old new
+    → HasDoneAll (take (k + 1) es) c new
+done_more es k e c old new less is before done =
+    subst (λ (xs : List Event). HasDoneAll xs c new) (ap (λ (x : Event). take k es ++ x ∷ []) is ∙ sym (take_more es k PfReset less)) (done_last (take k es) e c old new before done)
 
-pub called_more : (es : List Event) (k : ℕ) (e : Event) (c old new : CallingPort) → k < length es → e ≡ slice_index_or es k PfReset → old ≡ called_all (take k es) c → new ≡ called e old
-    → new ≡ called_all (take (k + 1) es) c
-called_more es k e c old new less is before more =
-    more ∙ ap (called e) before ∙ sym (called_last (take k es) e c)
-    ∙ ap (λ (x : Event). called_all (take k es ++ x ∷ []) c) is ∙ ap (λ (xs : List Event). called_all xs c) (sym (take_more es k PfReset less))
+pub has_closed : (es : List Event) (old last new : CallingPort) → HasDoneAll es old last → new ≡ record last { port = closed last.port } → HasClosed es old new
+has_closed es old last new done is = (last, done, is)
+
+-- ---- one call of a port
+
+not_full : (is_full : Bool) → not is_full ≡ true → is_full ≡ false
+not_full false is = refl
+not_full true is = sym is
+
+-- a call that was not refused for a full history: it is kept, or the port has ended
+pub has_made : {X : Type 0} (e : Event) (reply : Reply) (old new : CallingPort) (is_taken is_full : Bool) → is_taken ≡ not is_full → is_taken ≡ true → (old.port.is_open ≡ false → X × (new ≡ old))
+    → (old.port.is_open ≡ true → is_full ≡ false → HasCalled e reply old new) → HasMade e old new
+has_made e reply old new is_taken is_full by was ended kept = record {
+  asked = λ is_open. (reply, kept is_open (not_full is_full (sym by ∙ was)));
+  ended = λ is_closed. (ended is_closed).1;
+}

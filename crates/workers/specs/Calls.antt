@@ -1,8 +1,9 @@
 -- What an event asks of a guest's port.
-use Rattle.std.specs.Prelude.{◌≡◌, ℕ, List, [], ◌∷◌, if◌then◌else◌}
+use Rattle.std.specs.Prelude.{◌≡◌, ℕ, true, false, List, [], ◌∷◌}
 use Rattle.device.specs.declared.event.Event.{Event}
 use Rattle.device.specs.declared.event.Event.TheVariants.{End, VfRead, VfWrite, MemRead, MemWrite, Flr}
-use Rattle.guest_port.specs.Calls.{CallingPort, having_called}
+use Rattle.device.specs.declared.event.Reply.{Reply}
+use Rattle.guest_port.specs.Calls.{CallingPort, HasCalled}
 use Rattle.guest_port.specs.Port.{closed, ended}
 
 -- the events of pool p that its port may do
@@ -15,20 +16,21 @@ IsPortEvent p (Flr q) = q ≡ p
 IsPortEvent p (End q) = q ≡ p
 IsPortEvent p _ = ⊥
 
--- a port after a call that asks an event, which is kept until the port ends
-abbrev pub one_call : Event → CallingPort → CallingPort
-one_call event c = if c.port.is_open then having_called event c else c
+-- a port before and after a call that asks an event: until the port ends the call is kept, with its answer
+pub record HasMade (event : Event) (old new : CallingPort) : Type 0 where
+  pub asked : old.port.is_open ≡ true → (reply : Reply) × HasCalled event reply old new
+  pub ended : old.port.is_open ≡ false → new ≡ old
 
--- a port after an event: its end, or a call
-abbrev pub called : Event → CallingPort → CallingPort
-called (End p) c = record c { port = ended c.port }
-called event c = one_call event c
+-- a port before and after an event: its end, or a call
+abbrev pub HasDone : Event → CallingPort → CallingPort → Type 0
+HasDone (End p) old new = new ≡ record old { port = ended old.port }
+HasDone event old new = HasMade event old new
 
--- a port after events, in order
-abbrev pub called_all : List Event → CallingPort → CallingPort
-called_all [] c = c
-called_all (e ∷ events) c = called_all events (called e c)
+-- a port before and after events, in order
+abbrev pub HasDoneAll : List Event → CallingPort → CallingPort → Type 0
+HasDoneAll [] old new = new ≡ old
+HasDoneAll (e ∷ events) old new = (next : CallingPort) × HasDone e old next × HasDoneAll events next new
 
--- a port that is closed after them
-abbrev pub closed_after : CallingPort → CallingPort
-closed_after c = record c { port = closed c.port }
+-- a port before and after events, and its close after them
+abbrev pub HasClosed : List Event → CallingPort → CallingPort → Type 0
+HasClosed events old new = (last : CallingPort) × HasDoneAll events old last × (new ≡ record last { port = closed last.port })

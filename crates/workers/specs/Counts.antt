@@ -1,14 +1,39 @@
--- What the shares of callers asked.
-use Rattle.std.specs.Prelude.{◌≡◌, List}
+-- What the shares of callers asked before `go`, and what they were answered.
+use Rattle.std.specs.Prelude.{◌≡◌, ℕ, ◌==◌, List, [], ◌∷◌, filter}
+use Rattle.std.specs.List.{All}
 use Rattle.device.specs.declared.event.Event.{Event}
-use Rattle.device_lock.specs.declared.shares.Shares.{Shares}
-use Rattle.device_lock.specs.Held.{having_asked_all}
-use Rattle.workers.specs.Callers.{pf, service}
-use Rattle.workers.specs.Plans.{first_events}
+use Rattle.device.specs.declared.event.Reply.{Reply}
+use Rattle.device.specs.declared.event.Answer.{Answer}
+use Rattle.history.specs.Entries.{Entry, entry, events}
+use Rattle.recorder.specs.declared.shares.Shares.{Shares}
+use Rattle.recorder.specs.Held.{having_calls}
+use Rattle.device_lock.specs.Answers.{MayAnswer}
+use Rattle.workers.specs.Callers.{caller_before, pf, service}
 
--- the shares once these events before `go` are recorded, each asked by its caller
-pub record HaveRecorded {L : Type 0} (events : List Event) (old new : Shares L) : Type 0 where
-  pub pf : new.pf ≡ having_asked_all (first_events pf events) old.pf
-  pub service : new.service ≡ having_asked_all (first_events service events) old.service
+-- those of calls that a caller made
+abbrev pub made_by : ℕ → List Entry → List Entry
+made_by c calls = filter (λ (call : Entry). call.caller == c) calls
+
+-- a call before `go`: made by the caller of its event, and answered as some device does
+abbrev pub IsFirst : Entry → Type 0
+IsFirst call = (call.caller ≡ caller_before call.event) × MayAnswer call.event call.answer
+
+-- the shares once these calls before `go` are kept, each in its caller's share
+pub record HaveKept {L : Type 0} (calls : List Entry) (old new : Shares L) : Type 0 where
+  pub first : All IsFirst calls
+  pub pf : new.pf ≡ having_calls (made_by pf calls) old.pf
+  pub service : new.service ≡ having_calls (made_by service calls) old.service
   pub pump : new.pump ≡ old.pump
   pub ports : new.ports ≡ old.ports
+
+-- the shares once these events before `go` are recorded
+pub record HaveRecorded {L : Type 0} (first : List Event) (old new : Shares L) : Type 0 where
+  pub calls : List Entry
+  pub asked : events calls ≡ first
+  pub kept : HaveKept calls old new
+
+-- the shares once one is, with this reply
+pub record HasRecorded {L : Type 0} (event : Event) (reply : Reply) (old new : Shares L) : Type 0 where
+  pub answer : Answer
+  pub kept : HaveKept (entry (caller_before event) event answer ∷ []) old new
+  pub told : answer.reply ≡ reply

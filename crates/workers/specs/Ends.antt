@@ -3,7 +3,7 @@ use Rattle.std.specs.Prelude.{◌≡◌, ℕ, List, map}
 use Rattle.std.specs.List.{Contains}
 use Rattle.device.specs.declared.event.Event.{Event}
 use Rattle.device.specs.declared.event.Event.TheVariants.{End}
-use Rattle.device_lock.specs.Held.{Mine, having_asked_all}
+use Rattle.recorder.specs.Held.{HasAsked, Mine}
 use Rattle.guest_port.specs.Calls.{CallingPort}
 use Rattle.guest_port.specs.Notes.{Known}
 use Rattle.workers.specs.Callers.{service}
@@ -19,5 +19,7 @@ port_end p = End p.0.port.pool
 -- one of the shares is the service's, and the last that it asked are the ends of these ports, each once, in order
 pub record HaveEnded (ports : List (CallingPort × Known)) (shares : List Mine) : Type 0 where
   pub before : Mine
+  pub after : Mine
   pub service : before.caller ≡ service
-  pub among : Contains shares (having_asked_all (map port_end ports) before)
+  pub asked : HasAsked (map port_end ports) before after
+  pub among : Contains shares after

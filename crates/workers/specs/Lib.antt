@@ -1,6 +1,7 @@
 pub mod Callers
 pub mod Plans
 pub mod Turns
+pub mod Asked
 pub mod Counts
 pub mod Calls
 pub mod Frames

@@ -2,7 +2,7 @@
 use Rattle.std.specs.Prelude.{ℕ, ◌==◌, Bool, List, Option, drop, filter, length, take, unwrap_or}
 use Rattle.device.specs.declared.event.Event.{Event}
 use Rattle.script.specs.Reading.{Meaning}
-use Rattle.workers.specs.Callers.{caller_before, caller_of}
+use Rattle.workers.specs.Callers.{caller_of}
 
 pub record Planned : Type 0 where
   -- all events of the script
@@ -22,10 +22,6 @@ start_of plan = unwrap_or plan.go (length plan.events)
 -- a caller's events after `go`, in the order of the script
 unfoldable pub own_events : Planned → ℕ → List Event
 own_events plan caller = filter (λ e. caller_of plan.ports e == caller) (drop (start_of plan) plan.events)
-
--- those of events before `go` that a caller does
-unfoldable pub first_events : ℕ → List Event → List Event
-first_events caller events = filter (λ e. caller_before e == caller) events
 
 -- the events before `go`: all, where there is none
 abbrev pub events_before : Meaning → List Event

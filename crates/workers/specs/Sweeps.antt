@@ -3,7 +3,7 @@ use Rattle.std.specs.Prelude.{◌≡◌, ℕ, true, false, Bool, not, List, [], 
 use Rattle.std.specs.List.{All, Contains}
 use Rattle.device.specs.declared.event.Event.{Event}
 use Rattle.device.specs.declared.event.Event.TheVariants.{End}
-use Rattle.device_lock.specs.Held.{Mine, having_asked_all}
+use Rattle.recorder.specs.Held.{HasAsked, Mine}
 use Rattle.guest_port.specs.Notes.{Known, knows}
 
 -- whether a note, which stands beside its pool, knows of its port's end, and whether it doesn't
@@ -37,7 +37,7 @@ pub record IsSwept (before after : List (ℕ × Known)) (old new : Mine) : Type 
   pub passed : List (ℕ × Known)
   pub rest : List (ℕ × Known)
   pub looked : AreLooked before (passed ++ rest)
-  pub asked : new ≡ having_asked_all (map end_of (filter is_ended passed)) old
+  pub asked : HasAsked (map end_of (filter is_ended passed)) old new
   pub stay : after ≡ filter is_live passed ++ rest
 
 -- none of the notes knows of an end

@@ -1,12 +1,11 @@
 //! One event by a share.
-ghost use Rattle.std.specs.Prelude.{◌≡◌, ◌≤◌, true, length, take, drop, IfOk, IfErr, OnOk, OnErr};
+ghost use Rattle.std.specs.Prelude.{◌≡◌, ◌≤◌, true, length, take, drop, IfOk, IfErr, OnErr};
 ghost use Rattle.device.specs.Request.{event_of};
 ghost use Rattle.device.specs.Outcome.{reply_by};
 ghost use Rattle.wire_frame.specs.declared.fault.Fault.{Fault};
-ghost use Rattle.device_lock.specs.Callers.{may};
-ghost use Rattle.device_lock.specs.Held.{having_asked};
-ghost use Rattle.device_lock.specs.Read.{bytes_asked, bytes_told};
-ghost use Rattle.guest_port.specs.Calls.{MayReply};
+ghost use Rattle.recorder.specs.Callers.{may};
+ghost use Rattle.recorder.specs.Read.{bytes_asked, bytes_told};
+ghost use Rattle.workers.specs.Asked.{HasTold};
 
 use device::{Outcome, Request};
 use device_lock::{LockedDevice, Share};
@@ -15,10 +14,11 @@ use std::sync::Wait;
 use std::sync::ledger::Ledger;
 use wire_frame::{Fault, FrameBuf};
 
-/// Takes the event that a request stands for, and answers what came of it. Where the history is full it is folded, and the
+/// Takes the event that a request stands for, and answers what came of it, as it is kept. Where the history is full it is folded, and the
 /// event is taken once there is room. [`Fault::HistoryFull`] where it can't be folded: nothing was taken.
 ///
 /// `frame` and `read` are lent for what the event sends and reads. Bytes that are read stand at the front of `read`.
+#[tactic(auto, using(crate::proofs::Asks::has_told))]
 pub fn ask<M: GuestMem, L: Ledger, R: Wait>(
     rt: &R,
     device: &LockedDevice<M, L>,
@@ -29,11 +29,11 @@ pub fn ask<M: GuestMem, L: Ledger, R: Wait>(
 ) -> Result<Outcome, Fault>
     requires may { may share.old.caller (event_of request) ≡ true }
     requires room { bytes_asked (event_of request) ≤ length read.old }
-    ensures answer { IfOk result (λ outcome. MayReply (event_of request.entry)
-        (reply_by (λ span. take (bytes_told outcome) read.new) outcome)) }
+    ensures kept { IfOk result (λ outcome. HasTold (event_of request.entry)
+        (reply_by (λ span. take (bytes_told outcome) read.new) outcome) share.old share.new) }
     ensures rest { IfOk result
         (λ outcome. drop (bytes_told outcome) read.new ≡ drop (bytes_told outcome) read.old) }
-    ensures counted { OnOk result (share.new ≡ having_asked (event_of request.entry) share.old) }
+    ensures caller { share.new.caller ≡ share.old.caller }
     ensures unchanged { OnErr result ((share.new ≡ share.old) × (read.new ≡ read.old)) }
     ensures full { IfErr result (λ e. e ≡ Fault.HistoryFull) }
     ensures read { length read.new ≡ length read.old }

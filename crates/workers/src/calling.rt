@@ -4,7 +4,7 @@ ghost use Rattle.wire_frame.specs.declared.fault.Fault.{Fault};
 ghost use Rattle.device.specs.declared.event.Event.{Event};
 ghost use Rattle.device.specs.Request.{event_of};
 ghost use Rattle.guest_port.specs.Calls.{is_full};
-ghost use Rattle.workers.specs.Calls.{IsPortEvent, called, one_call};
+ghost use Rattle.workers.specs.Calls.{HasDone, HasMade, IsPortEvent};
 
 use device::Request;
 use device::bytes::MOST_BYTES;
@@ -27,7 +27,7 @@ pub fn call<M: GuestMem, L: Ledger, P: GuestPort, R: Wait>(
     read: &mut [u8; MOST_BYTES],
 ) -> Result<(), Fault>
     requires { IsPortEvent port.old.port.pool (event_of request) }
-    ensures done { OnOk result (port.new ≡ called (event_of request.entry) port.old) }
+    ensures done { OnOk result (HasDone (event_of request.entry) port.old port.new) }
     ensures undone { OnErr result (port.new ≡ port.old) }
     ensures full { IfErr result (λ e. e ≡ Fault.HistoryFull) }
 {
@@ -50,7 +50,7 @@ fn call_once<M: GuestMem, L: Ledger, P: GuestPort, R: Wait>(
     read: &mut [u8; MOST_BYTES],
 ) -> bool
     requires { IsPortEvent port.old.port.pool (event_of request) }
-    ensures done { result ≡ true → port.new ≡ called (event_of request.entry) port.old }
+    ensures done { result ≡ true → HasDone (event_of request.entry) port.old port.new }
     ensures undone { result ≡ false → port.new ≡ port.old }
 {
     match request {
@@ -76,7 +76,7 @@ fn read_memory<M: GuestMem, L: Ledger, P: GuestPort, R: Wait>(
     read: &mut [u8; MOST_BYTES],
 ) -> bool
     ensures done { result ≡ true
-        → port.new ≡ one_call (Event.MemRead port.old.port.pool at count) port.old }
+        → HasMade (Event.MemRead port.old.port.pool at count) port.old port.new }
     ensures undone { result ≡ false → port.new ≡ port.old }
 {
     match read.get_mut(..usize::from(count)) {

@@ -1,6 +1,7 @@
 //! The pump's door, with its gate and its folds.
-ghost use Rattle.std.specs.Prelude.{◌≡◌, ◌++◌, ◌∷◌, [], true, if◌then◌else◌, IfErr, OnOk, OnErr};
+ghost use Rattle.std.specs.Prelude.{◌≡◌, ◌∷◌, [], true, if◌then◌else◌, IfErr, OnOk, OnErr};
 ghost use Rattle.device.specs.declared.event.Event.TheVariants.{Wire};
+ghost use Rattle.wire_pump.specs.Doors.{HasTaken};
 ghost use Rattle.wire_pump.specs.Ends.{is_wire};
 ghost use Rattle.workers.specs.Callers.{pump};
 
@@ -85,7 +86,7 @@ fn act<M: GuestMem, L: Ledger, R: Wait>(
     mut event: Event,
 ) -> Result<Answer, Full>
     requires wire { is_wire event ≡ true }
-    ensures taken { OnOk result (door.new.asked ≡ door.old.asked ++ event ∷ []) }
+    ensures taken { OnOk result (HasTaken (event ∷ []) door.old.asked door.new.asked) }
     ensures full { IfErr result (λ full. full.0 ≡ event) }
     ensures unchanged { OnErr result (door.new.asked ≡ door.old.asked) }
 {
@@ -108,8 +109,7 @@ fn take<M: GuestMem, L: Ledger, R: Wait>(
     door: &mut LockedDoor<M, L>,
     frame: &FrameBuf,
 ) -> bool
-    ensures { door.new.asked
-        ≡ (if result then door.old.asked ++ Wire frame.now ∷ [] else door.old.asked) }
+    ensures { HasTaken (if result then Wire frame.now ∷ [] else []) door.old.asked door.new.asked }
 {
     for _ in rt.forever() {
         if door.take(rt, frame) {

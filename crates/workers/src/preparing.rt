@@ -1,11 +1,14 @@
 //! The events before `go`.
-ghost use Rattle.std.specs.Prelude.{◌≡◌, ℕ, ◌<◌, ◌≤◌, ◌⊎◌, List, [], ◌∷◌, Bool, length, take, unwrap_or, IfErr, IfOk, OnOk, OnErr, MatchOption};
+ghost use Rattle.std.specs.Prelude.{◌≡◌, ℕ, ◌<◌, ◌≤◌, ◌⊎◌, List, [], length, take, IfErr, IfOk, OnErr, OnOk};
 ghost use Rattle.wire_frame.specs.declared.fault.Fault.{Fault};
+ghost use Rattle.device.specs.declared.span.Span.{Span};
 ghost use Rattle.device.specs.Request.{event_of};
+ghost use Rattle.device.specs.Outcome.{reply_by};
+ghost use Rattle.recorder.specs.Read.{bytes_told};
 ghost use Rattle.workers.specs.Callers.{caller_before, pf, service};
-ghost use Rattle.workers.specs.Counts.{HaveRecorded};
+ghost use Rattle.workers.specs.Counts.{HasRecorded, HaveKept, HaveRecorded};
 ghost use Rattle.workers.specs.Plans.{events_before};
-ghost use Rattle.workers.specs.Opens.{MayCome, MayLeave, all_closed, opened, pools_from, with_pool};
+ghost use Rattle.workers.specs.Opens.{HaveLeft, IsPrepared, all_closed, opened, pools_from, with_pool};
 
 use crate::asking::ask;
 use crate::plan::caller_before;
@@ -20,10 +23,12 @@ use std::sync::ledger::Ledger;
 use wire_frame::{Fault, FrameBuf, PoolId};
 
 /// Records the events before `go`, and all where there is none, in order: those of the physical function by its driver's
-/// share, and all others by the service's. Answers the pools that are open at `go`, rising, and none where there is none.
+/// share, and all others by the service's. Answers the pools that are open at `go`, rising, and none where there is none: those
+/// that the answers which were kept leave open.
 ///
 /// A call that finds the history full folds it and is made again. [`Fault::HistoryFull`] where it can't be folded, and then
 /// the events from that one on are not recorded; [`Fault::NoMemory`] where the host refused the room for the answer.
+#[tactic(auto, using(crate::proofs::First::prepared_whole, crate::proofs::First::prepared_go))]
 pub fn prepare<M: GuestMem, L: Ledger, R: Wait>(
     rt: &R,
     alloc: Global,
@@ -36,15 +41,13 @@ pub fn prepare<M: GuestMem, L: Ledger, R: Wait>(
     ensures pf { shares.new.pf.caller ≡ pf }
     ensures service { shares.new.service.caller ≡ service }
     ensures others { (shares.new.pump ≡ shares.old.pump) × (shares.new.ports ≡ shares.old.ports) }
-    ensures recorded { OnOk result (HaveRecorded (events_before script.now) shares.old shares.new) }
+    ensures prepared { IfOk result
+        (λ pools. IsPrepared script.now pools.items shares.old shares.new) }
     ensures faulted { IfErr result (λ e. (done : ℕ) × (done ≤ length (events_before script.now))
         × (e ≡ Fault.HistoryFull → done < length (events_before script.now))
         × (e ≡ Fault.NoMemory → done ≡ length (events_before script.now))
         × HaveRecorded (take done (events_before script.now)) shares.old shares.new) }
     ensures why { IfErr result (λ e. (e ≡ Fault.NoMemory) ⊎ (e ≡ Fault.HistoryFull)) }
-    ensures open { IfOk result (λ pools. MatchOption script.now.go (pools.items ≡ [])
-        (λ go. (left : List Bool) × MayLeave (take go script.now.events) all_closed left
-        × (pools.items ≡ pools_from 0 left))) }
 {
     let Some(go) = script.go() else {
         record_first(rt, script, script.len(), device, shares)?;
@@ -58,6 +61,7 @@ pub fn prepare<M: GuestMem, L: Ledger, R: Wait>(
 }
 
 // Records the first events of a script, and answers for each pool whether it is open after them.
+#[tactic(auto, using(crate::proofs::First::left_recorded))]
 fn record_first<M: GuestMem, L: Ledger, R: Wait>(
     rt: &R,
     script: &Script,
@@ -72,12 +76,13 @@ fn record_first<M: GuestMem, L: Ledger, R: Wait>(
     ensures service { shares.new.service.caller ≡ service }
     ensures others { (shares.new.pump ≡ shares.old.pump) × (shares.new.ports ≡ shares.old.ports) }
     ensures full { IfErr result (λ e. e ≡ Fault.HistoryFull) }
+    ensures left { IfOk result
+        (λ pools. HaveLeft (take count script.now.events) pools shares.old shares.new) }
     ensures recorded { OnOk result
         (HaveRecorded (take count script.now.events) shares.old shares.new) }
     ensures part { OnErr result
         ((done : ℕ) × (done < count)
         × HaveRecorded (take done script.now.events) shares.old shares.new) }
-    ensures open { IfOk result (λ pools. MayLeave (take count script.now.events) all_closed pools) }
     ensures len { IfOk result (λ pools. length pools ≡ 64) }
 {
     let mut room = Room::new();
@@ -114,11 +119,10 @@ fn record<M: GuestMem, L: Ledger, R: Wait>(
     requires service { shares.old.service.caller ≡ service }
     ensures pf { shares.new.pf.caller ≡ pf }
     ensures service { shares.new.service.caller ≡ service }
-    ensures recorded { OnOk result
-        (HaveRecorded (event_of request.entry ∷ []) shares.old shares.new) }
-    ensures unchanged { OnErr result (HaveRecorded [] shares.old shares.new) }
+    ensures recorded { IfOk result (λ outcome. HasRecorded (event_of request.entry)
+        (reply_by (λ span. take (bytes_told outcome) read.new) outcome) shares.old shares.new) }
+    ensures unchanged { OnErr result (HaveKept [] shares.old shares.new) }
     ensures full { IfErr result (λ e. e ≡ Fault.HistoryFull) }
-    ensures answer { IfOk result (λ outcome. MayCome (event_of request.entry) outcome) }
     ensures read { length read.new ≡ 2048 }
 {
     let caller = caller_before(request);
@@ -132,7 +136,8 @@ fn record<M: GuestMem, L: Ledger, R: Wait>(
 // Notes which pools an event leaves open.
 fn note(request: Request<'_>, outcome: Outcome, is_open: &mut [bool; 64])
     requires { length is_open.old ≡ 64 }
-    ensures open { is_open.new ≡ opened (event_of request.entry) outcome is_open.old }
+    ensures open { (bytes : Span → List ℕ) →
+        is_open.new ≡ opened (event_of request.entry) (reply_by bytes outcome) is_open.old }
     ensures len { length is_open.new ≡ 64 }
 {
     if !matches!(outcome, Outcome::Done) {

@@ -1,8 +1,8 @@
 //! The workers, from their starts to their ends.
-ghost use Rattle.std.specs.Prelude.{◌≡◌, ◌⊎◌, ◌∷◌, ◌<◌, true, false, length, map, replicate, slice_index_or, All, IfOk, IfErr, IfSome, OnOk};
+ghost use Rattle.std.specs.Prelude.{◌≡◌, ◌⊎◌, [], ◌∷◌, ◌<◌, true, false, length, map, replicate, slice_index_or, All, IfOk, IfErr, IfSome, OnOk};
 ghost use Rattle.device.specs.declared.event.Event.TheVariants.{End};
-ghost use Rattle.device_lock.specs.Held.{having_asked, having_asked_all, unused};
-ghost use Rattle.device_lock.specs.Made.{left_in};
+ghost use Rattle.recorder.specs.Held.{HasAsked, unused};
+ghost use Rattle.recorder.specs.Made.{left_in};
 ghost use Rattle.guest_port.specs.Notes.{knows};
 ghost use Rattle.wire_frame.specs.declared.fault.Fault.{Fault};
 ghost use Rattle.workers.specs.Callers.{pf, pump, service};
@@ -233,7 +233,7 @@ fn record_ends<M: GuestMem, L: Ledger, R: Wait>(
     ensures looked { OnOk result (AreLooked notes.old.items notes.new.items) }
     ensures known { OnOk result (All (λ note. is_ended note ≡ true) notes.new.items) }
     ensures ends { OnOk result
-        (share.new ≡ having_asked_all (map end_of notes.old.items) share.old) }
+        (HasAsked (map end_of notes.old.items) share.old share.new) }
 {
     for at in 0..notes.len() {
         record_end(rt, device, &mut notes[at], share)?;
@@ -253,7 +253,8 @@ fn record_end<M: GuestMem, L: Ledger, R: Wait>(
     ensures why { IfErr result (λ e. (e ≡ Fault.NoMemory) ⊎ (e ≡ Fault.HistoryFull)) }
     ensures looked { IsLooked note.old note.new }
     ensures known { OnOk result (knows note.new.1 ≡ true) }
-    ensures asked { OnOk result (share.new ≡ having_asked (End note.new.0) share.old) }
+    ensures asked { OnOk result (HasAsked (End note.new.0 ∷ []) share.old share.new) }
+    ensures caller { share.new.caller ≡ share.old.caller }
 {
     for _ in rt.forever() {
         match end_known(rt, note, device, share) {

@@ -1,7 +1,7 @@
 //! The ends of ports, as events.
-ghost use Rattle.std.specs.Prelude.{◌≡◌, ◌+◌, length, true, false, IfErr, IfOk, OnOk};
+ghost use Rattle.std.specs.Prelude.{◌≡◌, ◌+◌, [], ◌∷◌, length, true, false, IfErr, IfOk, OnOk};
 ghost use Rattle.device.specs.declared.event.Event.TheVariants.{End};
-ghost use Rattle.device_lock.specs.Held.{having_asked};
+ghost use Rattle.recorder.specs.Held.{HasAsked};
 ghost use Rattle.guest_port.specs.Notes.{knows};
 ghost use Rattle.workers.specs.Callers.{service};
 ghost use Rattle.workers.specs.Sweeps.{IsEndOfOne, IsLooked, IsSwept, NoneEnded};
@@ -43,6 +43,7 @@ pub fn sweep<M: GuestMem, L: Ledger, R: Wait>(
 
 // Looks at a note, and records its pool's end where it knows of it, which is the answer. (What it says of knowing it says of a
 // note that is there still: of one that is gone it could be made up.)
+#[tactic(auto, using(crate::proofs::Asks::has_asked))]
 pub(crate) fn end_known<M: GuestMem, L: Ledger, R: Wait>(
     rt: &R,
     note: &mut (u8, EndNote),
@@ -53,8 +54,9 @@ pub(crate) fn end_known<M: GuestMem, L: Ledger, R: Wait>(
     ensures looked { IsLooked note.old note.new }
     ensures knows { IfOk result (λ ended. ended ≡ knows note.new.1) }
     ensures ended { IfOk result
-        (λ ended. ended ≡ true → share.new ≡ having_asked (End note.new.0) share.old) }
+        (λ ended. ended ≡ true → HasAsked (End note.new.0 ∷ []) share.old share.new) }
     ensures live { IfOk result (λ ended. ended ≡ false → share.new ≡ share.old) }
+    ensures caller { share.new.caller ≡ share.old.caller }
     ensures full { IfErr result (λ full. (full.0 ≡ End note.new.0)
         × (knows note.new.1 ≡ true) × (share.new ≡ share.old)) }
 {

@@ -2,11 +2,12 @@
 ghost use Rattle.std.specs.Prelude.{◌≡◌, ℕ, ◌<◌, ◌≤◌, List, ◌++◌, true, false, length, map, take, Some, None, IfSome, MatchOption};
 ghost use Rattle.wire_pump.specs.declared.feeding.FeedEnd.{FeedEnd};
 ghost use Rattle.device.specs.declared.event.Event.TheVariants.{Wire};
-ghost use Rattle.device_lock.specs.Held.{having_asked_all};
+ghost use Rattle.recorder.specs.Held.{HasAsked, having_calls};
 ghost use Rattle.wire_pump.specs.declared.pumping.PumpEnd.{PumpEnd};
 ghost use Rattle.wire_pump.specs.Ends.{fed, IsCounted, pumped};
 ghost use Rattle.workers.specs.Callers.{pump};
-ghost use Rattle.workers.specs.Calls.{called_all, closed_after};
+ghost use Rattle.workers.specs.Asked.{HasLeft};
+ghost use Rattle.workers.specs.Calls.{HasClosed, HasDoneAll};
 ghost use Rattle.workers.specs.Frames.{frames_of, is_full};
 ghost use Rattle.workers.specs.Plans.{own_events};
 
@@ -72,15 +73,14 @@ pub fn guest<M: GuestMem, L: Ledger, P: GuestPort, G: Gate, R: Wait>(
     gate: &G,
 ) -> Done<L>
     ensures all { result.was_full ≡ false →
-        port.new ≡ closed_after (called_all (own_events plan.now port.old.port.pool) port.old) }
+        HasClosed (own_events plan.now port.old.port.pool) port.old port.new }
     ensures part { result.was_full ≡ true
         → (done : ℕ) × (done < length (own_events plan.now port.old.port.pool))
-        × (port.new
-        ≡ closed_after (called_all (take done (own_events plan.now port.old.port.pool)) port.old)) }
+        × HasClosed (take done (own_events plan.now port.old.port.pool)) port.old port.new }
     ensures share { MatchOption result.share (port.old.port.is_closed ≡ true)
         (λ share. (port.old.port.is_closed ≡ false) × (share.caller ≡ port.old.port.pool)) }
     ensures asked { IfSome result.share
-        (λ share. share ≡ having_asked_all port.new.calls port.new.made) }
+        (λ share. share ≡ having_calls port.new.calls port.new.made) }
 {
     let was_full = !calls(rt, plan, device, port, gate);
     let share = match port.close() {
@@ -94,7 +94,7 @@ pub fn guest<M: GuestMem, L: Ledger, P: GuestPort, G: Gate, R: Wait>(
 }
 
 // Does a port's events, and tells whether all were done.
-#[tactic(auto, using(crate::proofs::Turns::own_port_event, crate::proofs::Turns::called_more, crate::proofs::Turns::same_pool, crate::proofs::Turns::same_close))]
+#[tactic(auto, using(crate::proofs::Turns::own_port_event, crate::proofs::Turns::done_more, crate::proofs::Turns::same_pool, crate::proofs::Turns::same_close))]
 fn calls<M: GuestMem, L: Ledger, P: GuestPort, G: Gate, R: Wait>(
     rt: &R,
     plan: &Plan,
@@ -103,10 +103,10 @@ fn calls<M: GuestMem, L: Ledger, P: GuestPort, G: Gate, R: Wait>(
     gate: &G,
 ) -> bool
     ensures all { result ≡ true
-        → port.new ≡ called_all (own_events plan.now port.old.port.pool) port.old }
+        → HasDoneAll (own_events plan.now port.old.port.pool) port.old port.new }
     ensures part { result ≡ false
         → (done : ℕ) × (done < length (own_events plan.now port.old.port.pool))
-        × (port.new ≡ called_all (take done (own_events plan.now port.old.port.pool)) port.old) }
+        × HasDoneAll (take done (own_events plan.now port.old.port.pool)) port.old port.new }
     ensures kept { (port.new.port.pool ≡ port.old.port.pool)
         × (port.new.port.is_closed ≡ port.old.port.is_closed) }
 {
@@ -137,11 +137,10 @@ pub fn driver<M: GuestMem, L: Ledger, G: Gate, R: Wait>(
 ) -> Done<L>
     requires { 64 ≤ share.caller }
     ensures all { result.was_full ≡ false →
-        result.share ≡ Some (having_asked_all (own_events plan.now share.caller) share) }
+        HasLeft (own_events plan.now share.caller) share result.share }
     ensures part { result.was_full ≡ true
         → (done : ℕ) × (done < length (own_events plan.now share.caller))
-        × (result.share
-        ≡ Some (having_asked_all (take done (own_events plan.now share.caller)) share)) }
+        × HasLeft (take done (own_events plan.now share.caller)) share result.share }
 {
     let was_full = !events(rt, plan, device, &mut share, gate);
     Done {
@@ -151,7 +150,7 @@ pub fn driver<M: GuestMem, L: Ledger, G: Gate, R: Wait>(
 }
 
 // Does the events of a share's caller, and tells whether all were done.
-#[tactic(auto, using(crate::proofs::Turns::own_may, crate::proofs::Turns::room_for, crate::proofs::Turns::asked_more, crate::proofs::First::none_asked))]
+#[tactic(auto, using(crate::proofs::Turns::own_may, crate::proofs::Turns::room_for, crate::proofs::Asks::told_more, crate::proofs::Asks::asked_none))]
 fn events<M: GuestMem, L: Ledger, G: Gate, R: Wait>(
     rt: &R,
     plan: &Plan,
@@ -161,11 +160,10 @@ fn events<M: GuestMem, L: Ledger, G: Gate, R: Wait>(
 ) -> bool
     requires { 64 ≤ share.old.caller }
     ensures all { result ≡ true
-        → share.new ≡ having_asked_all (own_events plan.now share.old.caller) share.old }
+        → HasAsked (own_events plan.now share.old.caller) share.old share.new }
     ensures part { result ≡ false
         → (done : ℕ) × (done < length (own_events plan.now share.old.caller))
-        × (share.new
-        ≡ having_asked_all (take done (own_events plan.now share.old.caller)) share.old) }
+        × HasAsked (take done (own_events plan.now share.old.caller)) share.old share.new }
 {
     let caller = share.caller();
     let mut room = Room::new();
@@ -236,8 +234,7 @@ pub fn pumping<M: GuestMem, L: Ledger, G: Gate + Drop, R: Wait>(
     ensures asked { (frames : List (List ℕ)) × (end : PumpEnd)
         × (receiver.new
         ≡ record receiver.old { received = receiver.old.received ++ pumped frames end })
-        × (result.share
-        ≡ Some (record { caller = pump; asked = door.inner.asked ++ map Wire frames }))
+        × HasLeft (map Wire frames) (record { caller = pump; asked = door.inner.asked }) result.share
         × (result.was_full ≡ is_full end) }
 {
     let was_full = match pump(receiver, rt, &mut door) {

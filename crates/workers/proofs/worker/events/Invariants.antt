@@ -1,13 +1,14 @@
 -- The events so far were asked.
 use Rattle.std.proofs.Common.{◌≡◌, ◌≤◌, length, take}
-use Rattle.device_lock.specs.Held.{having_asked_all}
+use Rattle.recorder.specs.Held.{HasAsked}
 use Rattle.workers.specs.Plans.{own_events}
 use Rattle.workers.proofs.worker.events.Given as goal
 
 abbrev pub invariant-loop-turn : goal.invariant-loop-turn
 invariant-loop-turn g l = record {
-  asked : l.share ≡ having_asked_all (take l.turn (own_events l.plan l.caller)) l.fn.share;
+  asked : HasAsked (take l.turn (own_events l.plan l.caller)) l.fn.share l.share;
   caller : l.fn.share.caller ≡ l.caller;
+  same : l.share.caller ≡ l.caller;
   high : 64 ≤ l.caller;
   read : length l.read ≡ 2048;
 }

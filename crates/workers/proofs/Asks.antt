@@ -1,0 +1,65 @@
+-- What a share asked: nothing, one call, and calls behind others.
+use Rattle.std.proofs.Common.{◌≡◌, ℕ, ◌+◌, ◌<◌, List, [], ◌∷◌, ◌++◌, length, take, refl, sym, ap, ◌∙◌, subst, append_assoc}
+use Rattle.std.specs.Prelude.{Option, Some, slice_index_or}
+use Rattle.std.proofs.lemmas.List.{append-nil, map-append, take_more}
+use Rattle.device.specs.declared.event.Event.{Event}
+use Rattle.device.specs.declared.event.Event.TheVariants.{PfReset}
+use Rattle.device.specs.declared.event.Reply.{Reply}
+use Rattle.device.specs.declared.event.Answer.{Answer}
+use Rattle.device.specs.declared.taken.Taken.{Taken}
+use Rattle.device.specs.Outcome.{reply_by}
+use Rattle.device.specs.World.{World, step}
+use Rattle.history.specs.Entries.{Entry, entry}
+use Rattle.recorder.specs.Held.{HasAsked, Mine, having_asked}
+use Rattle.recorder.specs.Read.{answer_with}
+use Rattle.wire_pump.specs.Doors.{HasTaken}
+use Rattle.workers.specs.Asked.{HasLeft, HasTold}
+use Rattle.workers.specs.Callers.{pump}
+
+pub asked_none : (m : Mine) → HasAsked [] m m
+asked_none m = record { calls = []; events = refl; more = ap (λ (xs : List Entry). record { caller = m.caller; asked = xs }) (sym (append-nil m.asked)) }
+
+pub asked_one : (e : Event) (reply : Reply) (old new : Mine) → HasTold e reply old new → HasAsked (e ∷ []) old new
+asked_one e reply old new told = record { calls = entry old.caller e told.answer ∷ []; events = refl; more = told.kept }
+
+pub asked_behind : (first next : List Event) (old mid new : Mine) → HasAsked first old mid → HasAsked next mid new → HasAsked (first ++ next) old new
+asked_behind first next old mid new before after = record {
+  calls = before.calls ++ after.calls;
+  events = map-append (λ (call : Entry). call.event) before.calls after.calls ∙ (λ i. before.events i ++ after.events i);
+  more =
+      after.more ∙ ap (λ (m : Mine). record { caller = m.caller; asked = m.asked ++ after.calls }) before.more
+      ∙ ap (λ (xs : List Entry). record { caller = old.caller; asked = xs }) (append_assoc old.asked before.calls after.calls);
+}
+
+-- the events of a list so far, and the next
+pub asked_more : (es : List Event) (k : ℕ) (e : Event) (m old new : Mine) → k < length es → e ≡ slice_index_or es k PfReset → HasAsked (take k es) m old → HasAsked (e ∷ []) old new
+    → HasAsked (take (k + 1) es) m new
+asked_more es k e m old new less is before more =
+    subst (λ (xs : List Event). HasAsked xs m new) (ap (λ (x : Event). take k es ++ x ∷ []) is ∙ sym (take_more es k PfReset less)) (asked_behind (take k es) (e ∷ []) m old new before more)
+
+pub told_more : (es : List Event) (k : ℕ) (e : Event) (reply : Reply) (m old new : Mine) → k < length es → e ≡ slice_index_or es k PfReset → HasAsked (take k es) m old → HasTold e reply old new
+    → HasAsked (take (k + 1) es) m new
+told_more es k e reply m old new less is before told = asked_more es k e m old new less is before (asked_one e reply old new told)
+
+-- the share is its caller's still
+pub same_caller : (es : List Event) (old new : Mine) → HasAsked es old new → new.caller ≡ old.caller
+same_caller es old new asked = ap (λ (m : Mine). m.caller) asked.more
+
+-- ---- one call
+
+-- the answer that a device gave stands for the reply that is told
+pub has_told : (e : Event) (bytes : List ℕ) (taken : Taken) (w : World) (old new : Mine) → new ≡ having_asked e (answer_with bytes taken) old → answer_with bytes taken ≡ (step w e).answer
+    → HasTold e (reply_by (λ span. bytes) taken.outcome) old new
+has_told e bytes taken w old new kept given = record { answer = answer_with bytes taken; kept = kept; told = refl; given = (w, given) }
+
+pub has_asked : (e : Event) (answer : Answer) (old new : Mine) → new ≡ having_asked e answer old → HasAsked (e ∷ []) old new
+has_asked e answer old new kept = record { calls = entry old.caller e answer ∷ []; events = refl; more = kept }
+
+-- ---- what is left of a share
+
+pub has_left : (es : List Event) (old new : Mine) (left : Option Mine) → left ≡ Some new → HasAsked es old new → HasLeft es old left
+has_left es old new left is asked = (new, is, asked)
+
+-- what the pump's door took, its share asked
+pub door_asked : (es : List Event) (before : List Entry) (new : Mine) → new.caller ≡ pump → HasTaken es before new.asked → HasAsked es (record { caller = pump; asked = before }) new
+door_asked es before new is taken = record { calls = taken.calls; events = taken.events; more = λ i. record { caller = is i; asked = taken.more i } }

@@ -1,8 +1,7 @@
 -- Placing is the definition's where there are too few descriptors.
-use Rattle.std.proofs.Common.{◌≡◌, ℕ, ◌+◌, ◌-◌, ◌/◌, List, sym, ap, ◌∙◌, arith}
-use Rattle.rx_desc.specs.Receive.{Delivery, deliver_pieces}
-use Rattle.rx_desc.specs.Parts.{text_of}
-use Rattle.rx_desc.proofs.Pieces.{deliver-no_room, pieces-one}
+use Rattle.std.proofs.Common.{◌≡◌, ℕ, ◌+◌, ◌-◌, ◌/◌, sym, ap, arith}
+use Rattle.rx_desc.specs.Receive.{Delivery}
+use Rattle.rx_desc.proofs.Pieces.{deliver-no_room}
 use Rattle.rx_desc.proofs.any_memory.place_pieces.Goals as goal
 
 counted : (b : ℕ) {l k : ℕ} → l ≡ k → (l + b - 1) / b ≡ (k + b - 1) / b

@@ -11,7 +11,7 @@
 use anyhow::{Result, anyhow};
 use guest_memory::{FlatMem, GuestMem};
 use rings::{Ring, RingRegister};
-use rx_desc::{Placed, RxConfig, place};
+use rx_desc::{Placed, RxConfig, place_in};
 use std::alloc::Global;
 use std::env;
 use tx_desc::Progress;
@@ -62,7 +62,7 @@ fn place_many<M: GuestMem>(mut memory: M, frame: &FrameBuf, strip_tag: bool, tur
         if turn % GIVEN == 0 {
             ring.set_tail(tail_at(turn));
         }
-        if place(&mut memory, &mut ring, &config, frame, turn % 2 == 1) == Placed::Put {
+        if place_in(&mut memory, &mut ring, &config, frame, turn % 2 == 1) == Placed::Put {
             put = put.wrapping_add(1);
         }
     }

@@ -28,6 +28,24 @@ fn the_lender_has_what_was_written(rt: HostRuntime) {
     assert_equal(&rt, cells[4092], 7);
 }
 
+// Writes two words, one of them again, and reads a word that lies over the first one's beginning, and both.
+fn write_and_read_words<M: GuestMem>(memory: &mut M) -> (u64, (u64, u64))
+    requires { 128 ≤ length (M.bytes memory.old) }
+{
+    memory.write_words(8, 1, 2);
+    memory.write_word(16, 3);
+    (memory.read_word(4), memory.read_words(8))
+}
+
+#[test]
+fn words_are_bytes_of_the_lender(rt: HostRuntime) {
+    let mut cells = [7u8; 128];
+    let mut memory = LentMem::new(&mut cells);
+    assert_eq!(rt; memory.size(), 128);
+    let words = write_and_read_words(&mut memory);
+    assert_equal(&rt, words, (0x1_0707_0707, (1, 3)));
+}
+
 #[test]
 fn cleared_bytes_are_zero_for_the_lender(rt: HostRuntime) {
     let mut cells = [7u8; 128];

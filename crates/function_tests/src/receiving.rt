@@ -8,7 +8,7 @@ use crate::compare::{assert_equal, assert_equal_at};
 use guest_memory::{FlatMem, GuestMem, read_bytes, read_word, write_word};
 use rings::{Ring, RingRegister};
 use rx_desc::laws::pieces_are_the_only_cut;
-use rx_desc::{Placed, RxConfig, place};
+use rx_desc::{Placed, RxConfig, place, place_in};
 use std::alloc::Global;
 use std::process::Abort;
 use std::test::Fail;
@@ -127,7 +127,7 @@ fn two_pieces(rt: HostRuntime) -> Result<(), Fail> {
         let mut memory = memory_of(&rt, rt.alloc(), 7, FIRST, second)?;
         let before = image(rt.alloc(), &memory)?;
         let frame = frame_of(PLAIN, 1518)?;
-        let outcome = place(&mut memory, &mut ring, &queue(KEEP), &frame, false);
+        let outcome = place_in(&mut memory, &mut ring, &queue(KEEP), &frame, false);
         assert_eq!(rt; memory.size(), 65536);
         let after = (
             outcome,
@@ -189,7 +189,7 @@ fn written_back(rt: HostRuntime) -> Result<(), Fail> {
         let mut ring = ring_of(8, 0, 7);
         let mut memory = memory_of(&rt, rt.alloc(), 0, FIRST, SECOND)?;
         let frame = frame_of(start, len)?;
-        let outcome = place(&mut memory, &mut ring, &queue(strip), &frame, loopback);
+        let outcome = place_in(&mut memory, &mut ring, &queue(strip), &frame, loopback);
         assert_eq!(rt; memory.size(), 65536);
         let after = (
             outcome,
@@ -275,7 +275,7 @@ fn bytes_in_memory(rt: HostRuntime) -> Result<(), Fail> {
         let mut ring = ring_of(8, 0, 2);
         let mut memory = memory_of(&rt, rt.alloc(), 0, first, second)?;
         let frame = frame_of(start, len)?;
-        let outcome = place(&mut memory, &mut ring, &queue(strip), &frame, false);
+        let outcome = place_in(&mut memory, &mut ring, &queue(strip), &frame, false);
         assert_equal_at(&rt, outcome, Placed::Put, first);
         for (at, word) in words {
             assert_eq!(rt; memory.size(), 65536);
@@ -303,7 +303,7 @@ fn nine_pieces(rt: HostRuntime) -> Result<(), Fail> {
         }
         assert_eq!(rt; memory.size(), 65536);
         let frame = frame_of(PLAIN, 9018)?;
-        let outcome = place(&mut memory, &mut ring, &queue(KEEP), &frame, false);
+        let outcome = place_in(&mut memory, &mut ring, &queue(KEEP), &frame, false);
         assert_equal(&rt, outcome, placed);
         assert_eq!(rt; memory.size(), 65536);
         for i in 0..8 {
@@ -311,6 +311,30 @@ fn nine_pieces(rt: HostRuntime) -> Result<(), Fail> {
         }
         assert_equal(&rt, read_word(&memory, RING + 16 * 8 + 8), last_word);
         assert_equal(&rt, ring.read(RingRegister::Head), head);
+    }
+    Ok(())
+}
+
+/// A tagged frame of 1518 bytes, whose tag is stripped, in two pieces of a memory of any kind.
+#[test]
+fn two_pieces_in_any_memory(rt: HostRuntime) -> Result<(), Fail> {
+    let mut ring = ring_of(8, 0, 2);
+    let mut memory = memory_of(&rt, rt.alloc(), 0, FIRST, SECOND)?;
+    let frame = frame_of(TAGGED, 1518)?;
+    let outcome = place(&mut memory, &mut ring, &queue(STRIP), &frame, true);
+    assert_equal(&rt, outcome, Placed::Put);
+    assert_equal(&rt, ring.read(RingRegister::Head), 2);
+    assert_eq!(rt; memory.size(), 65536);
+    for (place, word) in [
+        (RING + 8, 0x0400_0004_0001),
+        (RING + 24, 0x0064_01EA_0004_000B),
+        (FIRST, 0x0002_0300_0000_0002),
+        (FIRST + 8, 0xAAAA_0008_9900_0000),
+        (SECOND + 0x1E2, 0xAAAA_AAAA_AAAA_AAAA),
+        (SECOND + 0x1EA, 0),
+    ] {
+        assert!(rt; place <= SIZE - 8);
+        assert_equal_at(&rt, read_word(&memory, place), word, place);
     }
     Ok(())
 }

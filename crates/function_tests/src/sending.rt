@@ -10,7 +10,7 @@ use std::alloc::Global;
 use std::iter;
 use std::process::Abort;
 use std::test::Fail;
-use tx_desc::{Fetched, Pending, Progress, fetch, fetch_into};
+use tx_desc::{Fetched, Pending, Progress, fetch, fetch_in, fetch_into};
 use wire_frame::{Fault, FrameBuf, FrameLimit, PortVlan};
 
 /// The size of the memory.
@@ -151,7 +151,7 @@ fn frames_under_port_rules(rt: HostRuntime) -> Result<(), Fail> {
         let mut ring = ring_of(1);
         let mut pending = Pending::new(rt.alloc())?;
         let limit = FrameLimit::standard();
-        match fetch(&mut memory, &mut ring, &mut pending, rule, limit) {
+        match fetch_in(&mut memory, &mut ring, &mut pending, rule, limit) {
             (Fetched::Frame(frame), true) => assert!(rt;
                 is_padded(&frame, start, len),
                 "{rule:?} {word:x}"
@@ -199,16 +199,16 @@ fn two_descriptors(rt: HostRuntime) -> Result<(), Fail> {
         write_words(&mut memory, RING + 16, SECOND, 0x2930_0258);
         let mut ring = ring_of(2);
         let mut pending = Pending::new(rt.alloc())?;
-        let (first, reported) = fetch(&mut memory, &mut ring, &mut pending, rule, limit);
+        let (first, reported) = fetch_in(&mut memory, &mut ring, &mut pending, rule, limit);
         assert_equal_at(&rt, (first, reported), (Fetched::More, true), most);
-        let (second, reported) = fetch(&mut memory, &mut ring, &mut pending, rule, limit);
+        let (second, reported) = fetch_in(&mut memory, &mut ring, &mut pending, rule, limit);
         assert!(rt; reported, "under {most}");
         match (second, len) {
             (Fetched::Frame(frame), Some(len)) => assert!(rt; is_padded(&frame, PLAIN, len)),
             (Fetched::Dropped, None) => {}
             _ => assert!(rt; false, "under {most}"),
         }
-        let (third, reported) = fetch(&mut memory, &mut ring, &mut pending, rule, limit);
+        let (third, reported) = fetch_in(&mut memory, &mut ring, &mut pending, rule, limit);
         assert_equal_at(&rt, (third, reported), (Fetched::Idle, false), most);
     }
     Ok(())
@@ -271,9 +271,9 @@ fn frames_in_turn(rt: HostRuntime) -> Result<(), Fail> {
             0x2930_0000 + u64::from(second),
         );
         let mut ring = ring_of(2);
-        let (more, _) = fetch(&mut memory, &mut ring, &mut pending, rule, limit);
+        let (more, _) = fetch_in(&mut memory, &mut ring, &mut pending, rule, limit);
         assert_equal_at(&rt, more, Fetched::More, first);
-        let (ended, _) = fetch(&mut memory, &mut ring, &mut pending, rule, limit);
+        let (ended, _) = fetch_in(&mut memory, &mut ring, &mut pending, rule, limit);
         let Fetched::Frame(frame) = ended else {
             return Err("no frame")?;
         };
@@ -284,5 +284,32 @@ fn frames_in_turn(rt: HostRuntime) -> Result<(), Fail> {
             "of {first}"
         );
     }
+    Ok(())
+}
+
+/// Two descriptors of a memory of any kind: the first has the addresses and the type, and the second what follows.
+#[test]
+fn two_descriptors_of_any_memory(rt: HostRuntime) -> Result<(), Fail> {
+    let mut memory = memory_of(&rt, rt.alloc(), PLAIN, FIRST, 0x2830_000E)?;
+    write_words(&mut memory, RING + 16, SECOND, 0x2930_002E);
+    let mut ring = ring_of(2);
+    let mut pending = Pending::new(rt.alloc())?;
+    let rule = PortVlan::Always(100);
+    let limit = FrameLimit::standard();
+    let first = fetch(&mut memory, &mut ring, &mut pending, rule, limit);
+    assert_equal(&rt, first, (Fetched::More, true));
+    let (second, reported) = fetch(&mut memory, &mut ring, &mut pending, rule, limit);
+    assert!(rt; reported);
+    match second {
+        Fetched::Frame(frame) => assert!(rt; is_padded(&frame, TAGGED_100, 64)),
+        _ => assert!(rt; false),
+    }
+    assert_eq!(rt; memory.size(), 65536);
+    let words = (
+        read_word(&memory, RING + 8),
+        read_word(&memory, RING + 24),
+        ring.read(RingRegister::Head),
+    );
+    assert_equal(&rt, words, (0x1_2830_000E, 0x1_2930_002E, 2));
     Ok(())
 }

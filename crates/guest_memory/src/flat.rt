@@ -103,7 +103,7 @@ impl FlatMem {
         let cells = self.cells.as_slice();
         let at = place_of(&self.table, start / PAGE) as usize * PAGE + start % PAGE;
         if at < cells.len() {
-            copy_to(out, &cells[at..at + out.len()]);
+            out.copy_from_slice(&cells[at..at + out.len()]);
         } else {
             blank(out);
         }
@@ -423,7 +423,7 @@ fn write_within(cells: &mut Vec<u8>, start: usize, source: &[u8])
     ensures capacity { vec_capacity cells.new ≡ vec_capacity cells.old }
 {
     let cells = cells.as_mut_slice();
-    copy_to(&mut cells[start..start + source.len()], source);
+    cells[start..start + source.len()].copy_from_slice(source);
 }
 
 // Writes a word over the cells from `start` on.
@@ -448,17 +448,4 @@ fn write_words_within(cells: &mut Vec<u8>, start: usize, low: u64, high: u64)
 {
     let cells = cells.as_mut_slice();
     put_words(&mut cells[start..start + 16], low, high);
-}
-
-// Copies as many bytes as there is room for. A word and two words of a descriptor go as moves.
-#[inline]
-fn copy_to(out: &mut [u8], source: &[u8])
-    requires { length out.old ≡ length source.now }
-    ensures { out.new ≡ source.now }
-{
-    match source.len() {
-        8 => out[..8].copy_from_slice(&source[..8]),
-        16 => out[..16].copy_from_slice(&source[..16]),
-        _ => out.copy_from_slice(source),
-    }
 }

@@ -12,7 +12,7 @@ use rings::Ring;
 use wire_frame::FrameBuf;
 
 /// The most buffers that a frame of 9018 bytes fills, at the least size of a buffer.
-const MOST_PIECES: usize = 9;
+pub(crate) const MOST_PIECES: usize = 9;
 /// Status: the descriptor is done (82599 datasheet, DD).
 const DONE: u64 = 1;
 /// Status: the frame ends here (EOP).
@@ -47,9 +47,10 @@ pub enum Placed {
 }
 
 /// Places `frame` in the buffers of the ring's next descriptors, and writes these back (82599 datasheet, advanced receive
-/// descriptors, read and write-back format). `loopback` says that another pool sent it.
+/// descriptors, read and write-back format). `loopback` says that another pool sent it. The memory's type is known where it is
+/// called; [`place`](crate::place) takes one of any kind behind a reference.
 #[inline]
-pub fn place<M: GuestMem>(
+pub fn place_in<M: GuestMem>(
     memory: &mut M,
     ring: &mut Ring,
     config: &RxConfig,
@@ -73,7 +74,7 @@ pub fn place<M: GuestMem>(
     place_within(memory, memory_size, ring, config, frame, loopback)
 }
 
-/// Places a frame as [`place`] does, of a memory whose size the caller knows.
+/// Places a frame as [`place_in`] does, of a memory whose size the caller knows.
 #[inline]
 #[tactic(auto, unfolding(crate::specs::Receive::deliver))]
 pub fn place_within<M: GuestMem>(
@@ -115,7 +116,7 @@ pub fn place_within<M: GuestMem>(
 
 // The bytes of a frame that are placed, and the tag that was taken off it, where it is to be stripped and has one.
 #[inline]
-fn without_tag(strip_tag: bool, frame: &FrameBuf) -> (Parts<'_>, Option<u16>)
+pub(crate) fn without_tag(strip_tag: bool, frame: &FrameBuf) -> (Parts<'_>, Option<u16>)
     ensures text { text_of result.0 ≡ data_of strip_tag frame.now }
     ensures tag { result.1 ≡ tag_taken strip_tag frame.now }
     ensures some { 1 ≤ length (text_of result.0) }
@@ -366,7 +367,7 @@ fn write_back<M: GuestMem>(
 // The second word of a descriptor that is written back.
 #[inline]
 #[tactic(auto, unfolding(crate::specs::Receive::status))]
-fn status(len: u64, loopback: bool, tag: Option<u16>, last: bool) -> u64
+pub(crate) fn status(len: u64, loopback: bool, tag: Option<u16>, last: bool) -> u64
     requires { len ≤ 9018 }
     ensures { result ≡ status_of loopback tag last len }
 {

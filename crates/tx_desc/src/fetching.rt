@@ -217,8 +217,9 @@ fn take_whole<M: GuestMem>(
 }
 
 /// Takes the one descriptor at the head of the ring, if there is one, and answers what came of it and whether the
-/// descriptor was written back. It is [`fetch_into`] with the ended frame in the answer; that one moves fewer bytes.
-pub fn fetch<M: GuestMem>(
+/// descriptor was written back. It is [`fetch_into`] with the ended frame in the answer; that one moves fewer bytes. The
+/// memory's type is known where it is called; [`fetch`](crate::fetch) takes one of any kind behind a reference.
+pub fn fetch_in<M: GuestMem>(
     memory: &mut M,
     ring: &mut Ring,
     pending: &mut Pending,

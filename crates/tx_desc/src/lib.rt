@@ -3,19 +3,23 @@
 //! [`fetch_into`] takes the descriptor at the head of a ring: it gathers the bytes of the frame that is being sent, writes
 //! the descriptor back where the driver asks for it, and at the last descriptor of a frame ends it under the port's VLAN
 //! rule and the limit on frames (82599 datasheet, transmit descriptors). All of it is one definition, `fetch` in `specs/`;
-//! [`fetch`] is the same with the frame in the answer. The bytes of a frame go straight from the guest's memory into
-//! [`Pending`], or into the lent frame where one descriptor is all of it. Nothing is asked of the descriptor: whatever the
-//! guest wrote there, the call returns. No call takes memory but [`Pending::new`].
+//! [`fetch_in`] is the same with the frame in the answer, and [`fetch`] that of a memory of any kind behind one reference.
+//!
+//! The bytes of a frame go straight from the guest's memory into [`Pending`], or into the lent frame where one descriptor is all
+//! of it. Nothing is asked of the descriptor: whatever the guest wrote there, the call returns. No call takes memory but
+//! [`Pending::new`].
 //!
 //! The crate stands on `rings`, `guest_memory` and `wire_frame`.
 #![tactic(auto)]
 
+pub mod any_memory;
 mod descriptor;
 pub mod fetching;
 pub mod outcome;
 pub mod pending;
 mod stretch;
 
-pub use fetching::{fetch, fetch_into, fetch_within};
+pub use any_memory::fetch;
+pub use fetching::{fetch_in, fetch_into, fetch_within};
 pub use outcome::{Fetched, Progress, Served};
 pub use pending::Pending;

@@ -86,6 +86,32 @@ impl Pending {
         self.len = end;
     }
 
+    // Joins bytes as `join` does, of a memory of any kind.
+    #[tactic(auto, unfolding(crate::specs::Transmit::joined))]
+    pub(crate) fn join_any(
+        &mut self,
+        memory: &dyn GuestMem,
+        at: u64,
+        size: usize,
+        limit: FrameLimit,
+    )
+        requires { at + size ≤ length (bytes memory.now) }
+        ensures { self.new
+            ≡ joined limit self.old (slice_range (bytes memory.now) at (at + size)) }
+    {
+        let most = usize::from(limit.get());
+        if self.is_overlong || size > most || self.len > most - size {
+            self.is_overlong = true;
+            return;
+        }
+        let end = self.len + size;
+        if end > self.cells.len() {
+            reach(&mut self.cells, end);
+        }
+        memory.read_at(at, &mut self.cells[self.len..end]);
+        self.len = end;
+    }
+
     // Ends the frame under the last descriptor, and tells whether it is a frame; then `frame` is it, else what it was.
     #[tactic(auto, unfolding(crate::specs::Transmit::ended))]
     pub(crate) fn end(

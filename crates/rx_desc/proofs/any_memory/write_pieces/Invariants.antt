@@ -1,0 +1,17 @@
+-- The writes that are left fit, and lead from the memory now to the one that all writes give.
+use Rattle.std.proofs.Common.{◌≡◌, length, false}
+use Rattle.rx_desc.specs.Receive.{cut, zip_writes, passes_end}
+use Rattle.rx_desc.specs.Parts.{text_of}
+use Rattle.guest_memory.specs.Memory.{write_all}
+use Rattle.rx_desc.proofs.Pieces.{rest_writes}
+use Rattle.rx_desc.proofs.any_memory.write_pieces.Given as goal
+
+abbrev pub invariant-loop-i : goal.invariant-loop-i
+invariant-loop-i g l =
+    let now = (goal.GuestMem-dyn g l.memory.now).bytes l.memory.now.1 in
+    let first = (goal.GuestMem-dyn g l.initial.memory.now).bytes l.initial.memory.now.1 in
+    record {
+      size : length now ≡ length first;
+      fits : passes_end (length first) (rest_writes l.addresses l.size l.count l.i (text_of l.rest)) ≡ false;
+      written : write_all (rest_writes l.addresses l.size l.count l.i (text_of l.rest)) now ≡ write_all (zip_writes l.addresses (cut l.size l.count (text_of l.source))) first;
+    }

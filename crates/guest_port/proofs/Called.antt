@@ -3,12 +3,11 @@ use Rattle.std.proofs.Common.{◌≡◌, List, [], ◌∷◌, ◌++◌, length, 
 use Rattle.std.proofs.Math.Seq.{drop-append_seam}
 use Rattle.device.specs.declared.event.Event.{Event}
 use Rattle.device.specs.declared.event.Answer.{Answer}
-use Rattle.device.specs.declared.event.Reply.{Reply}
 use Rattle.history.specs.Entries.{Entry, entry}
 use Rattle.recorder.specs.Held.{Mine, having_asked, having_calls}
 use Rattle.device_lock.specs.Answers.{MayAnswer}
 use Rattle.guest_port.specs.Port.{Port}
-use Rattle.guest_port.specs.Calls.{CallingPort, HasCalled, asked_since}
+use Rattle.guest_port.specs.Calls.{HasCalled, asked_since}
 
 -- the calls behind those that a share began with
 more_since : (first last new : Mine) (e : Event) (a : Answer) → last ≡ having_calls (asked_since first last) first → new ≡ having_asked e a last
@@ -40,7 +39,3 @@ has_called port first last new e a is more may = record {
   told = refl;
   given = may;
 }
-
--- the same of a reply that is equal
-pub called_as : (e : Event) (r s : Reply) (old new : CallingPort) → HasCalled e r old new → s ≡ r → HasCalled e s old new
-called_as e r s old new called is = record { answer = called.answer; kept = called.kept; told = called.told ∙ sym is; given = called.given }

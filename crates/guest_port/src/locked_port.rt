@@ -280,7 +280,7 @@ impl<M: GuestMem, L: Ledger, P: GuestPort> LockedPort<M, L, P> {
 
     // What comes of an event that the port may make; None where the device can keep no more. Bytes that are read stand at the
     // front of `read`.
-    #[tactic(auto, using(crate::proofs::Called::has_called, crate::proofs::Called::still_since))]
+    #[tactic(auto, using(crate::proofs::Called::still_since))]
     fn ask<R: Wait>(&mut self, rt: &R, request: Request<'_>, read: &mut [u8]) -> Option<Outcome>
         requires open { self.old.port.is_closed ≡ false }
         requires may { may self.old.port.pool (event_of request) ≡ true }

@@ -31,20 +31,20 @@ taken_then es fs first mid last before after = record {
 }
 
 -- one frame more
-pub frame_taken : (frames : List (List ℕ)) (frame : List ℕ) (first mid last : List Entry) → HasTaken (map Wire frames) first mid → HasTaken (Wire frame ∷ []) mid last
-    → HasTaken (map Wire (frames ++ frame ∷ [])) first last
-frame_taken frames frame first mid last before after = record {
+pub frame_taken : (frames : List (List ℕ)) (frame : List ℕ) (first mid : List Entry) → HasTaken (map Wire frames) first mid
+    → (last : List Entry) (given : List ℕ) → HasTaken (Wire given ∷ []) mid last → given ≡ frame → HasTaken (map Wire (frames ++ frame ∷ [])) first last
+frame_taken frames frame first mid before last given after same = record {
   calls = both.calls;
-  events = both.events ∙ sym (map-append Wire frames (frame ∷ []));
+  events = both.events ∙ ap (λ (f : List ℕ). map Wire frames ++ Wire f ∷ []) same ∙ sym (map-append Wire frames (frame ∷ []));
   more = both.more;
 }
   where
-    both : HasTaken (map Wire frames ++ Wire frame ∷ []) first last
-    both = taken_then (map Wire frames) (Wire frame ∷ []) first mid last before after
+    both : HasTaken (map Wire frames ++ Wire given ∷ []) first last
+    both = taken_then (map Wire frames) (Wire given ∷ []) first mid last before after
 
 -- nothing more
-pub no_frame_taken : (frames : List (List ℕ)) (first mid last : List Entry) → HasTaken (map Wire frames) first mid → HasTaken [] mid last → HasTaken (map Wire frames) first last
-no_frame_taken frames first mid last before after = record {
+pub no_frame_taken : (frames : List (List ℕ)) (first mid : List Entry) → HasTaken (map Wire frames) first mid → (last : List Entry) → HasTaken [] mid last → HasTaken (map Wire frames) first last
+no_frame_taken frames first mid before last after = record {
   calls = both.calls;
   events = both.events ∙ append-nil (map Wire frames);
   more = both.more;

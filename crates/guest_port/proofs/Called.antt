@@ -8,7 +8,7 @@ use Rattle.history.specs.Entries.{Entry, entry}
 use Rattle.recorder.specs.Held.{Mine, having_asked, having_calls}
 use Rattle.device_lock.specs.Answers.{MayAnswer}
 use Rattle.guest_port.specs.Port.{Port}
-use Rattle.guest_port.specs.Calls.{CallingPort, HasCalled, asked_since, having_called}
+use Rattle.guest_port.specs.Calls.{CallingPort, HasCalled, asked_since}
 
 -- the calls behind those that a share began with
 more_since : (first last new : Mine) (e : Event) (a : Answer) → last ≡ having_calls (asked_since first last) first → new ≡ having_asked e a last

@@ -25,11 +25,11 @@ use wire_frame::{Fault, FrameBuf};
 
 /// A port with the device behind it: what a guest has of its virtual function. The calls that take a handle wait for the
 /// device's lock. Each of them is one event of the port's own pool, which the device keeps with its answer and which counts
-/// as a call made, also where it is refused: what it answers is the reply that is kept. They are refused, and nothing is kept, as [`Fault::NotOpen`] once the port has
-/// ended, and as [`Fault::HistoryFull`] where the device can keep no more.
+/// as a call made, also where it is refused: what the call answers is the reply that is kept. They are refused, and nothing
+/// is kept, as [`Fault::NotOpen`] once the port has ended, and as [`Fault::HistoryFull`] where the device can keep no more.
 ///
-/// Contracts see the port, its share as it was when the port was made, and its calls since, each with
-/// its event and its answer. No call takes memory.
+/// Contracts see the port, its share as it was when the port was made, and its calls since, each with its event and its
+/// answer. No call takes memory.
 #[derive(Drop)]
 pub struct LockedPort<M: GuestMem, L: Ledger, P: GuestPort> {
     device: Arc<LockedDevice<M, L>>,
@@ -298,10 +298,10 @@ impl<M: GuestMem, L: Ledger, P: GuestPort> LockedPort<M, L, P> {
             .device
             .act_request(rt, share, request, &mut self.room, read);
         self.last = Shadow::of(share);
-        match taken {
-            Some(taken) => Some(taken.outcome),
-            None => None,
-        }
+        let Some(taken) = taken else {
+            return None;
+        };
+        Some(taken.outcome)
     }
 }
 

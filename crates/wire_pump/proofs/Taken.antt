@@ -4,10 +4,13 @@ use Rattle.std.proofs.lemmas.List.{append-nil, map-append}
 use Rattle.device.specs.declared.event.Event.{Event}
 use Rattle.device.specs.declared.event.Event.TheVariants.{Wire}
 use Rattle.device.specs.declared.event.Answer.{Answer}
-use Rattle.history.specs.Entries.{Entry, entry, events}
+use Rattle.history.specs.Entries.{Entry, entry}
 use Rattle.recorder.specs.Held.{Mine, having_asked}
 use Rattle.device_lock.specs.Answers.{MayAnswer, HasAskedOne}
+use Rattle.wire_pump.specs.declared.message.WireMsg.{WireMsg}
+use Rattle.wire_pump.specs.declared.message.WireMsg.TheVariants.{Frame}
 use Rattle.wire_pump.specs.Doors.{HasTaken}
+use Rattle.wire_pump.specs.Ends.{ReceiveEnd}
 
 pub none_taken : (old new : List Entry) → new ≡ old → HasTaken [] old new
 none_taken old new same = record { calls = []; events = refl; more = same ∙ sym (append-nil old) }
@@ -49,3 +52,13 @@ no_frame_taken frames first mid last before after = record {
   where
     both : HasTaken (map Wire frames ++ []) first last
     both = taken_then (map Wire frames) [] first mid last before after
+
+-- ---- what was received
+
+-- one message more stands behind the frames so far
+pub one_behind : (first mid new : ReceiveEnd) (frames : List (List ℕ)) (message : WireMsg) (frame : List ℕ) → mid ≡ record first { received = first.received ++ map Frame frames }
+    → new ≡ record mid { received = mid.received ++ message ∷ [] } → message ≡ Frame frame → new ≡ record first { received = first.received ++ (map Frame frames ++ Frame frame ∷ []) }
+one_behind first mid new frames message frame is more same =
+    more ∙ ap (λ (m : WireMsg). record mid { received = mid.received ++ m ∷ [] }) same
+    ∙ ap (λ (r : ReceiveEnd). record r { received = r.received ++ Frame frame ∷ [] }) is
+    ∙ ap (λ (ms : List WireMsg). record first { received = ms }) (append_assoc first.received (map Frame frames) (Frame frame ∷ []))

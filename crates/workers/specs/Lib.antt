@@ -10,3 +10,4 @@ pub mod Ends
 pub mod Opens
 pub mod Duties
 pub mod Work
+pub mod Run

@@ -1,15 +1,16 @@
 -- What many workers did, one by one, and whose the shares are that they leave.
 use Rattle.std.proofs.Common.{◌≡◌, ℕ, ◌+◌, ◌<◌, false, List, [], ◌∷◌, ◌++◌, length, map, refl, sym, ap, ◌∙◌, get_or, set, subst, take, append_assoc, arith, true, Bool}
-use Rattle.std.specs.Prelude.{None, Option, Some, slice_index_or, slice_set}
+use Rattle.std.specs.Prelude.{IfSome, MatchOption, None, Option, Some, slice_index_or, slice_set}
 use Rattle.std.proofs.lemmas.List.{append-nil, length-append, map-append, take_more}
 use Rattle.std.proofs.Math.Seq.{get_or-append_seam, set-append_seam}
 use Rattle.device.specs.declared.event.Event.{Event}
 use Rattle.device.specs.declared.event.Event.TheVariants.{Wire}
-use Rattle.recorder.specs.Held.{HasAsked, Mine, left_of}
+use Rattle.recorder.specs.Held.{HasAsked, Mine, having_calls, left_of}
 use Rattle.recorder.specs.declared.shares.Shares.{Shares}
 use Rattle.guest_port.specs.Calls.{CallingPort}
 use Rattle.guest_port.specs.Notes.{Known}
 use Rattle.workers.specs.Asked.{HasLeft}
+use Rattle.workers.specs.Calls.{HasClosed}
 use Rattle.workers.specs.Callers.{pf, pump, service}
 use Rattle.workers.specs.Duties.{AreDone, Duty, HaveDone, IsDone, OfPort, OfPump, OfReader, OfShare, port_duty}
 use Rattle.workers.specs.Plans.{Planned, own_events}
@@ -29,6 +30,12 @@ none_left duty old new done same = record { left = None ∷ []; done = (done, tt
 
 pub pump_done : (frames : List (List ℕ)) (share : Mine) (left : Option Mine) → share.caller ≡ pump → HasLeft (map Wire frames) (record { caller = pump; asked = share.asked }) left → IsDone (OfPump share) left
 pump_done frames share left is done = (frames, subst (λ (c : ℕ). HasLeft (map Wire frames) (record { caller = c; asked = share.asked }) left) (sym is) done)
+
+-- what a port's worker says of it
+pub handed_back : (plan : Planned) (old new : CallingPort) (left : Option Mine) → HasClosed (own_events plan old.port.pool) old new
+    → MatchOption left (old.port.is_closed ≡ true) (λ share. (old.port.is_closed ≡ false) × (share.caller ≡ old.port.pool)) → IfSome left (λ share. share ≡ having_calls new.calls new.made) → IsDone (OfPort plan old) left
+handed_back plan old new None done seat calls = record { new = new; done = done; share = seat }
+handed_back plan old new (Some share) done seat calls = record { new = new; done = done; share = (seat.0, seat.1, calls) }
 
 -- ---- many
 
@@ -72,6 +79,15 @@ all_duties plan ports shares pf_share pump_share service_share none guests with_
     ∙ (ap (λ (xs : List Duty). (xs ++ OfReader ∷ []) ++ s ∷ []) (append_assoc ds (p ∷ []) (q ∷ [])) ∙ ap (λ (xs : List Duty). xs ++ s ∷ []) (append_assoc ds (p ∷ q ∷ []) (OfReader ∷ [])) ∙ append_assoc ds (p ∷ q ∷ OfReader ∷ []) (s ∷ []))
     ∙ (λ i. ds ++ OfShare plan (is_pf i) ∷ OfPump (is_pump i) ∷ OfReader ∷ OfShare plan (is_service i) ∷ [])
 
+-- what one worker more did
+pub worked_more : {X : Type 0} (xs : List X) (x : X) (duty : X → Duty) (old mid new : List Mine) → HaveDone (map duty xs) old mid → HaveDone (duty x ∷ []) mid new → HaveDone (map duty (xs ++ x ∷ [])) old new
+worked_more xs x duty old mid new before more = subst (λ (ds : List Duty). HaveDone ds old new) (sym (map-append duty xs (x ∷ []))) (done_more (map duty xs) (duty x ∷ []) old mid new before more)
+
+pub done_with : {L : Type 0} (plan now : Planned) (ports : List (CallingPort × Known)) (shares : Shares L) (all : List Duty) (back new : List Mine) → now ≡ plan → all ≡ duties_of now ports shares → back ≡ left_of shares.ports.items → HaveDone all back new
+    → HaveDone (duties_of plan ports shares) (left_of shares.ports.items) new
+done_with plan now ports shares all back new is duties others done =
+    subst (λ (ds : List Duty). HaveDone ds (left_of shares.ports.items) new) (duties ∙ ap (λ (p : Planned). duties_of p ports shares) is) (subst (λ (ms : List Mine). HaveDone all ms new) others done)
+
 -- ---- whose the shares are
 
 record Split (duties more : List Duty) (all : List (Option Mine)) : Type 0 where
@@ -79,17 +95,17 @@ record Split (duties more : List Duty) (all : List (Option Mine)) : Type 0 where
   pub rest : List (Option Mine)
   pub is : all ≡ left ++ rest
   pub done : AreDone duties left
-  pub more : AreDone more rest
+  pub also : AreDone more rest
 
 split_done : (duties more : List Duty) (all : List (Option Mine)) → AreDone (duties ++ more) all → Split duties more all
-split_done [] more all are = record { left = []; rest = all; is = refl; done = tt; more = are }
+split_done [] more all are = record { left = []; rest = all; is = refl; done = tt; also = are }
 split_done (d ∷ duties) more [] are = absurd are
 split_done (d ∷ duties) more (l ∷ all) are =
     let s = split_done duties more all are.1 in
-    record { left = l ∷ s.left; rest = s.rest; is = ap (λ (ms : List (Option Mine)). l ∷ ms) s.is; done = (are.0, s.done); more = s.more }
+    record { left = l ∷ s.left; rest = s.rest; is = ap (λ (ms : List (Option Mine)). l ∷ ms) s.is; done = (are.0, s.done); also = s.also }
 
 -- the shares of the four workers that have no port
-record Four (plan : Planned) (pf_share pump_share service_share : Mine) (left : List (Option Mine)) : Type 0 where
+pub record Four (plan : Planned) (pf_share pump_share service_share : Mine) (left : List (Option Mine)) : Type 0 where
   pub pf_left : Mine
   pub pf_asked : HasAsked (own_events plan pf_share.caller) pf_share pf_left
   pub frames : List (List ℕ)
@@ -125,12 +141,12 @@ pub record IsRun {L : Type 0} (plan : Planned) (ports : List (CallingPort × Kno
   pub all : now ≡ (left_of shares.ports.items ++ left_of left ++ others.pf_left ∷ others.pump_left ∷ []) ++ others.service_left ∷ []
 
 last_apart : (front left : List Mine) (a b c : Mine) → front ++ left ++ a ∷ b ∷ c ∷ [] ≡ (front ++ left ++ a ∷ b ∷ []) ++ c ∷ []
-last_apart front left a b c = ap (λ (ms : List Mine). front ++ ms) (sym (append_assoc left (a ∷ b ∷ []) (c ∷ []))) ∙ sym (append_assoc front (left ++ a ∷ b ∷ []) (c ∷ []))
+last_apart front left a b c = sym (append_assoc (front ++ left) (a ∷ b ∷ []) (c ∷ []))
 
 pub is_run : {L : Type 0} (plan : Planned) (ports : List (CallingPort × Known)) (shares : Shares L) (now : List Mine) → HaveDone (duties_of plan ports shares) (left_of shares.ports.items) now → IsRun plan ports shares now
 is_run plan ports shares now done =
     let s = split_done (map (port_duty plan) ports) (OfShare plan shares.pf ∷ OfPump shares.pump ∷ OfReader ∷ OfShare plan shares.service ∷ []) done.left done.done in
-    let four = four_done plan shares.pf shares.pump shares.service s.rest s.more in
+    let four = four_done plan shares.pf shares.pump shares.service s.rest s.also in
     record {
       left = s.left;
       ports_done = s.done;
@@ -138,7 +154,7 @@ is_run plan ports shares now done =
       others = four;
       all =
           done.behind ∙ ap (λ (ms : List Mine). left_of shares.ports.items ++ ms) (ap left_of s.is ∙ left_behind s.left s.rest ∙ ap (λ (ms : List Mine). left_of s.left ++ ms) four.all)
-          ∙ last_apart (left_of shares.ports.items) (left_of s.left) four.pf_left four.pump_left four.service_left;
+          ∙ sym (append_assoc (left_of shares.ports.items) (left_of s.left) (four.pf_left ∷ four.pump_left ∷ four.service_left ∷ [])) ∙ last_apart (left_of shares.ports.items) (left_of s.left) four.pf_left four.pump_left four.service_left;
     }
 
 front_length : (front now : List Mine) (last : Mine) → now ≡ front ++ last ∷ [] → length now ≡ 67 → 66 ≡ length front
@@ -189,8 +205,8 @@ ports_last : (pools : List Bool) (ports : List (CallingPort × Known)) (p : Call
 ports_last pools [] p = refl
 ports_last pools (x ∷ ports) p = ports_last (slice_set pools x.0.port.pool true) ports p
 
-pub ports_more : (none : List Bool) (ports : List (CallingPort × Known)) (k : ℕ) (p : CallingPort × Known) (pools : List Bool) → k < length ports → p ≡ slice_index_or ports k p → pools ≡ with_ports none (take k ports)
-    → slice_set pools p.0.port.pool true ≡ with_ports none (take (k + 1) ports)
-ports_more none ports k p pools less is before =
-    ap (λ (b : List Bool). slice_set b p.0.port.pool true) before
+pub ports_more : (none : List Bool) (ports : List (CallingPort × Known)) (k : ℕ) (p : CallingPort × Known) (pools : List Bool) (at : ℕ) → k < length ports → p ≡ slice_index_or ports k p → at ≡ p.0.port.pool
+    → pools ≡ with_ports none (take k ports) → slice_set pools at true ≡ with_ports none (take (k + 1) ports)
+ports_more none ports k p pools at less is here before =
+    (λ i. slice_set (before i) (here i) true)
     ∙ (sym (ports_last none (take k ports) p) ∙ ap (with_ports none) (ap (λ (x : CallingPort × Known). take k ports ++ x ∷ []) is ∙ sym (take_more ports k p less)))

@@ -1,5 +1,5 @@
 -- One port's end more that is recorded, and the notes that stand behind others.
-use Rattle.std.proofs.Common.{◌≡◌, ℕ, ◌+◌, ◌<◌, ◌≤◌, zero, suc, true, List, [], ◌∷◌, ◌++◌, All, Contains, get_or, length, map, set, take, refl, sym, ap, ◌∙◌, subst, append_assoc, below_more, arith}
+use Rattle.std.proofs.Common.{◌≡◌, ℕ, ◌+◌, ◌<◌, ◌≤◌, zero, suc, true, List, [], ◌∷◌, ◌++◌, All, get_or, length, map, set, take, refl, sym, ap, ◌∙◌, subst, append_assoc, below_more, arith}
 use Rattle.std.specs.Prelude.{slice_index_or}
 use Rattle.std.proofs.lemmas.List.{get_or-map, get_or-set_other, get_or-set_same, length-map, length-set, map-append, take_all}
 use Rattle.device.specs.declared.event.Event.{Event}

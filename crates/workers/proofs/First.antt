@@ -1,14 +1,12 @@
 -- Events before `go`: what they add to the shares, and what they leave open.
-use Rattle.std.proofs.Common.{◌≡◌, ◌≢◌, ℕ, ◌+◌, ◌<◌, ◌==◌, Bool, List, [], ◌∷◌, ◌++◌, length, map, take, refl, sym, ap, ◌∙◌, subst, append_assoc, arith}
-use Rattle.std.specs.Prelude.{MatchOption, None, Option, Some, filter, slice_index_or, unwrap_or}
-use Rattle.std.specs.List.{All}
+use Rattle.std.proofs.Common.{◌≡◌, ◌≢◌, ℕ, ◌+◌, ◌<◌, ◌==◌, Bool, List, [], ◌∷◌, ◌++◌, length, take, refl, sym, ap, ◌∙◌, subst, append_assoc}
+use Rattle.std.specs.Prelude.{MatchOption, None, Option, Some, slice_index_or, unwrap_or}
 use Rattle.std.proofs.lemmas.List.{append-nil, map-append, take_more}
 use Rattle.std.proofs.lemmas.List.Elements.{All-append, All-nil, All-push, filter-append}
 use Rattle.device.specs.declared.event.Event.{Event}
 use Rattle.device.specs.declared.event.Event.TheVariants.{Open, End, VfRead, VfWrite, MemRead, MemWrite, Serve, Flr, PfRead, PfWrite, PfReset, Wire}
-use Rattle.device.specs.declared.event.Answer.{Answer}
 use Rattle.device.specs.declared.event.Reply.{Reply}
-use Rattle.history.specs.Entries.{Entry, entry, events}
+use Rattle.history.specs.Entries.{Entry, entry}
 use Rattle.recorder.specs.declared.shares.Shares.{Shares}
 use Rattle.recorder.specs.Held.{Mine, having_calls}
 use Rattle.script.specs.Reading.{Meaning}
@@ -16,7 +14,6 @@ use Rattle.workers.specs.Asked.{HasTold}
 use Rattle.workers.specs.Callers.{caller_before, pf, service}
 use Rattle.workers.specs.Counts.{HasRecorded, HaveKept, HaveRecorded, IsFirst, made_by}
 use Rattle.workers.specs.Opens.{HaveLeft, IsPrepared, all_closed, opened, opened_after, pools_from}
-use Rattle.workers.specs.Plans.{events_before}
 
 -- ---- calls behind others
 

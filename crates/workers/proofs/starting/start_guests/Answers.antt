@@ -1,5 +1,5 @@
 -- One note more stands behind the others, and one duty, and in the end all ports were gone over.
-use Rattle.std.proofs.Common.{rules, List, ℕ, ◌++◌, ◌∙◌, ap, map, sym}
+use Rattle.std.proofs.Common.{rules, List, ◌++◌, ◌∙◌, ap, map, sym}
 use Rattle.std.proofs.lemmas.List.{map-id}
 use Rattle.std.proofs.lemmas.Iterator.Adapters.{YieldsList-from_vec}
 use Rattle.std.proofs.lemmas.Iterator.Consumers.{YieldsList-end}

@@ -13,7 +13,7 @@ use Rattle.workers.specs.Sweeps.{AreLooked, IsLooked, end_of, is_ended}
 use Rattle.workers.proofs.Asks.{asked_more, asked_none}
 use Rattle.workers.proofs.Swept.{are_looked, looked_on}
 
-abbrev Note : Type 0
+abbrev pub Note : Type 0
 Note = ℕ × Known
 
 -- the ends of the first notes are recorded
@@ -70,7 +70,7 @@ pub noted_more : (before notes after : List Note) (ports : List (CallingPort × 
 noted_more before notes after ports p is more =
     more ∙ ap (λ (xs : List Note). xs ++ note_of p ∷ []) is ∙ (append_assoc before (map note_of ports) (note_of p ∷ []) ∙ ap (λ (xs : List Note). before ++ xs) (sym (map-append note_of ports (p ∷ []))))
 
-ends_of_ports : (ports : List (CallingPort × Known)) → map end_of (map note_of ports) ≡ map port_end ports
+pub ends_of_ports : (ports : List (CallingPort × Known)) → map end_of (map note_of ports) ≡ map port_end ports
 ends_of_ports [] = refl
 ends_of_ports (p ∷ ports) = ap (λ (es : List Event). port_end p ∷ es) (ends_of_ports ports)
 

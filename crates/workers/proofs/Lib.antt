@@ -5,3 +5,4 @@ pub mod First
 pub mod Wires
 pub mod Swept
 pub mod Closing
+pub mod Worked

@@ -8,3 +8,6 @@ pub mod Frames
 pub mod Sweeps
 pub mod Ends
 pub mod Opens
+pub mod Duties
+pub mod Work
+pub mod Run

@@ -1,13 +1,18 @@
 //! The workers that run.
-ghost use Rattle.std.specs.Prelude.{◌≡◌, true, false, IfOk};
+ghost use Rattle.std.specs.Prelude.{◌≡◌, ◌++◌, [], ◌∷◌, true, false, IfOk};
+ghost use Rattle.workers.specs.Duties.{HaveDone};
+ghost use Rattle.workers.specs.Work.{duty_of};
 
+use crate::work::Work;
 use crate::worker::{Done, Worker};
 use device_lock::Share;
+use guest_memory::GuestMem;
+use guest_port::GuestPort;
 use log::{Log, debug};
 use std::alloc::{AllocError, Global};
 use std::marker::Model;
 use std::sync::ledger::Ledger;
-use std::thread::{JoinHandle, Threads};
+use std::thread::{PromisedHandle, Threads};
 
 /// The shares of all callers, once the workers have ended.
 #[derive(Drop)]
@@ -16,20 +21,27 @@ pub struct Ended<L: Ledger> {
     pub shares: Vec<Share<L>>,
 }
 
-/// The workers that were started, in the order of their starts. Contracts see whether a start was refused.
+/// The workers that were started, in the order of their starts. Contracts see what each of them promised to do, and whether a
+/// start was refused.
 #[derive(Drop)]
-pub struct Crew<L: Ledger> {
-    running: Vec<(Worker, JoinHandle<Done<L>>)>,
+pub struct Crew<M: GuestMem, L: Ledger, P: GuestPort> {
+    running: Vec<(Worker, PromisedHandle<Done<L>, Work<M, L, P>>)>,
     // a start was refused, and none is tried any more
     was_refused: bool,
 }
 
-impl<L: Ledger> Model for Crew<L> {
-    ghost use Rattle.std.specs.Prelude.{Bool};
+impl<M: GuestMem, L: Ledger, P: GuestPort> Model for Crew<M, L, P> {
+    ghost use Rattle.workers.specs.Duties.{Started};
 
-    ghost Value = { Bool };
+    ghost Value = { Started };
 
-    ghost view = { λ crew. crew.was_refused };
+    ghost use Rattle.std.specs.Prelude.{map};
+    ghost use Rattle.workers.specs.Work.{duty_of};
+
+    ghost view = { λ crew. record {
+      was_refused = crew.was_refused;
+      duties = map (λ one. duty_of one.1.promise) crew.running.items;
+    } };
 }
 
 /// How the workers of a crew ended.
@@ -41,10 +53,10 @@ pub struct Ends {
     pub was_full: bool,
 }
 
-impl<L: Ledger + Send + 'static> Crew<L> {
+impl<M: GuestMem, L: Ledger + Send + 'static, P: GuestPort> Crew<M, L, P> {
     /// Nobody yet, with room for so many.
-    pub fn new(alloc: Global, count: usize) -> Result<Crew<L>, AllocError>
-        ensures { IfOk result (λ crew. crew ≡ false) }
+    pub fn new(alloc: Global, count: usize) -> Result<Crew<M, L, P>, AllocError>
+        ensures { IfOk result (λ crew. (crew.was_refused ≡ false) × (crew.duties ≡ [])) }
     {
         Ok(Crew {
             running: Vec::with_capacity(alloc, count)?,
@@ -54,7 +66,9 @@ impl<L: Ledger + Send + 'static> Crew<L> {
 
     /// Whether one more may start: no start was refused, and there is room.
     pub fn is_ready(&mut self) -> bool
-        ensures stays { self.new ≡ false → self.old ≡ false }
+        ensures stays { self.new.was_refused ≡ false → self.old.was_refused ≡ false }
+        ensures same { self.new.duties ≡ self.old.duties }
+        ensures ready { result ≡ false → self.new.was_refused ≡ true }
     {
         if !self.was_refused && self.running.reserve(1).is_err() {
             self.was_refused = true;
@@ -63,8 +77,15 @@ impl<L: Ledger + Send + 'static> Crew<L> {
     }
 
     /// A worker was started, which is logged.
-    pub fn add<O: Log>(&mut self, log: &O, worker: Worker, thread: JoinHandle<Done<L>>)
-        ensures stays { self.new ≡ false → self.old ≡ false }
+    pub fn add<O: Log>(
+        &mut self,
+        log: &O,
+        worker: Worker,
+        thread: PromisedHandle<Done<L>, Work<M, L, P>>,
+    )
+        ensures stays { self.new.was_refused ≡ false → self.old.was_refused ≡ false }
+        ensures one { self.new.was_refused ≡ false
+            → self.new.duties ≡ self.old.duties ++ duty_of thread.promise ∷ [] }
     {
         debug!(log; "worker {worker} starts");
         if self.running.push((worker, thread)).is_err() {
@@ -74,14 +95,16 @@ impl<L: Ledger + Send + 'static> Crew<L> {
 
     /// A start was refused: nobody is started any more.
     pub fn refuse(&mut self)
-        ensures { self.new ≡ true }
+        ensures { self.new.was_refused ≡ true }
     {
         self.was_refused = true;
     }
 
     /// Waits for the workers in the order of their starts, logs that each has ended, and puts the shares behind the others.
     pub fn join<R: Threads, O: Log>(self, rt: &R, log: &O, shares: &mut Vec<Share<L>>) -> Ends
-        ensures refused { result.was_refused ≡ false → self ≡ false }
+        ensures refused { result.was_refused ≡ false → self.was_refused ≡ false }
+        ensures done { result.was_refused ≡ false → result.was_full ≡ false
+            → HaveDone self.duties shares.old.items shares.new.items }
     {
         let Crew {
             running,
@@ -92,13 +115,29 @@ impl<L: Ledger + Send + 'static> Crew<L> {
             was_full: false,
         };
         for (worker, thread) in running {
-            let Done { share, was_full } = thread.join(rt);
+            join_one(rt, thread, shares, &mut ends);
             debug!(log; "worker {worker} ends");
-            ends.was_full = ends.was_full || was_full;
-            if let Some(share) = share {
-                ends.was_refused = shares.push(share).is_err() || ends.was_refused;
-            }
         }
         ends
+    }
+}
+
+// Waits for a worker, and puts its share behind the others.
+#[tactic(auto, using(crate::proofs::Worked::one_done, crate::proofs::Worked::none_left))]
+fn join_one<M: GuestMem, L: Ledger, P: GuestPort, R: Threads>(
+    rt: &R,
+    thread: PromisedHandle<Done<L>, Work<M, L, P>>,
+    shares: &mut Vec<Share<L>>,
+    ends: &mut Ends,
+)
+    ensures refused { ends.new.was_refused ≡ false → ends.old.was_refused ≡ false }
+    ensures full { ends.new.was_full ≡ false → ends.old.was_full ≡ false }
+    ensures done { ends.new.was_refused ≡ false → ends.new.was_full ≡ false
+        → HaveDone (duty_of thread.promise ∷ []) shares.old.items shares.new.items }
+{
+    let Done { share, was_full } = thread.join(rt);
+    ends.was_full = ends.was_full || was_full;
+    if let Some(share) = share {
+        ends.was_refused = shares.push(share).is_err() || ends.was_refused;
     }
 }

@@ -18,6 +18,7 @@ mod preparing;
 mod running;
 mod starting;
 mod sweeping;
+mod work;
 mod worker;
 
 pub use asking::ask;

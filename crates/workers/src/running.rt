@@ -1,12 +1,14 @@
 //! The workers, from their starts to their ends.
-ghost use Rattle.std.specs.Prelude.{◌≡◌, ◌⊎◌, [], ◌∷◌, ◌<◌, true, false, length, map, replicate, slice_index_or, All, IfOk, IfErr, IfSome, OnOk};
+ghost use Rattle.std.specs.Prelude.{◌≡◌, ◌⊎◌, [], ◌∷◌, true, false, length, map, replicate, All, IfOk, IfErr, OnOk};
+ghost use Rattle.std.specs.Arc.{arc_value};
 ghost use Rattle.device.specs.declared.event.Event.TheVariants.{End};
-ghost use Rattle.recorder.specs.Held.{HasAsked, unused};
-ghost use Rattle.recorder.specs.Made.{left_in};
+ghost use Rattle.recorder.specs.Held.{HasAsked, left_of};
 ghost use Rattle.guest_port.specs.Notes.{knows};
 ghost use Rattle.wire_frame.specs.declared.fault.Fault.{Fault};
 ghost use Rattle.workers.specs.Callers.{pf, pump, service};
+ghost use Rattle.workers.specs.Duties.{HaveDone};
 ghost use Rattle.workers.specs.Ends.{HaveEnded, note_of};
+ghost use Rattle.workers.specs.Run.{HaveRun, duties_of, plan_of, with_ports};
 ghost use Rattle.workers.specs.Sweeps.{AreLooked, IsLooked, end_of, is_ended};
 
 use crate::crew::{Crew, Ended};
@@ -15,7 +17,7 @@ use crate::plan::{Plan, Ports};
 use crate::starting::{Common, start_driver, start_guests, start_pump, start_reader};
 use crate::sweeping::end_known;
 use crate::worker::Worker;
-use device_lock::{CALLERS, LockedDevice, SERVICE, Share, Shares};
+use device_lock::{CALLERS, LockedDevice, Share, Shares};
 use guest_memory::GuestMem;
 use guest_port::{EndNote, GuestPort, LockedPort};
 use log::Log;
@@ -35,7 +37,7 @@ use wire_pump::channel;
 /// [`Fault::NoMemory`] where the host refused a thread or the room for one, after the workers that run have ended, and where a
 /// note turns out to be of another port, which has not ended. Else [`Fault::HistoryFull`] where the history was full and can't be
 /// folded, after all have ended: the worker that met it ended there. The shares are spent then.
-#[tactic(auto, using(crate::proofs::Closing::have_ended))]
+#[tactic(auto, using(crate::proofs::Closing::have_ended, crate::proofs::Worked::last_caller, crate::proofs::Worked::have_run))]
 pub fn run_workers<
     M: GuestMem + Send + 'static,
     L: Ledger + Send + Sync + 'static,
@@ -58,6 +60,8 @@ pub fn run_workers<
     requires service { shares.service.caller ≡ service }
     ensures all { IfOk result (λ ended. length ended.shares.items ≡ 67) }
     ensures ends { IfOk result (λ ended. HaveEnded ports.items ended.shares.items) }
+    ensures run { IfOk result
+        (λ ended. HaveRun (plan_of (arc_value script) ports.items) ports.items shares ended.shares.items) }
     ensures why { IfErr result (λ e. (e ≡ Fault.NoMemory) ⊎ (e ≡ Fault.HistoryFull)) }
 {
     let Ok(ran) = run(rt, log, alloc, script, &device, shares, ports, gate) else {
@@ -71,13 +75,10 @@ pub fn run_workers<
         mut notes,
         ..
     } = ran;
-    let Some(at) = place_of_service(&shares) else {
-        return Err(Fault::NoMemory);
-    };
     if shares.len() != CALLERS {
         return Err(Fault::NoMemory);
     }
-    record_ends(&rt, &device, &mut notes, &mut shares[at])?;
+    record_ends(&rt, &device, &mut notes, &mut shares[CALLERS - 1])?;
     Ok(Ended { shares })
 }
 
@@ -112,6 +113,9 @@ fn run<
     requires pump { shares.pump.caller ≡ pump }
     requires service { shares.service.caller ≡ service }
     ensures notes { IfOk result (λ ran. ran.notes.items ≡ map note_of ports.items) }
+    ensures done { IfOk result (λ ran. ran.was_full ≡ false
+        → HaveDone (duties_of (plan_of (arc_value script) ports.items) ports.items shares)
+        (left_of shares.ports.items) ran.shares.items) }
 {
     let common = common_of(alloc, script, device, gate, &ports)?;
     let Ok((sender, receiver)) = channel(alloc) else {
@@ -148,7 +152,10 @@ fn common_of<M: GuestMem, L: Ledger, P: GuestPort, G: Gate + Drop>(
     device: &Arc<LockedDevice<M, L>>,
     gate: Arc<G>,
     ports: &[(LockedPort<M, L, P>, EndNote)],
-) -> Result<Common<M, L, G>, AllocError> {
+) -> Result<Common<M, L, G>, AllocError>
+    ensures { IfOk result
+        (λ common. arc_value common.plan ≡ plan_of (arc_value script) ports.now) }
+{
     let plan = Plan::new(alloc, script, pools_of(ports))?;
     Ok(Common {
         plan: Arc::new(alloc, plan)?,
@@ -171,8 +178,7 @@ fn take_apart<L: Ledger>(alloc: Global, shares: Shares<L>) -> Result<Apart<L>, A
     ensures pf { IfOk result (λ apart. apart.pf ≡ shares.pf) }
     ensures pump { IfOk result (λ apart. apart.pump ≡ shares.pump) }
     ensures service { IfOk result (λ apart. apart.service ≡ shares.service) }
-    ensures all { IfOk result
-        (λ apart. apart.pf ∷ apart.pump ∷ apart.service ∷ apart.others.items ≡ left_in shares) }
+    ensures others { IfOk result (λ apart. apart.others.items ≡ left_of shares.ports.items) }
 {
     let mut others = Vec::with_capacity(alloc, CALLERS)?;
     shares.put_back(&mut others)?;
@@ -186,8 +192,10 @@ fn take_apart<L: Ledger>(alloc: Global, shares: Shares<L>) -> Result<Apart<L>, A
 }
 
 // For each pool whether it has a port.
+#[tactic(auto, using(crate::proofs::Worked::ports_more))]
 fn pools_of<M: GuestMem, L: Ledger, P: GuestPort>(ports: &[(LockedPort<M, L, P>, EndNote)]) -> Ports
-    ensures { length result ≡ 64 }
+    ensures many { length result ≡ 64 }
+    ensures each { result ≡ with_ports (replicate 64 false) ports.now }
 {
     let mut pools = no_ports();
     for (port, _) in ports {
@@ -202,19 +210,6 @@ fn no_ports() -> Ports
     ensures { result ≡ replicate 64 false }
 {
     [false; 64]
-}
-
-// Where the service's share is among these, if none was lost.
-fn place_of_service<L: Ledger>(shares: &[Share<L>]) -> Option<usize>
-    ensures inside { IfSome result (λ at. at < length shares.now) }
-    ensures service { IfSome result (λ at. (slice_index_or shares.now at (unused 0)).caller ≡ service) }
-{
-    for at in 0..shares.len() {
-        if shares[at].caller() == SERVICE {
-            return Some(at);
-        }
-    }
-    None
 }
 
 // Records the end of each port, in order, by the service's share. Where the history is full it is folded, and

@@ -1,17 +1,21 @@
 //! The starts of the workers.
-ghost use Rattle.std.specs.Prelude.{◌≡◌, ◌≤◌, [], ◌∷◌, ◌++◌, false, map, OnOk};
+ghost use Rattle.std.specs.Prelude.{◌≡◌, ◌≤◌, [], ◌∷◌, ◌++◌, false, map, IfOk, OnOk};
+ghost use Rattle.std.specs.Arc.{arc_value};
 ghost use Rattle.workers.specs.Callers.{pump};
+ghost use Rattle.workers.specs.Duties.{IsDone, OfPort, OfShare, OfPump, OfReader, port_duty};
 ghost use Rattle.workers.specs.Ends.{note_of};
 
 use crate::crew::Crew;
 use crate::door::GatedDoor;
 use crate::gate::Gate;
 use crate::plan::Plan;
+use crate::work::Work;
 use crate::worker::{Done, Worker, driver, guest, pumping, reader};
 use device_lock::{LockedDevice, Share};
 use guest_memory::GuestMem;
 use guest_port::{EndNote, GuestPort, LockedPort};
 use log::Log;
+use shadow::Shadow;
 use std::alloc::AllocError;
 use std::sync::ledger::Ledger;
 use std::sync::{Arc, Wait};
@@ -32,7 +36,9 @@ pub struct Common<M: GuestMem, L: Ledger, G: Gate + Drop> {
 
 impl<M: GuestMem, L: Ledger, G: Gate + Drop> Common<M, L, G> {
     // The same for one more worker.
-    fn another(&self) -> Result<Common<M, L, G>, AllocError> {
+    fn another(&self) -> Result<Common<M, L, G>, AllocError>
+        ensures { IfOk result (λ other. arc_value other.plan ≡ arc_value self.now.plan) }
+    {
         Ok(Common {
             plan: Arc::try_clone(&self.plan)?,
             device: Arc::try_clone(&self.device)?,
@@ -57,11 +63,14 @@ pub fn start_guests<
     common: &Common<M, L, G>,
     ports: Vec<(LockedPort<M, L, P>, EndNote)>,
     notes: &mut Vec<(u8, EndNote)>,
-    crew: &mut Crew<L>,
+    crew: &mut Crew<M, L, P>,
 )
-    ensures stays { crew.new ≡ false → crew.old ≡ false }
-    ensures notes { crew.new ≡ false
+    ensures stays { crew.new.was_refused ≡ false → crew.old.was_refused ≡ false }
+    ensures notes { crew.new.was_refused ≡ false
         → notes.new.items ≡ notes.old.items ++ map note_of ports.items }
+    ensures duties { crew.new.was_refused ≡ false
+        → crew.new.duties
+        ≡ crew.old.duties ++ map (port_duty (arc_value common.now.plan)) ports.items }
 {
     for (port, note) in ports {
         let Ok(()) = keep_note(notes, &port, note) else {
@@ -90,8 +99,18 @@ fn start_guest<
     G: Gate + Drop + Send + Sync + 'static,
     R: Threads + Wait + Copy + Send + 'static,
     O: Log,
->(rt: R, log: &O, common: &Common<M, L, G>, pool: u8, port: LockedPort<M, L, P>, crew: &mut Crew<L>)
-    ensures stays { crew.new ≡ false → crew.old ≡ false }
+>(
+    rt: R,
+    log: &O,
+    common: &Common<M, L, G>,
+    pool: u8,
+    port: LockedPort<M, L, P>,
+    crew: &mut Crew<M, L, P>,
+)
+    ensures stays { crew.new.was_refused ≡ false → crew.old.was_refused ≡ false }
+    ensures duty { crew.new.was_refused ≡ false
+        → crew.new.duties
+        ≡ crew.old.duties ++ OfPort (arc_value common.now.plan) port ∷ [] }
 {
     let Ok(mine) = common.another() else {
         return crew.refuse();
@@ -99,26 +118,45 @@ fn start_guest<
     if !crew.is_ready() {
         return;
     }
-    let work = move || {
-        let mut port = port;
-        guest(&rt, &mine.plan, &mine.device, &mut port, &*mine.gate)
-    };
-    match thread::spawn(&rt, work) {
+    let work = Work::Guest(Shadow::of(&*mine.plan), Shadow::of(&port));
+    match thread::spawn_with(&rt, work, move || do_port(rt, mine, port)) {
         Ok(thread) => crew.add(log, Worker::Port(pool), thread),
         Err(_) => crew.refuse(),
     }
+}
+
+// What a port's thread does.
+fn do_port<M: GuestMem, L: Ledger, P: GuestPort, G: Gate + Drop, R: Wait + Copy>(
+    rt: R,
+    mine: Common<M, L, G>,
+    mut port: LockedPort<M, L, P>,
+) -> Done<L>
+    ensures { result.was_full ≡ false → IsDone (OfPort (arc_value mine.plan) port) result.share }
+{
+    guest(&rt, &mine.plan, &mine.device, &mut port, &*mine.gate)
 }
 
 /// Starts the worker of the physical function's driver, or of the service, with its share.
 pub fn start_driver<
     M: GuestMem + Send + 'static,
     L: Ledger + Send + Sync + 'static,
+    P: GuestPort + Send + 'static,
     G: Gate + Drop + Send + Sync + 'static,
     R: Threads + Wait + Copy + Send + 'static,
     O: Log,
->(rt: R, log: &O, common: &Common<M, L, G>, worker: Worker, share: Share<L>, crew: &mut Crew<L>)
+>(
+    rt: R,
+    log: &O,
+    common: &Common<M, L, G>,
+    worker: Worker,
+    share: Share<L>,
+    crew: &mut Crew<M, L, P>,
+)
     requires { 64 ≤ share.caller }
-    ensures stays { crew.new ≡ false → crew.old ≡ false }
+    ensures stays { crew.new.was_refused ≡ false → crew.old.was_refused ≡ false }
+    ensures duty { crew.new.was_refused ≡ false
+        → crew.new.duties
+        ≡ crew.old.duties ++ OfShare (arc_value common.now.plan) share ∷ [] }
 {
     let Ok(mine) = common.another() else {
         return crew.refuse();
@@ -126,13 +164,23 @@ pub fn start_driver<
     if !crew.is_ready() {
         return;
     }
-    let work = move || -> Done<L>
-        requires { 64 ≤ share.caller }
-    { driver(&rt, &mine.plan, &mine.device, share, &*mine.gate) };
-    match thread::spawn(&rt, work) {
+    let work = Work::Owner(Shadow::of(&*mine.plan), Shadow::of(&share));
+    match thread::spawn_with(&rt, work, move || do_share(rt, mine, share)) {
         Ok(thread) => crew.add(log, worker, thread),
         Err(_) => crew.refuse(),
     }
+}
+
+// What the thread of the driver does, or of the service.
+fn do_share<M: GuestMem, L: Ledger, G: Gate + Drop, R: Wait + Copy>(
+    rt: R,
+    mine: Common<M, L, G>,
+    share: Share<L>,
+) -> Done<L>
+    requires { 64 ≤ share.caller }
+    ensures { result.was_full ≡ false → IsDone (OfShare (arc_value mine.plan) share) result.share }
+{
+    driver(&rt, &mine.plan, &mine.device, share, &*mine.gate)
 }
 
 /// Starts the pump, with its share. Its door has room for a frame, which is to be gone from the stack once the workers run.
@@ -140,6 +188,7 @@ pub fn start_driver<
 pub fn start_pump<
     M: GuestMem + Send + 'static,
     L: Ledger + Send + Sync + 'static,
+    P: GuestPort + Send + 'static,
     G: Gate + Drop + Send + Sync + 'static,
     R: Threads + Wait + Copy + Send + 'static,
     O: Log,
@@ -149,10 +198,12 @@ pub fn start_pump<
     common: &Common<M, L, G>,
     share: Share<L>,
     receiver: FrameReceiver,
-    crew: &mut Crew<L>,
+    crew: &mut Crew<M, L, P>,
 )
     requires { share.caller ≡ pump }
-    ensures stays { crew.new ≡ false → crew.old ≡ false }
+    ensures stays { crew.new.was_refused ≡ false → crew.old.was_refused ≡ false }
+    ensures duty { crew.new.was_refused ≡ false
+        → crew.new.duties ≡ crew.old.duties ++ OfPump share ∷ [] }
 {
     let (Ok(mine), Ok(other)) = (common.another(), common.another()) else {
         return crew.refuse();
@@ -160,26 +211,39 @@ pub fn start_pump<
     if !crew.is_ready() {
         return;
     }
+    let work = Work::Pumping(Shadow::of(&share));
     let door = GatedDoor::new(LockedDoor::new(other.device, share), mine.device, mine.gate);
-    let work = move || {
-        let mut receiver = receiver;
-        pumping(&rt, &mut receiver, door)
-    };
-    match thread::spawn(&rt, work) {
+    match thread::spawn_with(&rt, work, move || do_pump(rt, receiver, door)) {
         Ok(thread) => crew.add(log, Worker::Pump, thread),
         Err(_) => crew.refuse(),
     }
+}
+
+// What the pump's thread does.
+#[tactic(auto, using(crate::proofs::Worked::pump_done))]
+fn do_pump<M: GuestMem, L: Ledger, G: Gate + Drop, R: Wait + Copy>(
+    rt: R,
+    mut receiver: FrameReceiver,
+    door: GatedDoor<M, L, G>,
+) -> Done<L>
+    requires { door.inner.caller ≡ pump }
+    ensures { result.was_full ≡ false → IsDone (OfPump door.inner) result.share }
+{
+    pumping(&rt, &mut receiver, door)
 }
 
 /// Starts the wire's reader.
 pub fn start_reader<
     M: GuestMem + Send + 'static,
     L: Ledger + Send + Sync + 'static,
+    P: GuestPort + Send + 'static,
     G: Gate + Drop + Send + Sync + 'static,
     R: Threads + Wait + Copy + Send + 'static,
     O: Log,
->(rt: R, log: &O, common: &Common<M, L, G>, sender: FrameSender, crew: &mut Crew<L>)
-    ensures stays { crew.new ≡ false → crew.old ≡ false }
+>(rt: R, log: &O, common: &Common<M, L, G>, sender: FrameSender, crew: &mut Crew<M, L, P>)
+    ensures stays { crew.new.was_refused ≡ false → crew.old.was_refused ≡ false }
+    ensures duty { crew.new.was_refused ≡ false
+        → crew.new.duties ≡ crew.old.duties ++ OfReader ∷ [] }
 {
     let Ok(mine) = common.another() else {
         return crew.refuse();
@@ -187,12 +251,19 @@ pub fn start_reader<
     if !crew.is_ready() {
         return;
     }
-    let work = move || {
-        let mut sender = sender;
-        reader(&rt, &mine.plan, &mut sender)
-    };
-    match thread::spawn(&rt, work) {
+    match thread::spawn_with(&rt, Work::Reading, move || do_reader(rt, mine, sender)) {
         Ok(thread) => crew.add(log, Worker::Reader, thread),
         Err(_) => crew.refuse(),
     }
+}
+
+// What the reader's thread does.
+fn do_reader<M: GuestMem, L: Ledger, G: Gate + Drop, R: Wait + Copy>(
+    rt: R,
+    mine: Common<M, L, G>,
+    mut sender: FrameSender,
+) -> Done<L>
+    ensures { result.was_full ≡ false → IsDone OfReader result.share }
+{
+    reader(&rt, &mine.plan, &mut sender)
 }

@@ -1,0 +1,212 @@
+-- What many workers did, one by one, and whose the shares are that they leave.
+use Rattle.std.proofs.Common.{◌≡◌, ℕ, ◌+◌, ◌<◌, false, List, [], ◌∷◌, ◌++◌, length, map, refl, sym, ap, ◌∙◌, get_or, set, subst, take, append_assoc, arith, true, Bool}
+use Rattle.std.specs.Prelude.{IfSome, MatchOption, None, Option, Some, slice_index_or, slice_set}
+use Rattle.std.proofs.lemmas.List.{append-nil, length-append, map-append, take_more}
+use Rattle.std.proofs.Math.Seq.{get_or-append_seam, set-append_seam}
+use Rattle.device.specs.declared.event.Event.{Event}
+use Rattle.device.specs.declared.event.Event.TheVariants.{Wire}
+use Rattle.recorder.specs.Held.{HasAsked, Mine, having_calls, left_of}
+use Rattle.recorder.specs.declared.shares.Shares.{Shares}
+use Rattle.guest_port.specs.Calls.{CallingPort}
+use Rattle.guest_port.specs.Notes.{Known}
+use Rattle.workers.specs.Asked.{HasLeft}
+use Rattle.workers.specs.Calls.{HasClosed}
+use Rattle.workers.specs.Callers.{pf, pump, service}
+use Rattle.workers.specs.Duties.{AreDone, Duty, HaveDone, IsDone, OfPort, OfPump, OfReader, OfShare, port_duty}
+use Rattle.workers.specs.Plans.{Planned, own_events}
+use Rattle.workers.specs.Ends.{note_of, port_end}
+use Rattle.workers.specs.Run.{HaveRun, duties_of, with_ports}
+use Rattle.workers.specs.Sweeps.{end_of}
+use Rattle.workers.proofs.Asks.{asked_behind, same_caller}
+use Rattle.workers.proofs.Closing.{Note, ends_of_ports}
+
+-- ---- one worker
+
+pub one_done : (duty : Duty) (share : Mine) (old new : List Mine) → IsDone duty (Some share) → new ≡ old ++ share ∷ [] → HaveDone (duty ∷ []) old new
+one_done duty share old new done behind = record { left = Some share ∷ []; done = (done, tt); behind = behind }
+
+pub none_left : (duty : Duty) (old new : List Mine) → IsDone duty None → new ≡ old → HaveDone (duty ∷ []) old new
+none_left duty old new done same = record { left = None ∷ []; done = (done, tt); behind = same ∙ sym (append-nil old) }
+
+pub pump_done : (frames : List (List ℕ)) (share : Mine) (left : Option Mine) → share.caller ≡ pump → HasLeft (map Wire frames) (record { caller = pump; asked = share.asked }) left → IsDone (OfPump share) left
+pump_done frames share left is done = (frames, subst (λ (c : ℕ). HasLeft (map Wire frames) (record { caller = c; asked = share.asked }) left) (sym is) done)
+
+-- what a port's worker says of it
+pub handed_back : (plan : Planned) (old new : CallingPort) (left : Option Mine) → HasClosed (own_events plan old.port.pool) old new
+    → MatchOption left (old.port.is_closed ≡ true) (λ share. (old.port.is_closed ≡ false) × (share.caller ≡ old.port.pool)) → IfSome left (λ share. share ≡ having_calls new.calls new.made) → IsDone (OfPort plan old) left
+handed_back plan old new None done seat calls = record { new = new; done = done; share = seat }
+handed_back plan old new (Some share) done seat calls = record { new = new; done = done; share = (seat.0, seat.1, calls) }
+
+-- ---- many
+
+pub none_done : (old : List Mine) → HaveDone [] old old
+none_done old = record { left = []; done = tt; behind = sym (append-nil old) }
+
+are_done_more : (duties more : List Duty) (left rest : List (Option Mine)) → AreDone duties left → AreDone more rest → AreDone (duties ++ more) (left ++ rest)
+are_done_more [] more [] rest are also = also
+are_done_more [] more (l ∷ left) rest are also = absurd are
+are_done_more (d ∷ duties) more [] rest are also = absurd are
+are_done_more (d ∷ duties) more (l ∷ left) rest are also = (are.0, are_done_more duties more left rest are.1 also)
+
+pub left_behind : (left rest : List (Option Mine)) → left_of (left ++ rest) ≡ left_of left ++ left_of rest
+left_behind [] rest = refl
+left_behind (None ∷ left) rest = left_behind left rest
+left_behind (Some m ∷ left) rest = ap (λ (ms : List Mine). m ∷ ms) (left_behind left rest)
+
+pub done_more : (duties more : List Duty) (old mid new : List Mine) → HaveDone duties old mid → HaveDone more mid new → HaveDone (duties ++ more) old new
+done_more duties more old mid new before after = record {
+  left = before.left ++ after.left;
+  done = are_done_more duties more before.left after.left before.done after.done;
+  behind =
+      after.behind ∙ ap (λ (ms : List Mine). ms ++ left_of after.left) before.behind
+      ∙ (append_assoc old (left_of before.left) (left_of after.left) ∙ ap (λ (ms : List Mine). old ++ ms) (sym (left_behind before.left after.left)));
+}
+
+-- what one port's worker more is to do
+pub duty_more : (plan : Planned) (before now after : List Duty) (ports : List (CallingPort × Known)) (p : CallingPort × Known) → now ≡ before ++ map (port_duty plan) ports → after ≡ now ++ OfPort plan p.0 ∷ [] → after ≡ before ++ map (port_duty plan) (ports ++ p ∷ [])
+duty_more plan before now after ports p is more =
+    more ∙ ap (λ (xs : List Duty). xs ++ OfPort plan p.0 ∷ []) is
+    ∙ (append_assoc before (map (port_duty plan) ports) (OfPort plan p.0 ∷ []) ∙ ap (λ (xs : List Duty). before ++ xs) (sym (map-append (port_duty plan) ports (p ∷ []))))
+
+-- what all are to do, from the starts one by one
+pub all_duties : {L : Type 0} (plan : Planned) (ports : List (CallingPort × Known)) (shares : Shares L) (pf_share pump_share service_share : Mine) (none guests with_pf with_pump with_reader all : List Duty)
+    → pf_share ≡ shares.pf → pump_share ≡ shares.pump → service_share ≡ shares.service → none ≡ [] → guests ≡ none ++ map (port_duty plan) ports → with_pf ≡ guests ++ OfShare plan pf_share ∷ []
+    → with_pump ≡ with_pf ++ OfPump pump_share ∷ [] → with_reader ≡ with_pump ++ OfReader ∷ [] → all ≡ with_reader ++ OfShare plan service_share ∷ [] → all ≡ duties_of plan ports shares
+all_duties plan ports shares pf_share pump_share service_share none guests with_pf with_pump with_reader all is_pf is_pump is_service n g a b c d =
+    let ds : List Duty = map (port_duty plan) ports in
+    let p : Duty = OfShare plan pf_share in let q : Duty = OfPump pump_share in let s : Duty = OfShare plan service_share in
+    d ∙ ap (λ (xs : List Duty). xs ++ s ∷ []) (c ∙ ap (λ (xs : List Duty). xs ++ OfReader ∷ []) (b ∙ ap (λ (xs : List Duty). xs ++ q ∷ []) (a ∙ ap (λ (xs : List Duty). xs ++ p ∷ []) (g ∙ ap (λ (xs : List Duty). xs ++ ds) n))))
+    ∙ (ap (λ (xs : List Duty). (xs ++ OfReader ∷ []) ++ s ∷ []) (append_assoc ds (p ∷ []) (q ∷ [])) ∙ ap (λ (xs : List Duty). xs ++ s ∷ []) (append_assoc ds (p ∷ q ∷ []) (OfReader ∷ [])) ∙ append_assoc ds (p ∷ q ∷ OfReader ∷ []) (s ∷ []))
+    ∙ (λ i. ds ++ OfShare plan (is_pf i) ∷ OfPump (is_pump i) ∷ OfReader ∷ OfShare plan (is_service i) ∷ [])
+
+-- what one worker more did
+pub worked_more : {X : Type 0} (xs : List X) (x : X) (duty : X → Duty) (old mid new : List Mine) → HaveDone (map duty xs) old mid → HaveDone (duty x ∷ []) mid new → HaveDone (map duty (xs ++ x ∷ [])) old new
+worked_more xs x duty old mid new before more = subst (λ (ds : List Duty). HaveDone ds old new) (sym (map-append duty xs (x ∷ []))) (done_more (map duty xs) (duty x ∷ []) old mid new before more)
+
+pub done_with : {L : Type 0} (plan now : Planned) (ports : List (CallingPort × Known)) (shares : Shares L) (all : List Duty) (back new : List Mine) → now ≡ plan → all ≡ duties_of now ports shares → back ≡ left_of shares.ports.items → HaveDone all back new
+    → HaveDone (duties_of plan ports shares) (left_of shares.ports.items) new
+done_with plan now ports shares all back new is duties others done =
+    subst (λ (ds : List Duty). HaveDone ds (left_of shares.ports.items) new) (duties ∙ ap (λ (p : Planned). duties_of p ports shares) is) (subst (λ (ms : List Mine). HaveDone all ms new) others done)
+
+-- ---- whose the shares are
+
+record Split (duties more : List Duty) (all : List (Option Mine)) : Type 0 where
+  pub left : List (Option Mine)
+  pub rest : List (Option Mine)
+  pub is : all ≡ left ++ rest
+  pub done : AreDone duties left
+  pub also : AreDone more rest
+
+split_done : (duties more : List Duty) (all : List (Option Mine)) → AreDone (duties ++ more) all → Split duties more all
+split_done [] more all are = record { left = []; rest = all; is = refl; done = tt; also = are }
+split_done (d ∷ duties) more [] are = absurd are
+split_done (d ∷ duties) more (l ∷ all) are =
+    let s = split_done duties more all are.1 in
+    record { left = l ∷ s.left; rest = s.rest; is = ap (λ (ms : List (Option Mine)). l ∷ ms) s.is; done = (are.0, s.done); also = s.also }
+
+-- the shares of the four workers that have no port
+pub record Four (plan : Planned) (pf_share pump_share service_share : Mine) (left : List (Option Mine)) : Type 0 where
+  pub pf_left : Mine
+  pub pf_asked : HasAsked (own_events plan pf_share.caller) pf_share pf_left
+  pub frames : List (List ℕ)
+  pub pump_left : Mine
+  pub pump_asked : HasAsked (map Wire frames) pump_share pump_left
+  pub service_left : Mine
+  pub service_asked : HasAsked (own_events plan service_share.caller) service_share service_left
+  pub all : left_of left ≡ pf_left ∷ pump_left ∷ service_left ∷ []
+
+four_done : (plan : Planned) (a b d : Mine) (left : List (Option Mine)) → AreDone (OfShare plan a ∷ OfPump b ∷ OfReader ∷ OfShare plan d ∷ []) left → Four plan a b d left
+four_done plan a b d [] are = absurd are
+four_done plan a b d (p ∷ []) are = absurd are.1
+four_done plan a b d (p ∷ q ∷ []) are = absurd are.1.1
+four_done plan a b d (p ∷ q ∷ r ∷ []) are = absurd are.1.1.1
+four_done plan a b d (p ∷ q ∷ r ∷ s ∷ []) are = record {
+  pf_left = are.0.0;
+  pf_asked = are.0.2;
+  frames = are.1.0.0;
+  pump_left = are.1.0.1.0;
+  pump_asked = are.1.0.1.2;
+  service_left = are.1.1.1.0.0;
+  service_asked = are.1.1.1.0.2;
+  all = λ i. left_of (are.0.1 i ∷ are.1.0.1.1 i ∷ are.1.1.0 i ∷ are.1.1.1.0.1 i ∷ []);
+}
+four_done plan a b d (p ∷ q ∷ r ∷ s ∷ t ∷ left) are = absurd are.1.1.1.1
+
+-- before the ends of ports are recorded, the last share is the service's
+pub record IsRun {L : Type 0} (plan : Planned) (ports : List (CallingPort × Known)) (shares : Shares L) (now : List Mine) : Type 0 where
+  pub left : List (Option Mine)
+  pub ports_done : AreDone (map (port_duty plan) ports) left
+  pub four : List (Option Mine)
+  pub others : Four plan shares.pf shares.pump shares.service four
+  pub all : now ≡ (left_of shares.ports.items ++ left_of left ++ others.pf_left ∷ others.pump_left ∷ []) ++ others.service_left ∷ []
+
+last_apart : (front left : List Mine) (a b c : Mine) → front ++ left ++ a ∷ b ∷ c ∷ [] ≡ (front ++ left ++ a ∷ b ∷ []) ++ c ∷ []
+last_apart front left a b c = sym (append_assoc (front ++ left) (a ∷ b ∷ []) (c ∷ []))
+
+pub is_run : {L : Type 0} (plan : Planned) (ports : List (CallingPort × Known)) (shares : Shares L) (now : List Mine) → HaveDone (duties_of plan ports shares) (left_of shares.ports.items) now → IsRun plan ports shares now
+is_run plan ports shares now done =
+    let s = split_done (map (port_duty plan) ports) (OfShare plan shares.pf ∷ OfPump shares.pump ∷ OfReader ∷ OfShare plan shares.service ∷ []) done.left done.done in
+    let four = four_done plan shares.pf shares.pump shares.service s.rest s.also in
+    record {
+      left = s.left;
+      ports_done = s.done;
+      four = s.rest;
+      others = four;
+      all =
+          done.behind ∙ ap (λ (ms : List Mine). left_of shares.ports.items ++ ms) (ap left_of s.is ∙ left_behind s.left s.rest ∙ ap (λ (ms : List Mine). left_of s.left ++ ms) four.all)
+          ∙ sym (append_assoc (left_of shares.ports.items) (left_of s.left) (four.pf_left ∷ four.pump_left ∷ four.service_left ∷ [])) ∙ last_apart (left_of shares.ports.items) (left_of s.left) four.pf_left four.pump_left four.service_left;
+    }
+
+front_length : (front now : List Mine) (last : Mine) → now ≡ front ++ last ∷ [] → length now ≡ 67 → 66 ≡ length front
+front_length front now last is many = let l = ap length is in let n = length-append front (last ∷ []) in omega (arith, l, n, many)
+
+last_is : (front now : List Mine) (last d : Mine) → now ≡ front ++ last ∷ [] → length now ≡ 67 → get_or now 66 d ≡ last
+last_is front now last d is many =
+    ap (λ (ms : List Mine). get_or ms 66 d) is ∙ (ap (λ (k : ℕ). get_or (front ++ last ∷ []) k d) (front_length front now last is many) ∙ get_or-append_seam front last [] d)
+
+last_set : (front now : List Mine) (last new : Mine) → now ≡ front ++ last ∷ [] → length now ≡ 67 → set now 66 new ≡ front ++ new ∷ []
+last_set front now last new is many =
+    ap (λ (ms : List Mine). set ms 66 new) is ∙ (ap (λ (k : ℕ). set (front ++ last ∷ []) k new) (front_length front now last is many) ∙ set-append_seam front last [] new)
+
+pub last_caller : {L : Type 0} (plan : Planned) (ports : List (CallingPort × Known)) (shares : Shares L) (now : List Mine) (share : Mine) → shares.service.caller ≡ service → HaveDone (duties_of plan ports shares) (left_of shares.ports.items) now
+    → length now ≡ 67 → share ≡ get_or now 66 share → share.caller ≡ service
+last_caller plan ports shares now share own done many is =
+    let r = is_run plan ports shares now done in
+    ap (λ (m : Mine). m.caller) (is ∙ last_is (left_of shares.ports.items ++ left_of r.left ++ r.others.pf_left ∷ r.others.pump_left ∷ []) now r.others.service_left share r.all many)
+    ∙ same_caller (own_events plan shares.service.caller) shares.service r.others.service_left r.others.service_asked ∙ own
+
+pub have_run : {L : Type 0} (plan : Planned) (ports : List (CallingPort × Known)) (notes : List Note) (shares : Shares L) (now : List Mine) (before share : Mine) → shares.pf.caller ≡ pf → shares.service.caller ≡ service
+    → HaveDone (duties_of plan ports shares) (left_of shares.ports.items) now → length now ≡ 67 → before ≡ get_or now 66 before → notes ≡ map note_of ports → HasAsked (map end_of notes) before share
+    → HaveRun plan ports shares (set now 66 share)
+have_run plan ports notes shares now before share own_pf own_service done many is noted asked =
+    let r = is_run plan ports shares now done in
+    let front : List Mine = left_of shares.ports.items ++ left_of r.left ++ r.others.pf_left ∷ r.others.pump_left ∷ [] in
+    let same : before ≡ r.others.service_left = is ∙ last_is front now r.others.service_left before r.all many in
+    let ends : HasAsked (map port_end ports) r.others.service_left share =
+    subst (λ (es : List Event). HasAsked es r.others.service_left share) (ap (map end_of) noted ∙ ends_of_ports ports) (subst (λ (m : Mine). HasAsked (map end_of notes) m share) same asked) in
+    record {
+      left = r.left;
+      ports_done = r.ports_done;
+      pf_left = r.others.pf_left;
+      pf_asked = subst (λ (c : ℕ). HasAsked (own_events plan c) shares.pf r.others.pf_left) own_pf r.others.pf_asked;
+      frames = r.others.frames;
+      pump_left = r.others.pump_left;
+      pump_asked = r.others.pump_asked;
+      service_left = share;
+      service_asked =
+          asked_behind (own_events plan service) (map port_end ports) shares.service r.others.service_left share
+          (subst (λ (c : ℕ). HasAsked (own_events plan c) shares.service r.others.service_left) own_service r.others.service_asked) ends;
+      all = last_set front now r.others.service_left share r.all many ∙ sym (last_apart (left_of shares.ports.items) (left_of r.left) r.others.pf_left r.others.pump_left share);
+    }
+
+-- ---- which pools have a port
+
+ports_last : (pools : List Bool) (ports : List (CallingPort × Known)) (p : CallingPort × Known) → with_ports pools (ports ++ p ∷ []) ≡ slice_set (with_ports pools ports) p.0.port.pool true
+ports_last pools [] p = refl
+ports_last pools (x ∷ ports) p = ports_last (slice_set pools x.0.port.pool true) ports p
+
+pub ports_more : (none : List Bool) (ports : List (CallingPort × Known)) (k : ℕ) (p : CallingPort × Known) (pools : List Bool) (at : ℕ) → k < length ports → p ≡ slice_index_or ports k p → at ≡ p.0.port.pool
+    → pools ≡ with_ports none (take k ports) → slice_set pools at true ≡ with_ports none (take (k + 1) ports)
+ports_more none ports k p pools at less is here before =
+    (λ i. slice_set (before i) (here i) true)
+    ∙ (sym (ports_last none (take k ports) p) ∙ ap (with_ports none) (ap (λ (x : CallingPort × Known). take k ports ++ x ∷ []) is ∙ sym (take_more ports k p less)))

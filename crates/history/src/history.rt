@@ -1,5 +1,5 @@
 //! The history.
-ghost use Rattle.std.specs.Prelude.{◌≡◌, ◌≤◌, ◌<◌, ◌++◌, ◌∷◌, [], length, true, false, IsTrue, ◌↔◌, IfOk, IfErr};
+ghost use Rattle.std.specs.Prelude.{◌≡◌, ◌≤◌, ◌<◌, ◌*◌, ◌++◌, ◌∷◌, [], length, vec_len, vec_capacity, true, false, IsTrue, ◌↔◌, IfOk, IfErr};
 ghost use Rattle.device.specs.Outcome.{reads, answer_in};
 ghost use Rattle.device.specs.Request.{event_of};
 ghost use Rattle.wire_frame.specs.Frame.{IsFrame};
@@ -11,7 +11,7 @@ use crate::reply::is_reply;
 use crate::words::{append_words, are_messages, words_len};
 use device::{Device, MemSlice, Request, Taken};
 use guest_memory::GuestMem;
-use std::alloc::Global;
+use std::alloc::{AllocError, Global};
 use std::marker::Model;
 use wire_frame::{Fault, FrameBuf, FrameLimit};
 
@@ -57,7 +57,7 @@ impl History {
         let Ok(heads) = Vec::with_capacity(alloc, cap) else {
             return Err(Fault::NoMemory);
         };
-        let Ok(pool) = Vec::with_capacity(alloc, cap * MOST_BYTES) else {
+        let Ok(pool) = room_for(alloc, cap) else {
             return Err(Fault::NoMemory);
         };
         Ok(History { heads, pool, cap })
@@ -191,6 +191,15 @@ impl History {
         let same_messages = are_messages(taken.messages, head.vectors, words);
         same_reply && same_messages
     }
+}
+
+// Room for the bytes of so many entries, and for no more.
+fn room_for(alloc: Global, cap: usize) -> Result<Vec<u8>, AllocError>
+    requires few { cap ≤ 65536 }
+    ensures none { IfOk result (λ pool. vec_len pool ≡ 0) }
+    ensures room { IfOk result (λ pool. vec_capacity pool ≡ cap * 9042) }
+{
+    Vec::with_capacity(alloc, cap * MOST_BYTES)
 }
 
 // The bytes of a frame as a frame.

@@ -1,3 +1,4 @@
 pub mod Known
+pub mod Limits
 pub mod Lines
 pub mod Text

@@ -4,6 +4,7 @@ ghost use Rattle.hex.specs.Hex.{encode_lower};
 ghost use Rattle.device.specs.declared.outcome.Outcome.{Outcome};
 ghost use Rattle.device.specs.Outcome.{answer_in, reply_in, reply_of};
 ghost use Rattle.lone.specs.Kept.{item_of, observation_of};
+ghost use Rattle.transcript.specs.Limits.{MOST_HELD};
 ghost use Rattle.transcript.specs.Text.{item_line, item_text, line, reply_text, seen_line, seen_text};
 
 use crate::output::{HELD, MOST_BYTES, Output};
@@ -39,7 +40,8 @@ impl Output {
         taken: &Taken<'_>,
     )
         requires { length self.old ≤ HELD }
-        ensures { self.new ≡ self.old ++ line number (answer_in device.now taken.now) }
+        ensures text { self.new ≡ self.old ++ line number (answer_in device.now taken.now) }
+        ensures few { length self.new ≤ MOST_HELD }
     {
         let room = self.room.as_mut_slice();
         let at = self.count.put(number, room, self.end);
@@ -52,7 +54,8 @@ impl Output {
     #[tactic(auto, unfolding(crate::specs::Text::item_line))]
     pub(crate) fn hold_item(&mut self, number: u64, given: Given<'_>)
         requires { length self.old ≤ HELD }
-        ensures { self.new ≡ self.old ++ item_line number (item_of given.entry) }
+        ensures text { self.new ≡ self.old ++ item_line number (item_of given.entry) }
+        ensures few { length self.new ≤ MOST_HELD }
     {
         let room = self.room.as_mut_slice();
         let at = self.count.put(number, room, self.end);
@@ -70,8 +73,9 @@ impl Output {
         seen: Seen,
     )
         requires { length self.old ≤ HELD }
-        ensures { self.new
+        ensures text { self.new
             ≡ self.old ++ seen_line pool number (observation_of lone.now.function seen) }
+        ensures few { length self.new ≤ MOST_HELD }
     {
         let room = self.room.as_mut_slice();
         let at = self.count.put(number, room, self.end);

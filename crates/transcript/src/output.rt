@@ -5,6 +5,7 @@ ghost use Rattle.hex.specs.Hex.{encode_lower};
 ghost use Rattle.device.specs.Outcome.{answer_in};
 ghost use Rattle.lone.specs.Kept.{item_of, observation_of};
 ghost use Rattle.transcript.specs.Known.{Began, Sent};
+ghost use Rattle.transcript.specs.Limits.{MOST_HELD};
 ghost use Rattle.transcript.specs.Text.{frame_line, item_line, line, seen_line};
 
 use crate::count::{Count, MOST_DIGITS};
@@ -29,7 +30,7 @@ pub(crate) const MOST_BYTES: usize = 9018;
 /// How many bytes stand in the room at most: what is held, and the longest line, which offers a frame.
 pub(crate) const ROOM: usize = HELD + MOST_DIGITS + MOST_ITEM + 1;
 
-/// Lines on their way to a writer, which gets many at a time.
+/// Lines on their way to a writer, which gets many at a time. No more than 83,602 bytes are held.
 #[derive(Drop)]
 pub struct Output {
     // what is held stands in front, and the bytes behind it mean nothing
@@ -80,6 +81,7 @@ impl Output {
         ensures ok { OnOk result
             (Sent (W.contents writer.old) (W.contents writer.new)
             (self.old ++ line number (answer_in device.now taken.now)) self.new) }
+        ensures few { OnOk result (length self.new ≤ MOST_HELD) }
         ensures err { OnErr result
             (Began (W.contents writer.old) (W.contents writer.new)
             (self.old ++ line number (answer_in device.now taken.now))) }
@@ -95,6 +97,7 @@ impl Output {
         ensures ok { OnOk result
             (Sent (W.contents writer.old) (W.contents writer.new)
             (self.old ++ frame_line bytes.now) self.new) }
+        ensures few { OnOk result (length self.new ≤ MOST_HELD) }
         ensures err { OnErr result
             (Began (W.contents writer.old) (W.contents writer.new)
             (self.old ++ frame_line bytes.now)) }
@@ -115,6 +118,7 @@ impl Output {
         ensures ok { OnOk result
             (Sent (W.contents writer.old) (W.contents writer.new)
             (self.old ++ item_line number (item_of given.entry)) self.new) }
+        ensures few { OnOk result (length self.new ≤ MOST_HELD) }
         ensures err { OnErr result
             (Began (W.contents writer.old) (W.contents writer.new)
             (self.old ++ item_line number (item_of given.entry))) }
@@ -138,6 +142,7 @@ impl Output {
         ensures ok { OnOk result
             (Sent (W.contents writer.old) (W.contents writer.new)
             (self.old ++ seen_line pool number (observation_of lone.now.function seen)) self.new) }
+        ensures few { OnOk result (length self.new ≤ MOST_HELD) }
         ensures err { OnErr result
             (Began (W.contents writer.old) (W.contents writer.new)
             (self.old ++ seen_line pool number (observation_of lone.now.function seen))) }
@@ -163,6 +168,7 @@ impl Output {
         requires { HELD + length bytes.now ≤ ROOM }
         ensures ok { OnOk result (Sent (W.contents writer.old) (W.contents writer.new)
             (self.old ++ bytes.now) self.new) }
+        ensures few { OnOk result (length self.new ≤ MOST_HELD) }
         ensures err { OnErr result (Began (W.contents writer.old) (W.contents writer.new)
             (self.old ++ bytes.now)) }
         ensures io { IfErr result (λ e. e ≡ Fault.Io) }

@@ -287,21 +287,32 @@ fn frames_in_turn(rt: HostRuntime) -> Result<(), Fail> {
     Ok(())
 }
 
-/// Two descriptors of a memory of any kind: the first has the addresses and the type, and the second what follows.
+// Takes two descriptors, one after the other, of a memory of any kind.
+fn fetch_two(
+    memory: &mut dyn GuestMem,
+    ring: &mut Ring,
+    pending: &mut Pending,
+    rule: PortVlan,
+) -> ((Fetched, bool), (Fetched, bool))
+    requires { LiesInside (length (bytes memory.old)) ring.old }
+{
+    let limit = FrameLimit::standard();
+    let first = fetch(memory, ring, pending, rule, limit);
+    let second = fetch(memory, ring, pending, rule, limit);
+    (first, second)
+}
+
+/// The first of two descriptors has the addresses and the type, and the second what follows.
 #[test]
 fn two_descriptors_of_any_memory(rt: HostRuntime) -> Result<(), Fail> {
     let mut memory = memory_of(&rt, rt.alloc(), PLAIN, FIRST, 0x2830_000E)?;
     write_words(&mut memory, RING + 16, SECOND, 0x2930_002E);
     let mut ring = ring_of(2);
     let mut pending = Pending::new(rt.alloc())?;
-    let rule = PortVlan::Always(100);
-    let limit = FrameLimit::standard();
-    let first = fetch(&mut memory, &mut ring, &mut pending, rule, limit);
+    let (first, second) = fetch_two(&mut memory, &mut ring, &mut pending, PortVlan::Always(100));
     assert_equal(&rt, first, (Fetched::More, true));
-    let (second, reported) = fetch(&mut memory, &mut ring, &mut pending, rule, limit);
-    assert!(rt; reported);
     match second {
-        Fetched::Frame(frame) => assert!(rt; is_padded(&frame, TAGGED_100, 64)),
+        (Fetched::Frame(frame), true) => assert!(rt; is_padded(&frame, TAGGED_100, 64)),
         _ => assert!(rt; false),
     }
     assert_eq!(rt; memory.size(), 65536);

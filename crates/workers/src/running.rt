@@ -34,6 +34,9 @@ use wire_pump::channel;
 /// pump, and the service does all others. Each port is closed at the end of its thread, and when all have ended, the service
 /// records `End` once for each port. Logs each worker's start and end at debug level.
 ///
+/// The shares come back: those that no worker had, those of the ports in order, the driver's, the pump's and the service's, each
+/// with what its worker asked.
+///
 /// [`Fault::NoMemory`] where the host refused a thread or the room for one, after the workers that run have ended, and where a
 /// note turns out to be of another port, which has not ended. Else [`Fault::HistoryFull`] where the history was full and can't be
 /// folded, after all have ended: the worker that met it ended there. The shares are spent then.

@@ -1,5 +1,5 @@
 //! A channel.
-ghost use Rattle.std.specs.Prelude.{◌≡◌, [], IfOk, IfErr};
+ghost use Rattle.std.specs.Prelude.{◌≡◌, [], length, IfOk, IfErr};
 ghost use Rattle.wire_frame.specs.declared.fault.Fault.TheVariants.{NoMemory};
 
 use crate::ends::{FrameReceiver, FrameSender};
@@ -59,8 +59,10 @@ fn ends(alloc: Global) -> Result<(FrameSender, FrameReceiver), AllocError>
     ))
 }
 
-// Frames to be filled.
-fn blanks(alloc: Global) -> Result<Vec<Box<FrameBuf>>, AllocError> {
+// Frames to be filled: as many as may be under way, the one that is made and the one that is taken.
+fn blanks(alloc: Global) -> Result<Vec<Box<FrameBuf>>, AllocError>
+    ensures count { IfOk result (λ blanks. length blanks.items ≡ 66) }
+{
     let mut blanks = Vec::with_capacity(alloc, FRAMES)?;
     for _ in 0..FRAMES {
         let Ok(blank) = Box::new(alloc, FrameBuf::blank()) else {

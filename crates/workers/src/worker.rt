@@ -244,6 +244,7 @@ fn send_frames<R: Wait>(rt: &R, plan: &Plan, sender: &mut FrameSender) -> FeedEn
 }
 
 /// Gives the frames that come to the device, by the pump's share, which it hands back, and tells how they ended.
+#[tactic(auto, using(crate::proofs::Asks::door_asked))]
 pub fn pumping<M: GuestMem, L: Ledger, G: Gate + Drop, R: Wait>(
     rt: &R,
     receiver: &mut FrameReceiver,

@@ -22,8 +22,13 @@ struct OwnDoor<M: GuestMem, L: Ledger> {
 }
 
 impl<M: GuestMem, L: Ledger> Door for OwnDoor<M, L> {
-    ghost taken = { λ door. door.share.asked };
+    ghost use Rattle.history.specs.Entries.{events};
 
+    ghost taken = { λ door. events door.share.asked };
+
+    ghost calls = { λ door. door.share.asked };
+
+    #[tactic(auto, using(crate::proofs::Asked::one_more, crate::proofs::Asked::one_behind, crate::proofs::Asked::none_more))]
     fn act<R: Wait>(&mut self, _rt: &R, event: Event) -> Result<Answer, Full> {
         if !self.share.may(event.as_request()) {
             return Err(Full(event));

@@ -16,7 +16,11 @@ pub struct Shelf {
 }
 
 impl Door for Shelf {
+    ghost use Rattle.std.specs.Prelude.{[]};
+
     ghost taken = { λ shelf. shelf.events.items };
+
+    ghost calls = { λ _. [] };
 
     fn act<R: Wait>(&mut self, _rt: &R, event: Event) -> Result<Answer, Full> {
         if self.room <= self.events.len() || self.events.push(event.copy()).is_err() {

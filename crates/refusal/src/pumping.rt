@@ -17,7 +17,11 @@ struct Shelf {
 }
 
 impl Door for Shelf {
+    ghost use Rattle.std.specs.Prelude.{[]};
+
     ghost taken = { λ shelf. shelf.events.items };
+
+    ghost calls = { λ _. [] };
 
     fn act<R: Wait>(&mut self, _rt: &R, event: Event) -> Result<Answer, Full> {
         if 2 <= self.events.len() || self.events.push(event.copy()).is_err() {

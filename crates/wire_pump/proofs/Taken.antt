@@ -1,57 +1,42 @@
--- What a door took, one event after another.
-use Rattle.std.proofs.Common.{◌≡◌, ℕ, List, [], ◌∷◌, ◌++◌, map, refl, sym, ap, ◌∙◌, append_assoc}
-use Rattle.std.proofs.lemmas.List.{append-nil, map-append}
+-- What a door took, one event after another, and the calls that stand before.
+use Rattle.std.proofs.Common.{◌≡◌, ℕ, List, [], ◌∷◌, ◌++◌, length, map, take, drop, sym, ap, ◌∙◌, append_assoc}
+use Rattle.std.proofs.Math.Seq.{take-append_seam, take-length}
+use Rattle.std.proofs.lemmas.List.{map-append, take-append-drop}
 use Rattle.device.specs.declared.event.Event.{Event}
-use Rattle.device.specs.declared.event.Event.TheVariants.{Wire}
 use Rattle.device.specs.declared.event.Answer.{Answer}
-use Rattle.history.specs.Entries.{Entry, entry}
+use Rattle.history.specs.Entries.{Entry, entry, events}
 use Rattle.recorder.specs.Held.{Mine, having_asked}
 use Rattle.device_lock.specs.Answers.{MayAnswer, HasAskedOne}
 use Rattle.wire_pump.specs.declared.message.WireMsg.{WireMsg}
 use Rattle.wire_pump.specs.declared.message.WireMsg.TheVariants.{Frame}
-use Rattle.wire_pump.specs.Doors.{HasTaken}
+use Rattle.wire_pump.specs.Doors.{StandFirst}
 use Rattle.wire_pump.specs.Ends.{ReceiveEnd}
 
-pub none_taken : (old new : List Entry) → new ≡ old → HasTaken [] old new
-none_taken old new same = record { calls = []; events = refl; more = same ∙ sym (append-nil old) }
+-- ---- one call of a share
 
-pub one_taken : (old new : Mine) (e : Event) (a : Answer) → new ≡ having_asked e a old → HasTaken (e ∷ []) old.asked new.asked
-one_taken old new e a more = record { calls = entry old.caller e a ∷ []; events = refl; more = ap (λ (m : Mine). m.asked) more }
+pub one_taken : (old new : Mine) (e : Event) (a : Answer) → new ≡ having_asked e a old → events new.asked ≡ events old.asked ++ e ∷ []
+one_taken old new e a more = ap (λ (m : Mine). events m.asked) more ∙ map-append (λ (call : Entry). call.event) old.asked (entry old.caller e a ∷ [])
+
+pub one_behind_it : (old new : Mine) (e : Event) (a : Answer) → new ≡ having_asked e a old → StandFirst old.asked new.asked
+one_behind_it old new e a more = ap (λ (m : Mine). take (length old.asked) m.asked) more ∙ take-append_seam old.asked (entry old.caller e a ∷ [])
 
 pub asked_one : (old new : Mine) (e : Event) (a : Answer) → new ≡ having_asked e a old → MayAnswer e a → HasAskedOne e old new
 asked_one old new e a more may = record { answer = a; kept = more; given = may }
 
--- these, and then those
-taken_then : (es fs : List Event) (first mid last : List Entry) → HasTaken es first mid → HasTaken fs mid last → HasTaken (es ++ fs) first last
-taken_then es fs first mid last before after = record {
-  calls = before.calls ++ after.calls;
-  events = map-append (λ (call : Entry). call.event) before.calls after.calls
-      ∙ (λ i. before.events i ++ after.events i);
-  more = after.more ∙ ap (λ xs. xs ++ after.calls) before.more ∙ append_assoc first before.calls after.calls;
-}
+-- ---- calls that stand first
 
--- one frame more
-pub frame_taken : (frames : List (List ℕ)) (frame : List ℕ) (first mid : List Entry) → HasTaken (map Wire frames) first mid
-    → (last : List Entry) (given : List ℕ) → HasTaken (Wire given ∷ []) mid last → given ≡ frame → HasTaken (map Wire (frames ++ frame ∷ [])) first last
-frame_taken frames frame first mid before last given after same = record {
-  calls = both.calls;
-  events = both.events ∙ ap (λ (f : List ℕ). map Wire frames ++ Wire f ∷ []) same ∙ sym (map-append Wire frames (frame ∷ []));
-  more = both.more;
-}
-  where
-    both : HasTaken (map Wire frames ++ Wire given ∷ []) first last
-    both = taken_then (map Wire frames) (Wire given ∷ []) first mid last before after
+pub stand_first_same : (old new : List Entry) → new ≡ old → StandFirst old new
+stand_first_same old new same = ap (take (length old)) same ∙ take-length old
 
--- nothing more
-pub no_frame_taken : (frames : List (List ℕ)) (first mid : List Entry) → HasTaken (map Wire frames) first mid → (last : List Entry) → HasTaken [] mid last → HasTaken (map Wire frames) first last
-no_frame_taken frames first mid before last after = record {
-  calls = both.calls;
-  events = both.events ∙ append-nil (map Wire frames);
-  more = both.more;
-}
-  where
-    both : HasTaken (map Wire frames ++ []) first last
-    both = taken_then (map Wire frames) [] first mid last before after
+-- what is behind
+behind : (old new : List Entry) → StandFirst old new → new ≡ old ++ drop (length old) new
+behind old new first = sym (take-append-drop (length old) new) ∙ ap (λ (calls : List Entry). calls ++ drop (length old) new) first
+
+pub stand_first_then : (first mid last : List Entry) → StandFirst first mid → StandFirst mid last → StandFirst first last
+stand_first_then first mid last before after =
+    let a : List Entry = drop (length first) mid in let b : List Entry = drop (length mid) last in
+    ap (take (length first)) (behind mid last after ∙ ap (λ (calls : List Entry). calls ++ b) (behind first mid before) ∙ append_assoc first a b)
+    ∙ take-append_seam first (a ++ b)
 
 -- ---- what was received
 

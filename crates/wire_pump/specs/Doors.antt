@@ -1,10 +1,7 @@
--- What a door took.
-use Rattle.std.specs.Prelude.{◌≡◌, List, ◌++◌}
-use Rattle.device.specs.declared.event.Event.{Event}
-use Rattle.history.specs.Entries.{Entry, events}
+-- What a door knows of the calls by which it took events.
+use Rattle.std.specs.Prelude.{◌≡◌, List, length, take}
+use Rattle.history.specs.Entries.{Entry}
 
--- behind the calls before stand calls that took these events, in order, whatever each was answered
-pub record HasTaken (taken : List Event) (old new : List Entry) : Type 0 where
-  pub calls : List Entry
-  pub events : events calls ≡ taken
-  pub more : new ≡ old ++ calls
+-- the calls before stand first among those now, each with its answer
+abbrev pub StandFirst : List Entry → List Entry → Type 0
+StandFirst old new = take (length old) new ≡ old

@@ -56,34 +56,40 @@ impl<M: GuestMem, L: Ledger> LockedDoor<M, L> {
 }
 
 impl<M: GuestMem, L: Ledger> Door for LockedDoor<M, L> {
-    ghost use Rattle.std.specs.Prelude.{◌≡◌, ◌∷◌, [], true, false, if◌then◌else◌, IfOk, IfErr, OnOk, OnErr};
+    ghost use Rattle.std.specs.Prelude.{◌≡◌, ◌++◌, ◌∷◌, [], true, false, if◌then◌else◌, IfOk, IfErr, OnOk, OnErr};
     ghost use Rattle.device.specs.declared.event.Event.TheVariants.{Wire};
     ghost use Rattle.recorder.specs.Held.{having_asked};
     ghost use Rattle.device_lock.specs.Answers.{MayAnswer, HasAskedOne};
-    ghost use Rattle.wire_pump.specs.Doors.{HasTaken};
+    ghost use Rattle.history.specs.Entries.{events};
+    ghost use Rattle.wire_pump.specs.Doors.{StandFirst};
     ghost use Rattle.wire_pump.specs.Ends.{is_wire};
 
-    ghost taken = { λ d. d.asked };
+    ghost taken = { λ d. events d.asked };
+
+    ghost calls = { λ d. d.asked };
 
     /// Gives the event to the device, as one call of the pump. It comes back where the kept history is full.
-    #[tactic(auto, using(crate::proofs::Moves::pump_may, crate::proofs::Taken::one_taken))]
+    #[tactic(auto, using(crate::proofs::Moves::pump_may, crate::proofs::Taken::one_taken, crate::proofs::Taken::one_behind_it, crate::proofs::Taken::stand_first_same))]
     fn act<R: Wait>(&mut self, rt: &R, event: Event) -> Result<Answer, Full>
         requires wire { is_wire event ≡ true }
-        ensures taken { OnOk result (HasTaken (event ∷ []) self.old.asked self.new.asked) }
+        ensures taken { OnOk result (events self.new.asked ≡ events self.old.asked ++ event ∷ []) }
+        ensures calls { StandFirst self.old.asked self.new.asked }
         ensures counted { IfOk result (λ answer. self.new ≡ having_asked event answer self.old) }
         ensures answer { IfOk result (λ answer. MayAnswer event answer) }
         ensures full { IfErr result (λ full. full.0 ≡ event) }
-        ensures unchanged { OnErr result (self.new.asked ≡ self.old.asked) }
+        ensures unchanged { OnErr result (events self.new.asked ≡ events self.old.asked) }
         ensures same { OnErr result (self.new ≡ self.old) }
     {
         self.device.act(rt, &mut self.share, event)
     }
 
     /// The same for a frame, of which no event is made.
-    #[tactic(auto, using(crate::proofs::Taken::one_taken, crate::proofs::Taken::none_taken, crate::proofs::Taken::asked_one))]
+    #[tactic(auto, using(crate::proofs::Taken::one_taken, crate::proofs::Taken::one_behind_it, crate::proofs::Taken::stand_first_same, crate::proofs::Taken::asked_one))]
     fn take<R: Wait>(&mut self, rt: &R, frame: &FrameBuf) -> bool
-        ensures taken { HasTaken (if result then Wire frame.now ∷ [] else []) self.old.asked
-            self.new.asked }
+        ensures taken { events self.new.asked
+            ≡ (if result then events self.old.asked ++ Wire frame.now ∷ []
+            else events self.old.asked) }
+        ensures calls { StandFirst self.old.asked self.new.asked }
         ensures counted { result ≡ true → HasAskedOne (Wire frame.now) self.old self.new }
         ensures same { result ≡ false → self.new ≡ self.old }
     {

@@ -1,8 +1,9 @@
 //! Frames out of the channel, to what takes them.
 ghost use Rattle.std.specs.Prelude.{◌≡◌, ◌++◌, ◌∷◌, [], List, ℕ, true, map, if◌then◌else◌, OnOk, OnErr, IfErr};
 ghost use Rattle.history.specs.Entries.{Entry};
+ghost use Rattle.device.specs.declared.event.Event.{Event};
 ghost use Rattle.device.specs.declared.event.Event.TheVariants.{Wire};
-ghost use Rattle.wire_pump.specs.Doors.{HasTaken};
+ghost use Rattle.wire_pump.specs.Doors.{StandFirst};
 ghost use Rattle.wire_pump.specs.Ends.{is_wire, pumped, IsAll, IsFromWire};
 
 use crate::ends::FrameReceiver;
@@ -16,22 +17,27 @@ use wire_frame::FrameBuf;
 /// What takes the frames that come from the wire, each as the event that it comes. A host's own door needs [`Door::act`] alone,
 /// of which [`Door::take`] is made.
 pub trait Door {
-    /// The calls by which it took events, in order.
-    ghost taken: { Self → List Entry };
+    /// The events that it took, in order.
+    ghost taken: { Self → List Event };
+
+    /// The calls by which it took events, in order, each with its answer; none where it doesn't keep them.
+    ghost calls: { Self → List Entry };
 
     /// Takes an event, which is an [`Event::Wire`], and answers it. Where there is no room the event comes back, and nothing
     /// changed. It may wait.
     fn act<R: Wait>(&mut self, rt: &R, event: Event) -> Result<Answer, Full>
         requires wire { is_wire event ≡ true }
-        ensures taken { OnOk result (HasTaken (event ∷ []) (taken self.old) (taken self.new)) }
+        ensures taken { OnOk result (taken self.new ≡ taken self.old ++ event ∷ []) }
+        ensures calls { StandFirst (calls self.old) (calls self.new) }
         ensures full { IfErr result (λ full. full.0 ≡ event) }
         ensures unchanged { OnErr result (taken self.new ≡ taken self.old) };
 
     /// Takes the event of a frame that is lent, and tells whether it did. A pump calls this, so a door that takes a frame
     /// without a copy of it may do so here, with the same meaning.
     fn take<R: Wait>(&mut self, rt: &R, frame: &FrameBuf) -> bool
-        ensures { HasTaken (if result then Wire frame.now ∷ [] else []) (taken self.old)
-            (taken self.new) }
+        ensures taken { taken self.new
+            ≡ (if result then taken self.old ++ Wire frame.now ∷ [] else taken self.old) }
+        ensures calls { StandFirst (calls self.old) (calls self.new) }
     {
         self.act(rt, Event::Wire(frame.copy())).is_ok()
     }
@@ -64,9 +70,10 @@ impl Debug for PumpEnd {
 #[tactic(auto, using(crate::proofs::Moves::last_ends))]
 pub fn pump<D: Door, R: Wait>(receiver: &mut FrameReceiver, rt: &R, door: &mut D) -> PumpEnd
     ensures in_order { (frames : List (List ℕ))
-        × HasTaken (map Wire frames) (D.taken door.old) (D.taken door.new)
+        × (D.taken door.new ≡ D.taken door.old ++ map Wire frames)
         × (receiver.new
         ≡ record receiver.old { received = receiver.old.received ++ pumped frames result }) }
+    ensures calls { StandFirst (D.calls door.old) (D.calls door.new) }
     ensures whole { IsAll receiver.new.received result }
     ensures wire { IsFromWire result }
 {

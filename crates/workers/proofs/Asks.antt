@@ -1,7 +1,8 @@
 -- What a share asked: nothing, one call, and calls behind others.
-use Rattle.std.proofs.Common.{◌≡◌, ℕ, ◌+◌, ◌<◌, List, [], ◌∷◌, ◌++◌, length, take, refl, sym, ap, ◌∙◌, subst, append_assoc}
+use Rattle.std.proofs.Common.{◌≡◌, ℕ, ◌+◌, ◌<◌, List, [], ◌∷◌, ◌++◌, length, take, drop, refl, sym, ap, ◌∙◌, subst, append_assoc}
 use Rattle.std.specs.Prelude.{Option, Some, slice_index_or}
-use Rattle.std.proofs.lemmas.List.{append-nil, map-append, take_more}
+use Rattle.std.proofs.Math.Seq.{drop-append_seam, take-length}
+use Rattle.std.proofs.lemmas.List.{append-nil, map-append, take_more, take-append-drop}
 use Rattle.device.specs.declared.event.Event.{Event}
 use Rattle.device.specs.declared.event.Event.TheVariants.{PfReset}
 use Rattle.device.specs.declared.event.Reply.{Reply}
@@ -9,10 +10,10 @@ use Rattle.device.specs.declared.event.Answer.{Answer}
 use Rattle.device.specs.declared.taken.Taken.{Taken}
 use Rattle.device.specs.Outcome.{reply_by}
 use Rattle.device.specs.World.{World, step}
-use Rattle.history.specs.Entries.{Entry, entry}
+use Rattle.history.specs.Entries.{Entry, entry, events}
 use Rattle.recorder.specs.Held.{HasAsked, Mine, having_asked}
 use Rattle.recorder.specs.Read.{answer_with}
-use Rattle.wire_pump.specs.Doors.{HasTaken}
+use Rattle.wire_pump.specs.Doors.{StandFirst}
 use Rattle.workers.specs.Asked.{HasLeft, HasTold}
 use Rattle.workers.specs.Callers.{pump}
 
@@ -60,6 +61,19 @@ has_asked e answer old new kept = record { calls = entry old.caller e answer ∷
 pub has_left : (es : List Event) (old new : Mine) (left : Option Mine) → left ≡ Some new → HasAsked es old new → HasLeft es old left
 has_left es old new left is asked = (new, is, asked)
 
+-- ---- the pump's door
+
+pub first_same : (old new : List Entry) → new ≡ old → StandFirst old new
+first_same old new same = ap (take (length old)) same ∙ take-length old
+
 -- what the pump's door took, its share asked
-pub door_asked : (es : List Event) (before : List Entry) (new : Mine) → new.caller ≡ pump → HasTaken es before new.asked → HasAsked es (record { caller = pump; asked = before }) new
-door_asked es before new is taken = record { calls = taken.calls; events = taken.events; more = λ i. record { caller = is i; asked = taken.more i } }
+pub door_asked : (es : List Event) (before : List Entry) (new : Mine) → new.caller ≡ pump → events new.asked ≡ events before ++ es → StandFirst before new.asked → HasAsked es (record { caller = pump; asked = before }) new
+door_asked es before new is taken first =
+    let calls : List Entry = drop (length before) new.asked in
+    let more : new.asked ≡ before ++ calls = sym (take-append-drop (length before) new.asked) ∙ ap (λ (xs : List Entry). xs ++ calls) first in
+    let same : events before ++ events calls ≡ events before ++ es = sym (map-append (λ (call : Entry). call.event) before calls) ∙ (sym (ap events more) ∙ taken) in
+    record {
+      calls = calls;
+      events = sym (drop-append_seam (events before) (events calls)) ∙ (ap (drop (length (events before))) same ∙ drop-append_seam (events before) es);
+      more = λ i. record { caller = is i; asked = more i };
+    }

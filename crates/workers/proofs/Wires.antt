@@ -1,5 +1,5 @@
 -- The own events of the pump are frames.
-use Rattle.std.proofs.Common.{◌≡◌, ℕ, ◌<◌, ◌≤◌, ◌+◌, Bool, true, List, [], ◌∷◌, ◌++◌, length, map, take, refl, sym, ap, ◌∙◌, subst, arith}
+use Rattle.std.proofs.Common.{◌≡◌, ℕ, ◌<◌, ◌≤◌, ◌+◌, Bool, true, false, List, [], ◌∷◌, ◌++◌, length, map, take, refl, sym, ap, ◌∙◌, subst, arith}
 use Rattle.std.specs.Prelude.{slice_index_or}
 use Rattle.std.specs.List.{AllByRecursion}
 use Rattle.std.proofs.lemmas.Bool.{false≢true}
@@ -9,13 +9,21 @@ use Rattle.device.specs.Request.{event_of}
 use Rattle.device.specs.declared.request.Request.{Request}
 use Rattle.device.specs.declared.event.Event.{Event}
 use Rattle.device.specs.declared.event.Event.TheVariants.{Open, End, VfRead, VfWrite, MemRead, MemWrite, Serve, Flr, PfRead, PfWrite, PfReset, Wire}
+use Rattle.recorder.specs.Held.{HasAsked, Mine}
+use Rattle.wire_pump.specs.declared.feeding.FeedEnd.{FeedEnd}
 use Rattle.wire_pump.specs.declared.message.WireMsg.TheVariants.{Frame, Last}
 use Rattle.wire_pump.specs.declared.message.WireMsg.{WireMsg}
-use Rattle.wire_pump.specs.Ends.{frame_in, is_wire}
+use Rattle.wire_pump.specs.declared.pumping.PumpEnd.{PumpEnd}
+use Rattle.wire_pump.specs.Ends.{ReceiveEnd, SendEnd, fed, frame_in, is_wire, pumped}
+use Rattle.wire_pump.specs.Pump.{is_ended}
 use Rattle.workers.specs.Callers.{caller_of, port_or_service, pump}
-use Rattle.workers.specs.Frames.{frames_of}
+use Rattle.workers.specs.declared.worker.Came.{Came}
+use Rattle.workers.specs.Duties.{Duty, HaveDone, OfShare}
+use Rattle.workers.specs.Frames.{came_by, frames_of}
+use Rattle.workers.specs.Pair.{AreNew, HasPumped, HasRead}
 use Rattle.workers.specs.Plans.{Planned, own_events}
 use Rattle.workers.proofs.Turns.{not_port, own_at}
+use Rattle.workers.proofs.Worked.{one_done}
 
 abbrev pub IsWire : Event → Type 0
 IsWire e = e ≡ Wire (frame_in e)
@@ -42,9 +50,19 @@ frames_all : (es : List Event) → AllByRecursion IsWire es → frames_of es ≡
 frames_all [] all = refl
 frames_all (e ∷ es) all = ap (λ (x : Event). frames_of (x ∷ es)) all.0 ∙ ap (λ (fs : List (List ℕ)). frame_in e ∷ fs) (frames_all es all.1)
 
+own_all : (plan : Planned) → length plan.ports ≡ 64 → AllByRecursion IsWire (own_events plan pump)
+own_all plan many = recursion_from_All IsWire (own_events plan pump) (All-from_get_or IsWire (own_events plan pump) PfReset (λ i less. from_wire plan.ports _ many (own_at plan pump i less)))
+
 own_frames : (plan : Planned) → length plan.ports ≡ 64 → frames_of (own_events plan pump) ≡ map frame_in (own_events plan pump)
-own_frames plan many = frames_all (own_events plan pump) (recursion_from_All IsWire (own_events plan pump)
-    (All-from_get_or IsWire (own_events plan pump) PfReset (λ i less. from_wire plan.ports _ many (own_at plan pump i less))))
+own_frames plan many = frames_all (own_events plan pump) (own_all plan many)
+
+wires_again : (es : List Event) → AllByRecursion IsWire es → map Wire (map frame_in es) ≡ es
+wires_again [] all = refl
+wires_again (e ∷ es) all = (λ i. sym all.0 i ∷ wires_again es all.1 i)
+
+-- the pump's own events are all of frames
+pub own_wire : (plan : Planned) → length plan.ports ≡ 64 → map Wire (frames_of (own_events plan pump)) ≡ own_events plan pump
+own_wire plan many = ap (map Wire) (own_frames plan many) ∙ wires_again (own_events plan pump) (own_all plan many)
 
 pub frames_count : (plan : Planned) → length plan.ports ≡ 64 → length (frames_of (own_events plan pump)) ≡ length (own_events plan pump)
 frames_count plan many = ap length (own_frames plan many) ∙ length-map (own_events plan pump) frame_in
@@ -92,3 +110,67 @@ pub sent_all : (before old new : List WireMsg) (frames : List (List ℕ)) (k : �
 sent_all before old new frames k end so_far more =
     more ∙ ap (λ (xs : List WireMsg). xs ++ Last ∷ []) so_far ∙ append_assoc before (map Frame (take k frames)) (Last ∷ [])
     ∙ ap (λ (fs : List (List ℕ)). before ++ (map Frame fs ++ Last ∷ [])) (take_all k frames end)
+
+-- ---- what was sent is what was received, once `Last` was
+
+ended_all : (frames : List (List ℕ)) → is_ended (map Frame frames ++ Last ∷ []) ≡ true
+ended_all [] = refl
+ended_all (f ∷ frames) = ended_all frames
+
+never_ended : (frames : List (List ℕ)) → is_ended (map Frame frames) ≡ false
+never_ended [] = refl
+never_ended (f ∷ frames) = never_ended frames
+
+-- the frames among messages
+abbrev frames_in : List WireMsg → List (List ℕ)
+frames_in [] = []
+frames_in (Frame f ∷ messages) = f ∷ frames_in messages
+frames_in (Last ∷ messages) = frames_in messages
+
+frames_back : (frames : List (List ℕ)) → frames_in (map Frame frames ++ Last ∷ []) ≡ frames
+frames_back [] = refl
+frames_back (f ∷ frames) = ap (λ (fs : List (List ℕ)). f ∷ fs) (frames_back frames)
+
+-- a feed that sent what ends with `Last` sent all its frames, and these are the ones received
+same_frames : (all frames : List (List ℕ)) (end : FeedEnd) → fed all end ≡ map Frame frames ++ Last ∷ [] → frames ≡ all
+same_frames all frames FeedEnd.All is = sym (frames_back frames) ∙ (sym (ap frames_in is) ∙ frames_back all)
+same_frames all frames (FeedEnd.Gone sent) is = absurd (false≢true (sym (never_ended (take sent all)) ∙ (ap is_ended is ∙ ended_all frames)))
+
+-- ---- the pump and the reader
+
+abbrev is_last : Came → Bool
+is_last Came.Last = true
+is_last _ = false
+
+full_not_last : Came.Full ≡ Came.Last → ⊥
+full_not_last is = false≢true (ap is_last is)
+
+gone_not_last : Came.Gone ≡ Came.Last → ⊥
+gone_not_last is = false≢true (ap is_last is)
+
+pub has_pumped : (frames : List (List ℕ)) (end : PumpEnd) (share left : Mine) (old new : ReceiveEnd) → share.caller ≡ pump → came_by end ≡ Came.Last → new ≡ record old { received = old.received ++ pumped frames end }
+    → HasAsked (map Wire frames) (record { caller = pump; asked = share.asked }) left → HasPumped share left old new
+has_pumped frames PumpEnd.Last share left old new is came received asked = record {
+  frames = frames;
+  received = received;
+  asked = subst (λ (c : ℕ). HasAsked (map Wire frames) (record { caller = c; asked = share.asked }) left) (sym is) asked;
+}
+has_pumped frames (PumpEnd.Full event) share left old new is came received asked = absurd (full_not_last came)
+has_pumped frames PumpEnd.Gone share left old new is came received asked = absurd (gone_not_last came)
+
+-- the ends are of one channel still
+pub one_channel : (plan : Planned) (share left : Mine) (sender sent : SendEnd) (receiver received : ReceiveEnd) → AreNew sender receiver → HasRead plan sender sent → HasPumped share left receiver received → received.channel ≡ sent.channel
+one_channel plan share left sender sent receiver received new read came =
+    ap (λ (r : ReceiveEnd). r.channel) came.received ∙ (new.one ∙ sym (ap (λ (s : SendEnd). s.channel) read.sent))
+
+-- the two ends were compared, which changed neither
+pub pair_done : (duty : Duty) (plan : Planned) (share left : Mine) (sender sent beside : SendEnd) (receiver received back : ReceiveEnd) (old new : List Mine) → duty ≡ OfShare plan share → share.caller ≡ pump → AreNew sender receiver → HasRead plan sender sent
+    → HasPumped share left receiver received → beside ≡ sent → back ≡ received → (is_ended back.received ≡ true → beside.sent ≡ back.received) → new ≡ old ++ left ∷ [] → HaveDone (duty ∷ []) old new
+pair_done duty plan share left sender sent beside receiver received back old new to is first read came same_sender same_receiver whole behind =
+    let all : List (List ℕ) = frames_of (own_events plan pump) in
+    let last : List WireMsg = map Frame came.frames ++ Last ∷ [] in
+    let got : back.received ≡ last = ap (λ (r : ReceiveEnd). r.received) (same_receiver ∙ came.received) ∙ ap (λ (xs : List WireMsg). xs ++ last) first.received in
+    let gave : beside.sent ≡ fed all read.end = ap (λ (s : SendEnd). s.sent) (same_sender ∙ read.sent) ∙ ap (λ (xs : List WireMsg). xs ++ fed all read.end) first.sent in
+    let same : came.frames ≡ all = same_frames all came.frames read.end (sym gave ∙ (whole (ap is_ended got ∙ ended_all came.frames) ∙ got)) in
+    let events : map Wire came.frames ≡ own_events plan share.caller = ap (map Wire) same ∙ (read.wire ∙ ap (own_events plan) (sym is)) in
+    subst (λ (d : Duty). HaveDone (d ∷ []) old new) (sym to) (one_done (OfShare plan share) left old new (left, refl, subst (λ (es : List Event). HasAsked es share left) events came.asked) behind)

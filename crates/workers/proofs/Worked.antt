@@ -4,15 +4,13 @@ use Rattle.std.specs.Prelude.{IfSome, MatchOption, None, Option, Some, slice_ind
 use Rattle.std.proofs.lemmas.List.{append-nil, length-append, map-append, take_more}
 use Rattle.std.proofs.Math.Seq.{get_or-append_seam, set-append_seam}
 use Rattle.device.specs.declared.event.Event.{Event}
-use Rattle.device.specs.declared.event.Event.TheVariants.{Wire}
 use Rattle.recorder.specs.Held.{HasAsked, Mine, having_calls, left_of}
 use Rattle.recorder.specs.declared.shares.Shares.{Shares}
 use Rattle.guest_port.specs.Calls.{CallingPort}
 use Rattle.guest_port.specs.Notes.{Known}
-use Rattle.workers.specs.Asked.{HasLeft}
 use Rattle.workers.specs.Calls.{HasClosed}
 use Rattle.workers.specs.Callers.{pf, pump, service}
-use Rattle.workers.specs.Duties.{AreDone, Duty, HaveDone, IsDone, OfPort, OfPump, OfReader, OfShare, port_duty}
+use Rattle.workers.specs.Duties.{AreDone, Duty, HaveDone, IsDone, OfPort, OfShare, port_duty}
 use Rattle.workers.specs.Plans.{Planned, own_events}
 use Rattle.workers.specs.Ends.{note_of, port_end}
 use Rattle.workers.specs.Run.{HaveRun, duties_of, with_ports}
@@ -27,9 +25,6 @@ one_done duty share old new done behind = record { left = Some share ∷ []; don
 
 pub none_left : (duty : Duty) (old new : List Mine) → IsDone duty None → new ≡ old → HaveDone (duty ∷ []) old new
 none_left duty old new done same = record { left = None ∷ []; done = (done, tt); behind = same ∙ sym (append-nil old) }
-
-pub pump_done : (frames : List (List ℕ)) (share : Mine) (left : Option Mine) → share.caller ≡ pump → HasLeft (map Wire frames) (record { caller = pump; asked = share.asked }) left → IsDone (OfPump share) left
-pump_done frames share left is done = (frames, subst (λ (c : ℕ). HasLeft (map Wire frames) (record { caller = c; asked = share.asked }) left) (sym is) done)
 
 -- what a port's worker says of it
 pub handed_back : (plan : Planned) (old new : CallingPort) (left : Option Mine) → HasClosed (own_events plan old.port.pool) old new
@@ -69,15 +64,15 @@ duty_more plan before now after ports p is more =
     ∙ (append_assoc before (map (port_duty plan) ports) (OfPort plan p.0 ∷ []) ∙ ap (λ (xs : List Duty). before ++ xs) (sym (map-append (port_duty plan) ports (p ∷ []))))
 
 -- what all are to do, from the starts one by one
-pub all_duties : {L : Type 0} (plan : Planned) (ports : List (CallingPort × Known)) (shares : Shares L) (pf_share pump_share service_share : Mine) (none guests with_pf with_pump with_reader all : List Duty)
+pub all_duties : {L : Type 0} (plan : Planned) (ports : List (CallingPort × Known)) (shares : Shares L) (pf_share pump_share service_share : Mine) (none guests with_pf with_pump all : List Duty)
     → pf_share ≡ shares.pf → pump_share ≡ shares.pump → service_share ≡ shares.service → none ≡ [] → guests ≡ none ++ map (port_duty plan) ports → with_pf ≡ guests ++ OfShare plan pf_share ∷ []
-    → with_pump ≡ with_pf ++ OfPump pump_share ∷ [] → with_reader ≡ with_pump ++ OfReader ∷ [] → all ≡ with_reader ++ OfShare plan service_share ∷ [] → all ≡ duties_of plan ports shares
-all_duties plan ports shares pf_share pump_share service_share none guests with_pf with_pump with_reader all is_pf is_pump is_service n g a b c d =
+    → with_pump ≡ with_pf ++ OfShare plan pump_share ∷ [] → all ≡ with_pump ++ OfShare plan service_share ∷ [] → all ≡ duties_of plan ports shares
+all_duties plan ports shares pf_share pump_share service_share none guests with_pf with_pump all is_pf is_pump is_service n g a b c =
     let ds : List Duty = map (port_duty plan) ports in
-    let p : Duty = OfShare plan pf_share in let q : Duty = OfPump pump_share in let s : Duty = OfShare plan service_share in
-    d ∙ ap (λ (xs : List Duty). xs ++ s ∷ []) (c ∙ ap (λ (xs : List Duty). xs ++ OfReader ∷ []) (b ∙ ap (λ (xs : List Duty). xs ++ q ∷ []) (a ∙ ap (λ (xs : List Duty). xs ++ p ∷ []) (g ∙ ap (λ (xs : List Duty). xs ++ ds) n))))
-    ∙ (ap (λ (xs : List Duty). (xs ++ OfReader ∷ []) ++ s ∷ []) (append_assoc ds (p ∷ []) (q ∷ [])) ∙ ap (λ (xs : List Duty). xs ++ s ∷ []) (append_assoc ds (p ∷ q ∷ []) (OfReader ∷ [])) ∙ append_assoc ds (p ∷ q ∷ OfReader ∷ []) (s ∷ []))
-    ∙ (λ i. ds ++ OfShare plan (is_pf i) ∷ OfPump (is_pump i) ∷ OfReader ∷ OfShare plan (is_service i) ∷ [])
+    let p : Duty = OfShare plan pf_share in let q : Duty = OfShare plan pump_share in let s : Duty = OfShare plan service_share in
+    c ∙ ap (λ (xs : List Duty). xs ++ s ∷ []) (b ∙ ap (λ (xs : List Duty). xs ++ q ∷ []) (a ∙ ap (λ (xs : List Duty). xs ++ p ∷ []) (g ∙ ap (λ (xs : List Duty). xs ++ ds) n)))
+    ∙ (ap (λ (xs : List Duty). xs ++ s ∷ []) (append_assoc ds (p ∷ []) (q ∷ [])) ∙ append_assoc ds (p ∷ q ∷ []) (s ∷ []))
+    ∙ (λ i. ds ++ OfShare plan (is_pf i) ∷ OfShare plan (is_pump i) ∷ OfShare plan (is_service i) ∷ [])
 
 -- what one worker more did
 pub worked_more : {X : Type 0} (xs : List X) (x : X) (duty : X → Duty) (old mid new : List Mine) → HaveDone (map duty xs) old mid → HaveDone (duty x ∷ []) mid new → HaveDone (map duty (xs ++ x ∷ [])) old new
@@ -104,40 +99,37 @@ split_done (d ∷ duties) more (l ∷ all) are =
     let s = split_done duties more all are.1 in
     record { left = l ∷ s.left; rest = s.rest; is = ap (λ (ms : List (Option Mine)). l ∷ ms) s.is; done = (are.0, s.done); also = s.also }
 
--- the shares of the four workers that have no port
-pub record Four (plan : Planned) (pf_share pump_share service_share : Mine) (left : List (Option Mine)) : Type 0 where
+-- the three shares that are left where there is no port
+pub record Three (plan : Planned) (pf_share pump_share service_share : Mine) (left : List (Option Mine)) : Type 0 where
   pub pf_left : Mine
   pub pf_asked : HasAsked (own_events plan pf_share.caller) pf_share pf_left
-  pub frames : List (List ℕ)
   pub pump_left : Mine
-  pub pump_asked : HasAsked (map Wire frames) pump_share pump_left
+  pub pump_asked : HasAsked (own_events plan pump_share.caller) pump_share pump_left
   pub service_left : Mine
   pub service_asked : HasAsked (own_events plan service_share.caller) service_share service_left
   pub all : left_of left ≡ pf_left ∷ pump_left ∷ service_left ∷ []
 
-four_done : (plan : Planned) (a b d : Mine) (left : List (Option Mine)) → AreDone (OfShare plan a ∷ OfPump b ∷ OfReader ∷ OfShare plan d ∷ []) left → Four plan a b d left
-four_done plan a b d [] are = absurd are
-four_done plan a b d (p ∷ []) are = absurd are.1
-four_done plan a b d (p ∷ q ∷ []) are = absurd are.1.1
-four_done plan a b d (p ∷ q ∷ r ∷ []) are = absurd are.1.1.1
-four_done plan a b d (p ∷ q ∷ r ∷ s ∷ []) are = record {
+three_done : (plan : Planned) (a b c : Mine) (left : List (Option Mine)) → AreDone (OfShare plan a ∷ OfShare plan b ∷ OfShare plan c ∷ []) left → Three plan a b c left
+three_done plan a b c [] are = absurd are
+three_done plan a b c (p ∷ []) are = absurd are.1
+three_done plan a b c (p ∷ q ∷ []) are = absurd are.1.1
+three_done plan a b c (p ∷ q ∷ r ∷ []) are = record {
   pf_left = are.0.0;
   pf_asked = are.0.2;
-  frames = are.1.0.0;
-  pump_left = are.1.0.1.0;
-  pump_asked = are.1.0.1.2;
-  service_left = are.1.1.1.0.0;
-  service_asked = are.1.1.1.0.2;
-  all = λ i. left_of (are.0.1 i ∷ are.1.0.1.1 i ∷ are.1.1.0 i ∷ are.1.1.1.0.1 i ∷ []);
+  pump_left = are.1.0.0;
+  pump_asked = are.1.0.2;
+  service_left = are.1.1.0.0;
+  service_asked = are.1.1.0.2;
+  all = λ i. left_of (are.0.1 i ∷ are.1.0.1 i ∷ are.1.1.0.1 i ∷ []);
 }
-four_done plan a b d (p ∷ q ∷ r ∷ s ∷ t ∷ left) are = absurd are.1.1.1.1
+three_done plan a b c (p ∷ q ∷ r ∷ s ∷ left) are = absurd are.1.1.1
 
 -- before the ends of ports are recorded, the last share is the service's
 pub record IsRun {L : Type 0} (plan : Planned) (ports : List (CallingPort × Known)) (shares : Shares L) (now : List Mine) : Type 0 where
   pub left : List (Option Mine)
   pub ports_done : AreDone (map (port_duty plan) ports) left
-  pub four : List (Option Mine)
-  pub others : Four plan shares.pf shares.pump shares.service four
+  pub three : List (Option Mine)
+  pub others : Three plan shares.pf shares.pump shares.service three
   pub all : now ≡ (left_of shares.ports.items ++ left_of left ++ others.pf_left ∷ others.pump_left ∷ []) ++ others.service_left ∷ []
 
 last_apart : (front left : List Mine) (a b c : Mine) → front ++ left ++ a ∷ b ∷ c ∷ [] ≡ (front ++ left ++ a ∷ b ∷ []) ++ c ∷ []
@@ -145,16 +137,16 @@ last_apart front left a b c = sym (append_assoc (front ++ left) (a ∷ b ∷ [])
 
 pub is_run : {L : Type 0} (plan : Planned) (ports : List (CallingPort × Known)) (shares : Shares L) (now : List Mine) → HaveDone (duties_of plan ports shares) (left_of shares.ports.items) now → IsRun plan ports shares now
 is_run plan ports shares now done =
-    let s = split_done (map (port_duty plan) ports) (OfShare plan shares.pf ∷ OfPump shares.pump ∷ OfReader ∷ OfShare plan shares.service ∷ []) done.left done.done in
-    let four = four_done plan shares.pf shares.pump shares.service s.rest s.also in
+    let s = split_done (map (port_duty plan) ports) (OfShare plan shares.pf ∷ OfShare plan shares.pump ∷ OfShare plan shares.service ∷ []) done.left done.done in
+    let three = three_done plan shares.pf shares.pump shares.service s.rest s.also in
     record {
       left = s.left;
       ports_done = s.done;
-      four = s.rest;
-      others = four;
+      three = s.rest;
+      others = three;
       all =
-          done.behind ∙ ap (λ (ms : List Mine). left_of shares.ports.items ++ ms) (ap left_of s.is ∙ left_behind s.left s.rest ∙ ap (λ (ms : List Mine). left_of s.left ++ ms) four.all)
-          ∙ sym (append_assoc (left_of shares.ports.items) (left_of s.left) (four.pf_left ∷ four.pump_left ∷ four.service_left ∷ [])) ∙ last_apart (left_of shares.ports.items) (left_of s.left) four.pf_left four.pump_left four.service_left;
+          done.behind ∙ ap (λ (ms : List Mine). left_of shares.ports.items ++ ms) (ap left_of s.is ∙ left_behind s.left s.rest ∙ ap (λ (ms : List Mine). left_of s.left ++ ms) three.all)
+          ∙ sym (append_assoc (left_of shares.ports.items) (left_of s.left) (three.pf_left ∷ three.pump_left ∷ three.service_left ∷ [])) ∙ last_apart (left_of shares.ports.items) (left_of s.left) three.pf_left three.pump_left three.service_left;
     }
 
 front_length : (front now : List Mine) (last : Mine) → now ≡ front ++ last ∷ [] → length now ≡ 67 → 66 ≡ length front
@@ -175,10 +167,10 @@ last_caller plan ports shares now share own done many is =
     ap (λ (m : Mine). m.caller) (is ∙ last_is (left_of shares.ports.items ++ left_of r.left ++ r.others.pf_left ∷ r.others.pump_left ∷ []) now r.others.service_left share r.all many)
     ∙ same_caller (own_events plan shares.service.caller) shares.service r.others.service_left r.others.service_asked ∙ own
 
-pub have_run : {L : Type 0} (plan : Planned) (ports : List (CallingPort × Known)) (notes : List Note) (shares : Shares L) (now : List Mine) (before share : Mine) → shares.pf.caller ≡ pf → shares.service.caller ≡ service
+pub have_run : {L : Type 0} (plan : Planned) (ports : List (CallingPort × Known)) (notes : List Note) (shares : Shares L) (now : List Mine) (before share : Mine) → shares.pf.caller ≡ pf → shares.pump.caller ≡ pump → shares.service.caller ≡ service
     → HaveDone (duties_of plan ports shares) (left_of shares.ports.items) now → length now ≡ 67 → before ≡ get_or now 66 before → notes ≡ map note_of ports → HasAsked (map end_of notes) before share
     → HaveRun plan ports shares (set now 66 share)
-have_run plan ports notes shares now before share own_pf own_service done many is noted asked =
+have_run plan ports notes shares now before share own_pf own_pump own_service done many is noted asked =
     let r = is_run plan ports shares now done in
     let front : List Mine = left_of shares.ports.items ++ left_of r.left ++ r.others.pf_left ∷ r.others.pump_left ∷ [] in
     let same : before ≡ r.others.service_left = is ∙ last_is front now r.others.service_left before r.all many in
@@ -189,9 +181,8 @@ have_run plan ports notes shares now before share own_pf own_service done many i
       ports_done = r.ports_done;
       pf_left = r.others.pf_left;
       pf_asked = subst (λ (c : ℕ). HasAsked (own_events plan c) shares.pf r.others.pf_left) own_pf r.others.pf_asked;
-      frames = r.others.frames;
       pump_left = r.others.pump_left;
-      pump_asked = r.others.pump_asked;
+      pump_asked = subst (λ (c : ℕ). HasAsked (own_events plan c) shares.pump r.others.pump_left) own_pump r.others.pump_asked;
       service_left = share;
       service_asked =
           asked_behind (own_events plan service) (map port_end ports) shares.service r.others.service_left share

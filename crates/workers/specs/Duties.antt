@@ -1,6 +1,5 @@
 -- What each worker is to do, and what it leaves once it has done all of it.
-use Rattle.std.specs.Prelude.{◌≡◌, ℕ, ◌++◌, Bool, true, false, List, [], ◌∷◌, map, MatchOption, None, Option}
-use Rattle.device.specs.declared.event.Event.TheVariants.{Wire}
+use Rattle.std.specs.Prelude.{◌≡◌, ◌++◌, Bool, true, false, List, [], ◌∷◌, MatchOption, Option}
 use Rattle.recorder.specs.Held.{Mine, having_calls, left_of}
 use Rattle.guest_port.specs.Calls.{CallingPort}
 use Rattle.guest_port.specs.Notes.{Known}
@@ -11,12 +10,8 @@ use Rattle.workers.specs.Plans.{Planned, own_events}
 pub data Duty : Type 0 where
   -- a port's worker does the events of its pool, and closes the port
   OfPort : (plan : Planned) → (port : CallingPort) → Duty
-  -- the worker of a share does the events of the share's caller
+  -- the worker of a share does the events of the share's caller; the pump does so with the wire's reader
   OfShare : (plan : Planned) → (share : Mine) → Duty
-  -- the pump gives the frames that come to it
-  OfPump : (share : Mine) → Duty
-  -- the reader of the wire sends them
-  OfReader : Duty
 
 abbrev pub port_duty : Planned → CallingPort × Known → Duty
 port_duty plan p = OfPort plan p.0
@@ -32,8 +27,6 @@ pub record HasHandedBack (plan : Planned) (old : CallingPort) (left : Option Min
 abbrev pub IsDone : Duty → Option Mine → Type 0
 IsDone (OfPort plan port) left = HasHandedBack plan port left
 IsDone (OfShare plan share) left = HasLeft (own_events plan share.caller) share left
-IsDone (OfPump share) left = (frames : List (List ℕ)) × HasLeft (map Wire frames) share left
-IsDone OfReader left = left ≡ None
 
 -- the same of each of many, in order
 abbrev pub AreDone : List Duty → List (Option Mine) → Type 0

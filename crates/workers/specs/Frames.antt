@@ -1,9 +1,11 @@
 -- The frames that come from the wire.
-use Rattle.std.specs.Prelude.{ℕ, Bool, true, false, List, [], ◌∷◌}
+use Rattle.std.specs.Prelude.{ℕ, List, [], ◌∷◌}
 use Rattle.device.specs.declared.event.Event.{Event}
 use Rattle.device.specs.declared.event.Event.TheVariants.{Wire}
 use Rattle.wire_pump.specs.declared.pumping.PumpEnd.{PumpEnd}
-use Rattle.wire_pump.specs.declared.pumping.PumpEnd.TheVariants.{Full}
+use Rattle.wire_pump.specs.declared.pumping.PumpEnd.TheVariants.{Last, Full, Gone}
+use Rattle.workers.specs.declared.worker.Came.{Came}
+use Rattle.workers.specs.declared.worker.Came.TheVariants.{Last as CameLast, Full as CameFull, Gone as CameGone}
 
 -- the frames of events, in order
 abbrev pub frames_of : List Event → List (List ℕ)
@@ -11,7 +13,8 @@ frames_of [] = []
 frames_of (Wire frame ∷ events) = frame ∷ frames_of events
 frames_of (_ ∷ events) = frames_of events
 
--- whether a pump ended since its door was full
-abbrev pub is_full : PumpEnd → Bool
-is_full (Full event) = true
-is_full _ = false
+-- how a pump ended, without the event that its door did not take
+abbrev pub came_by : PumpEnd → Came
+came_by Last = CameLast
+came_by (Full event) = CameFull
+came_by Gone = CameGone

@@ -10,4 +10,6 @@ pub mod Ends
 pub mod Opens
 pub mod Duties
 pub mod Work
+pub mod Pair
+pub mod Crew
 pub mod Run

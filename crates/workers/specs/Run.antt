@@ -1,13 +1,12 @@
 -- What the run of all workers did.
-use Rattle.std.specs.Prelude.{◌≡◌, ℕ, ◌++◌, Bool, true, false, List, [], ◌∷◌, map, replicate, slice_set, Option}
-use Rattle.device.specs.declared.event.Event.TheVariants.{Wire}
+use Rattle.std.specs.Prelude.{◌≡◌, ◌++◌, Bool, true, false, List, [], ◌∷◌, map, replicate, slice_set, Option}
 use Rattle.recorder.specs.Held.{HasAsked, Mine, left_of}
 use Rattle.recorder.specs.declared.shares.Shares.{Shares}
 use Rattle.guest_port.specs.Calls.{CallingPort}
 use Rattle.guest_port.specs.Notes.{Known}
 use Rattle.script.specs.Reading.{Meaning}
-use Rattle.workers.specs.Callers.{pf, service}
-use Rattle.workers.specs.Duties.{AreDone, Duty, OfShare, OfPump, OfReader, port_duty}
+use Rattle.workers.specs.Callers.{pf, pump, service}
+use Rattle.workers.specs.Duties.{AreDone, Duty, OfShare, port_duty}
 use Rattle.workers.specs.Ends.{port_end}
 use Rattle.workers.specs.Plans.{Planned, own_events, planned}
 
@@ -20,9 +19,9 @@ with_ports pools (p ∷ ports) = with_ports (slice_set pools p.0.port.pool true)
 abbrev pub plan_of : Meaning → List (CallingPort × Known) → Planned
 plan_of script ports = planned script (with_ports (replicate 64 false) ports)
 
--- what all workers are to do, in the order of their starts
+-- what all workers are to do, in the order of their starts, where the pump and the wire's reader are one
 abbrev pub duties_of : {L : Type 0} → Planned → List (CallingPort × Known) → Shares L → List Duty
-duties_of plan ports shares = map (port_duty plan) ports ++ OfShare plan shares.pf ∷ OfPump shares.pump ∷ OfReader ∷ OfShare plan shares.service ∷ []
+duties_of plan ports shares = map (port_duty plan) ports ++ OfShare plan shares.pf ∷ OfShare plan shares.pump ∷ OfShare plan shares.service ∷ []
 
 -- each worker did all of its own: behind the shares that no worker had stand those that the ports left, in order, and the ones of the
 -- driver, of the pump and of the service, which recorded the ports' ends too
@@ -31,9 +30,8 @@ pub record HaveRun {L : Type 0} (plan : Planned) (ports : List (CallingPort × K
   pub ports_done : AreDone (map (port_duty plan) ports) left
   pub pf_left : Mine
   pub pf_asked : HasAsked (own_events plan pf) shares.pf pf_left
-  pub frames : List (List ℕ)
   pub pump_left : Mine
-  pub pump_asked : HasAsked (map Wire frames) shares.pump pump_left
+  pub pump_asked : HasAsked (own_events plan pump) shares.pump pump_left
   pub service_left : Mine
   pub service_asked : HasAsked (own_events plan service ++ map port_end ports) shares.service service_left
   pub all : ended ≡ left_of shares.ports.items ++ left_of left ++ pf_left ∷ pump_left ∷ service_left ∷ []

@@ -1,8 +1,10 @@
 //! The workers that run.
 ghost use Rattle.std.specs.Prelude.{◌≡◌, ◌++◌, [], ◌∷◌, true, false, IfOk};
+ghost use Rattle.workers.specs.Crew.{duty_in};
 ghost use Rattle.workers.specs.Duties.{HaveDone};
 ghost use Rattle.workers.specs.Work.{duty_of};
 
+use crate::pair::Pair;
 use crate::work::Work;
 use crate::worker::{Done, Worker};
 use device_lock::Share;
@@ -21,11 +23,20 @@ pub struct Ended<L: Ledger> {
     pub shares: Vec<Share<L>>,
 }
 
+/// What runs for a share.
+#[derive(Drop)]
+pub enum Running<M: GuestMem, L: Ledger, P: GuestPort> {
+    /// The thread of a worker that has a share of its own.
+    One(PromisedHandle<Done<L>, Work<M, L, P>>),
+    /// The threads of the pump and of the wire's reader.
+    Two(Pair<L>),
+}
+
 /// The workers that were started, in the order of their starts. Contracts see what each of them promised to do, and whether a
 /// start was refused.
 #[derive(Drop)]
 pub struct Crew<M: GuestMem, L: Ledger, P: GuestPort> {
-    running: Vec<(Worker, PromisedHandle<Done<L>, Work<M, L, P>>)>,
+    running: Vec<(Worker, Running<M, L, P>)>,
     // a start was refused, and none is tried any more
     was_refused: bool,
 }
@@ -36,11 +47,11 @@ impl<M: GuestMem, L: Ledger, P: GuestPort> Model for Crew<M, L, P> {
     ghost Value = { Started };
 
     ghost use Rattle.std.specs.Prelude.{map};
-    ghost use Rattle.workers.specs.Work.{duty_of};
+    ghost use Rattle.workers.specs.Crew.{duty_in};
 
     ghost view = { λ crew. record {
       was_refused = crew.was_refused;
-      duties = map (λ one. duty_of one.1.promise) crew.running.items;
+      duties = map (λ one. duty_in one.1) crew.running.items;
     } };
 }
 
@@ -77,18 +88,13 @@ impl<M: GuestMem, L: Ledger + Send + 'static, P: GuestPort> Crew<M, L, P> {
     }
 
     /// A worker was started, which is logged.
-    pub fn add<O: Log>(
-        &mut self,
-        log: &O,
-        worker: Worker,
-        thread: PromisedHandle<Done<L>, Work<M, L, P>>,
-    )
+    pub fn add<O: Log>(&mut self, log: &O, worker: Worker, running: Running<M, L, P>)
         ensures stays { self.new.was_refused ≡ false → self.old.was_refused ≡ false }
         ensures one { self.new.was_refused ≡ false
-            → self.new.duties ≡ self.old.duties ++ duty_of thread.promise ∷ [] }
+            → self.new.duties ≡ self.old.duties ++ duty_in running ∷ [] }
     {
-        debug!(log; "worker {worker} starts");
-        if self.running.push((worker, thread)).is_err() {
+        log_start(log, worker);
+        if self.running.push((worker, running)).is_err() {
             self.was_refused = true;
         }
     }
@@ -114,17 +120,46 @@ impl<M: GuestMem, L: Ledger + Send + 'static, P: GuestPort> Crew<M, L, P> {
             was_refused,
             was_full: false,
         };
-        for (worker, thread) in running {
-            join_one(rt, thread, shares, &mut ends);
-            debug!(log; "worker {worker} ends");
+        for (worker, one) in running {
+            join_one(rt, log, one, shares, &mut ends);
+            log_end(log, worker);
         }
         ends
     }
 }
 
+/// Logs that a worker starts.
+pub fn log_start<O: Log>(log: &O, worker: Worker) {
+    debug!(log; "worker {worker} starts");
+}
+
+/// Logs that a worker ends.
+pub fn log_end<O: Log>(log: &O, worker: Worker) {
+    debug!(log; "worker {worker} ends");
+}
+
+// Waits for what runs for a share, and puts the share behind the others.
+fn join_one<M: GuestMem, L: Ledger + Send + 'static, P: GuestPort, R: Threads, O: Log>(
+    rt: &R,
+    log: &O,
+    one: Running<M, L, P>,
+    shares: &mut Vec<Share<L>>,
+    ends: &mut Ends,
+)
+    ensures refused { ends.new.was_refused ≡ false → ends.old.was_refused ≡ false }
+    ensures full { ends.new.was_full ≡ false → ends.old.was_full ≡ false }
+    ensures done { ends.new.was_refused ≡ false → ends.new.was_full ≡ false
+        → HaveDone (duty_in one ∷ []) shares.old.items shares.new.items }
+{
+    match one {
+        Running::One(thread) => join_thread(rt, thread, shares, ends),
+        Running::Two(pair) => pair.join(rt, log, shares, ends),
+    }
+}
+
 // Waits for a worker, and puts its share behind the others.
 #[tactic(auto, using(crate::proofs::Worked::one_done, crate::proofs::Worked::none_left))]
-fn join_one<M: GuestMem, L: Ledger, P: GuestPort, R: Threads>(
+fn join_thread<M: GuestMem, L: Ledger, P: GuestPort, R: Threads>(
     rt: &R,
     thread: PromisedHandle<Done<L>, Work<M, L, P>>,
     shares: &mut Vec<Share<L>>,

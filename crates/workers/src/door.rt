@@ -1,7 +1,8 @@
 //! The pump's door, with its gate and its folds.
-ghost use Rattle.std.specs.Prelude.{◌≡◌, ◌∷◌, [], true, if◌then◌else◌, IfErr, OnOk, OnErr};
+ghost use Rattle.std.specs.Prelude.{◌≡◌, ◌++◌, ◌∷◌, [], true, if◌then◌else◌, IfErr, OnOk, OnErr};
 ghost use Rattle.device.specs.declared.event.Event.TheVariants.{Wire};
-ghost use Rattle.wire_pump.specs.Doors.{HasTaken};
+ghost use Rattle.history.specs.Entries.{events};
+ghost use Rattle.wire_pump.specs.Doors.{StandFirst};
 ghost use Rattle.wire_pump.specs.Ends.{is_wire};
 ghost use Rattle.workers.specs.Callers.{pump};
 
@@ -58,7 +59,11 @@ impl<M: GuestMem, L: Ledger, G: Gate + Drop> GatedDoor<M, L, G> {
 }
 
 impl<M: GuestMem, L: Ledger, G: Gate + Drop> Door for GatedDoor<M, L, G> {
-    ghost taken = { λ d. d.inner.asked };
+    ghost use Rattle.history.specs.Entries.{events};
+
+    ghost taken = { λ d. events d.inner.asked };
+
+    ghost calls = { λ d. d.inner.asked };
 
     fn act<R: Wait>(&mut self, rt: &R, event: Event) -> Result<Answer, Full> {
         self.n = self.n.wrapping_add(1);
@@ -79,6 +84,7 @@ impl<M: GuestMem, L: Ledger, G: Gate + Drop> Door for GatedDoor<M, L, G> {
 
 // Gives an event to the door until it is taken, and folds the history where it is full. It comes back where the history can't
 // be folded.
+#[tactic(auto, using(crate::proofs::Asks::first_same))]
 fn act<M: GuestMem, L: Ledger, R: Wait>(
     rt: &R,
     device: &LockedDevice<M, L>,
@@ -86,7 +92,8 @@ fn act<M: GuestMem, L: Ledger, R: Wait>(
     mut event: Event,
 ) -> Result<Answer, Full>
     requires wire { is_wire event ≡ true }
-    ensures taken { OnOk result (HasTaken (event ∷ []) door.old.asked door.new.asked) }
+    ensures taken { OnOk result (events door.new.asked ≡ events door.old.asked ++ event ∷ []) }
+    ensures calls { StandFirst door.old.asked door.new.asked }
     ensures full { IfErr result (λ full. full.0 ≡ event) }
     ensures unchanged { OnErr result (door.new.asked ≡ door.old.asked) }
 {
@@ -103,13 +110,16 @@ fn act<M: GuestMem, L: Ledger, R: Wait>(
 }
 
 // The same for a frame: whether its event was taken.
+#[tactic(auto, using(crate::proofs::Asks::first_same))]
 fn take<M: GuestMem, L: Ledger, R: Wait>(
     rt: &R,
     device: &LockedDevice<M, L>,
     door: &mut LockedDoor<M, L>,
     frame: &FrameBuf,
 ) -> bool
-    ensures { HasTaken (if result then Wire frame.now ∷ [] else []) door.old.asked door.new.asked }
+    ensures taken { events door.new.asked
+        ≡ (if result then events door.old.asked ++ Wire frame.now ∷ [] else events door.old.asked) }
+    ensures calls { StandFirst door.old.asked door.new.asked }
 {
     for _ in rt.forever() {
         if door.take(rt, frame) {

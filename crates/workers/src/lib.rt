@@ -13,6 +13,7 @@ mod calling;
 mod crew;
 mod door;
 mod gate;
+mod pair;
 mod plan;
 mod preparing;
 mod running;

@@ -1,8 +1,8 @@
 //! Who does which event.
-ghost use Rattle.std.specs.Prelude.{◌≡◌, ◌<◌, ◌≤◌, [], ◌∷◌, ◌++◌, length, replicate, slice_index_or, slice_set, unwrap_or, IfOk, OnOk};
+ghost use Rattle.std.specs.Prelude.{◌≡◌, ◌<◌, ◌≤◌, [], ◌∷◌, ◌++◌, length, map, replicate, slice_index_or, slice_set, unwrap_or, IfOk, OnOk};
 ghost use Rattle.std.specs.Arc.{arc_value};
 ghost use Rattle.device.specs.Request.{event_of};
-ghost use Rattle.device.specs.declared.event.Event.TheVariants.{PfReset};
+ghost use Rattle.device.specs.declared.event.Event.TheVariants.{PfReset, Wire};
 ghost use Rattle.workers.specs.Callers.{caller_before, caller_of, port_or_service, pump};
 ghost use Rattle.workers.specs.Frames.{frames_of};
 ghost use Rattle.workers.specs.Plans.{own_events, planned};
@@ -119,10 +119,11 @@ impl Plan {
         self.script.request(place, room)
     }
 
-    /// How many frames come from the wire after `go`.
-    #[tactic(auto, using(crate::proofs::Wires::frames_count))]
+    /// How many frames come from the wire after `go`: all that the pump does.
+    #[tactic(auto, using(crate::proofs::Wires::frames_count, crate::proofs::Wires::own_wire))]
     pub fn frames(&self) -> usize
-        ensures { result ≡ length (frames_of (own_events self.now pump)) }
+        ensures frames { result ≡ length (frames_of (own_events self.now pump)) }
+        ensures wire { map Wire (frames_of (own_events self.now pump)) ≡ own_events self.now pump }
     {
         self.turns(PUMP)
     }

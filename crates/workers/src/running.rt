@@ -13,8 +13,9 @@ ghost use Rattle.workers.specs.Sweeps.{AreLooked, IsLooked, end_of, is_ended};
 
 use crate::crew::{Crew, Ended};
 use crate::gate::Gate;
+use crate::pair::start_pair;
 use crate::plan::{Plan, Ports};
-use crate::starting::{Common, start_driver, start_guests, start_pump, start_reader};
+use crate::starting::{Common, start_driver, start_guests};
 use crate::sweeping::end_known;
 use crate::worker::Worker;
 use device_lock::{CALLERS, LockedDevice, Share, Shares};
@@ -134,8 +135,7 @@ fn run<
     } = take_apart(alloc, shares)?;
     start_guests(rt, log, &common, ports, &mut notes, &mut crew);
     start_driver(rt, log, &common, Worker::Pf, pf, &mut crew);
-    start_pump(rt, log, &common, pump, receiver, &mut crew);
-    start_reader(rt, log, &common, sender, &mut crew);
+    start_pair(rt, log, &common, pump, sender, receiver, &mut crew);
     start_driver(rt, log, &common, Worker::Service, service, &mut crew);
     let ends = crew.join(&rt, log, &mut back);
     if ends.was_refused {

@@ -1,16 +1,14 @@
-//! The starts of the workers.
+//! The starts of the workers, each with a share of its own.
 ghost use Rattle.std.specs.Prelude.{◌≡◌, ◌≤◌, [], ◌∷◌, ◌++◌, false, map, IfOk, OnOk};
 ghost use Rattle.std.specs.Arc.{arc_value};
-ghost use Rattle.workers.specs.Callers.{pump};
-ghost use Rattle.workers.specs.Duties.{IsDone, OfPort, OfShare, OfPump, OfReader, port_duty};
+ghost use Rattle.workers.specs.Duties.{IsDone, OfPort, OfShare, port_duty};
 ghost use Rattle.workers.specs.Ends.{note_of};
 
-use crate::crew::Crew;
-use crate::door::GatedDoor;
+use crate::crew::{Crew, Running};
 use crate::gate::Gate;
 use crate::plan::Plan;
 use crate::work::Work;
-use crate::worker::{Done, Worker, driver, guest, pumping, reader};
+use crate::worker::{Done, Worker, driver, guest};
 use device_lock::{LockedDevice, Share};
 use guest_memory::GuestMem;
 use guest_port::{EndNote, GuestPort, LockedPort};
@@ -21,7 +19,6 @@ use std::sync::ledger::Ledger;
 use std::sync::{Arc, Wait};
 use std::thread;
 use std::thread::Threads;
-use wire_pump::{FrameReceiver, FrameSender, LockedDoor};
 
 /// What all workers have in common.
 #[derive(Drop)]
@@ -35,8 +32,8 @@ pub struct Common<M: GuestMem, L: Ledger, G: Gate + Drop> {
 }
 
 impl<M: GuestMem, L: Ledger, G: Gate + Drop> Common<M, L, G> {
-    // The same for one more worker.
-    fn another(&self) -> Result<Common<M, L, G>, AllocError>
+    /// The same for one more worker.
+    pub fn another(&self) -> Result<Common<M, L, G>, AllocError>
         ensures { IfOk result (λ other. arc_value other.plan ≡ arc_value self.now.plan) }
     {
         Ok(Common {
@@ -120,7 +117,7 @@ fn start_guest<
     }
     let work = Work::Guest(Shadow::of(&*mine.plan), Shadow::of(&port));
     match thread::spawn_with(&rt, work, move || do_port(rt, mine, port)) {
-        Ok(thread) => crew.add(log, Worker::Port(pool), thread),
+        Ok(thread) => crew.add(log, Worker::Port(pool), Running::One(thread)),
         Err(_) => crew.refuse(),
     }
 }
@@ -166,7 +163,7 @@ pub fn start_driver<
     }
     let work = Work::Owner(Shadow::of(&*mine.plan), Shadow::of(&share));
     match thread::spawn_with(&rt, work, move || do_share(rt, mine, share)) {
-        Ok(thread) => crew.add(log, worker, thread),
+        Ok(thread) => crew.add(log, worker, Running::One(thread)),
         Err(_) => crew.refuse(),
     }
 }
@@ -181,89 +178,4 @@ fn do_share<M: GuestMem, L: Ledger, G: Gate + Drop, R: Wait + Copy>(
     ensures { result.was_full ≡ false → IsDone (OfShare (arc_value mine.plan) share) result.share }
 {
     driver(&rt, &mine.plan, &mine.device, share, &*mine.gate)
-}
-
-/// Starts the pump, with its share. Its door has room for a frame, which is to be gone from the stack once the workers run.
-#[inline(never)]
-pub fn start_pump<
-    M: GuestMem + Send + 'static,
-    L: Ledger + Send + Sync + 'static,
-    P: GuestPort + Send + 'static,
-    G: Gate + Drop + Send + Sync + 'static,
-    R: Threads + Wait + Copy + Send + 'static,
-    O: Log,
->(
-    rt: R,
-    log: &O,
-    common: &Common<M, L, G>,
-    share: Share<L>,
-    receiver: FrameReceiver,
-    crew: &mut Crew<M, L, P>,
-)
-    requires { share.caller ≡ pump }
-    ensures stays { crew.new.was_refused ≡ false → crew.old.was_refused ≡ false }
-    ensures duty { crew.new.was_refused ≡ false
-        → crew.new.duties ≡ crew.old.duties ++ OfPump share ∷ [] }
-{
-    let (Ok(mine), Ok(other)) = (common.another(), common.another()) else {
-        return crew.refuse();
-    };
-    if !crew.is_ready() {
-        return;
-    }
-    let work = Work::Pumping(Shadow::of(&share));
-    let door = GatedDoor::new(LockedDoor::new(other.device, share), mine.device, mine.gate);
-    match thread::spawn_with(&rt, work, move || do_pump(rt, receiver, door)) {
-        Ok(thread) => crew.add(log, Worker::Pump, thread),
-        Err(_) => crew.refuse(),
-    }
-}
-
-// What the pump's thread does.
-#[tactic(auto, using(crate::proofs::Worked::pump_done))]
-fn do_pump<M: GuestMem, L: Ledger, G: Gate + Drop, R: Wait + Copy>(
-    rt: R,
-    mut receiver: FrameReceiver,
-    door: GatedDoor<M, L, G>,
-) -> Done<L>
-    requires { door.inner.caller ≡ pump }
-    ensures { result.was_full ≡ false → IsDone (OfPump door.inner) result.share }
-{
-    pumping(&rt, &mut receiver, door)
-}
-
-/// Starts the wire's reader.
-pub fn start_reader<
-    M: GuestMem + Send + 'static,
-    L: Ledger + Send + Sync + 'static,
-    P: GuestPort + Send + 'static,
-    G: Gate + Drop + Send + Sync + 'static,
-    R: Threads + Wait + Copy + Send + 'static,
-    O: Log,
->(rt: R, log: &O, common: &Common<M, L, G>, sender: FrameSender, crew: &mut Crew<M, L, P>)
-    ensures stays { crew.new.was_refused ≡ false → crew.old.was_refused ≡ false }
-    ensures duty { crew.new.was_refused ≡ false
-        → crew.new.duties ≡ crew.old.duties ++ OfReader ∷ [] }
-{
-    let Ok(mine) = common.another() else {
-        return crew.refuse();
-    };
-    if !crew.is_ready() {
-        return;
-    }
-    match thread::spawn_with(&rt, Work::Reading, move || do_reader(rt, mine, sender)) {
-        Ok(thread) => crew.add(log, Worker::Reader, thread),
-        Err(_) => crew.refuse(),
-    }
-}
-
-// What the reader's thread does.
-fn do_reader<M: GuestMem, L: Ledger, G: Gate + Drop, R: Wait + Copy>(
-    rt: R,
-    mine: Common<M, L, G>,
-    mut sender: FrameSender,
-) -> Done<L>
-    ensures { result.was_full ≡ false → IsDone OfReader result.share }
-{
-    reader(&rt, &mine.plan, &mut sender)
 }

@@ -1,5 +1,5 @@
 //! The workers, and what each of them does in its thread.
-ghost use Rattle.std.specs.Prelude.{◌≡◌, ℕ, ◌<◌, ◌≤◌, List, ◌++◌, true, false, length, map, take, Some, None, IfSome, MatchOption};
+ghost use Rattle.std.specs.Prelude.{◌≡◌, ℕ, ◌<◌, ◌≤◌, List, ◌++◌, true, false, length, map, take, Some, IfSome, MatchOption};
 ghost use Rattle.wire_pump.specs.declared.feeding.FeedEnd.{FeedEnd};
 ghost use Rattle.device.specs.declared.event.Event.TheVariants.{Wire};
 ghost use Rattle.recorder.specs.Held.{HasAsked, having_calls};
@@ -8,7 +8,7 @@ ghost use Rattle.wire_pump.specs.Ends.{fed, IsCounted, pumped};
 ghost use Rattle.workers.specs.Callers.{pump};
 ghost use Rattle.workers.specs.Asked.{HasLeft};
 ghost use Rattle.workers.specs.Calls.{HasClosed, HasDoneAll};
-ghost use Rattle.workers.specs.Frames.{frames_of, is_full};
+ghost use Rattle.workers.specs.Frames.{came_by, frames_of};
 ghost use Rattle.workers.specs.Plans.{own_events};
 
 use crate::asking::ask;
@@ -58,8 +58,30 @@ impl Display for Worker {
 /// What a worker hands back when it ends.
 #[derive(Drop)]
 pub struct Done<L: Ledger> {
-    /// Its share. The reader of the wire has none, and a port that was closed before.
+    /// Its share. A port that was closed before has none.
     pub share: Option<Share<L>>,
+    /// Whether it ended since the history was full.
+    pub was_full: bool,
+}
+
+/// How the frames that came to the pump ended.
+#[derive(Clone, Copy, Debug, PartialEq, Eq)]
+pub enum Came {
+    /// `Last` came.
+    Last,
+    /// The history was full.
+    Full,
+    /// The sender is gone, and there was no `Last`.
+    Gone,
+}
+
+/// What the pump hands back when it ends.
+#[derive(Drop)]
+pub struct Pumped<L: Ledger> {
+    /// Its share.
+    pub share: Share<L>,
+    /// Its end of the channel, where `Last` came. Else it is gone, so that the reader doesn't wait for room.
+    pub receiver: Option<FrameReceiver>,
     /// Whether it ended since the history was full.
     pub was_full: bool,
 }
@@ -184,21 +206,16 @@ fn events<M: GuestMem, L: Ledger, G: Gate, R: Wait>(
 }
 
 /// Reads the frames of the wire from the script, and sends them and then `Last` to the pump.
-pub fn reader<L: Ledger, R: Wait>(rt: &R, plan: &Plan, sender: &mut FrameSender) -> Done<L>
+pub fn reader<R: Wait>(rt: &R, plan: &Plan, sender: &mut FrameSender)
     ensures sent { (end : FeedEnd) × IsCounted (length (frames_of (own_events plan.now pump))) end
         × (sender.new
         ≡ record sender.old {
           sent = sender.old.sent
               ++ fed (frames_of (own_events plan.now pump)) end;
         }) }
-    ensures share { result.share ≡ None }
-    ensures full { result.was_full ≡ false }
+    ensures wire { map Wire (frames_of (own_events plan.now pump)) ≡ own_events plan.now pump }
 {
     let _ = send_frames(rt, plan, sender);
-    Done {
-        share: None,
-        was_full: false,
-    }
 }
 
 // Sends the frames and then `Last`. Where the pump is gone, no more are sent.
@@ -210,6 +227,7 @@ fn send_frames<R: Wait>(rt: &R, plan: &Plan, sender: &mut FrameSender) -> FeedEn
               ++ fed (frames_of (own_events plan.now pump)) result;
         } }
     ensures count { IsCounted (length (frames_of (own_events plan.now pump))) result }
+    ensures wire { map Wire (frames_of (own_events plan.now pump)) ≡ own_events plan.now pump }
 {
     let mut room = Room::new();
     let count = plan.frames();
@@ -225,24 +243,23 @@ fn send_frames<R: Wait>(rt: &R, plan: &Plan, sender: &mut FrameSender) -> FeedEn
     }
 }
 
-/// Gives the frames that come to the device, by the pump's share.
+/// Gives the frames that come to the device, by the pump's share, which it hands back, and tells how they ended.
+#[tactic(auto, using(crate::proofs::Asks::door_asked))]
 pub fn pumping<M: GuestMem, L: Ledger, G: Gate + Drop, R: Wait>(
     rt: &R,
     receiver: &mut FrameReceiver,
     mut door: GatedDoor<M, L, G>,
-) -> Done<L>
+) -> (Share<L>, Came)
     ensures asked { (frames : List (List ℕ)) × (end : PumpEnd)
         × (receiver.new
         ≡ record receiver.old { received = receiver.old.received ++ pumped frames end })
-        × HasLeft (map Wire frames) (record { caller = pump; asked = door.inner.asked }) result.share
-        × (result.was_full ≡ is_full end) }
+        × HasAsked (map Wire frames) (record { caller = pump; asked = door.inner.asked }) result.0
+        × (result.1 ≡ came_by end) }
 {
-    let was_full = match pump(receiver, rt, &mut door) {
-        PumpEnd::Full(_) => true,
-        PumpEnd::Last | PumpEnd::Gone => false,
+    let came = match pump(receiver, rt, &mut door) {
+        PumpEnd::Last => Came::Last,
+        PumpEnd::Full(_) => Came::Full,
+        PumpEnd::Gone => Came::Gone,
     };
-    Done {
-        share: Some(door.into_share()),
-        was_full,
-    }
+    (door.into_share(), came)
 }

@@ -11,13 +11,12 @@ returns-clause-done g c =
     λ whole.
     let ready : c.join-ends.result.was_refused ≡ false = search rules in
     let with_service = c.join-ends.ensures.refused ready in
-    let with_reader = c.start_driver-2.ensures.stays with_service in
-    let with_pump = c.start_reader.ensures.stays with_reader in
-    let with_pf = c.start_pump.ensures.stays with_pump in
+    let with_pump = c.start_driver-2.ensures.stays with_service in
+    let with_pf = c.start_pair.ensures.stays with_pump in
     let guests = c.start_driver.ensures.stays with_pf in
     let now : Planned = arc_value c.in_ok-common.common.plan in
     let is : now ≡ plan_of (arc_value c.args.script) c.args.ports.items = search rules in
-    let duties = all_duties now c.args.ports.items c.args.shares c.in_ok-pf.field-0.pf c.in_ok-pf.field-0.pump c.in_ok-pf.field-0.service c.in_ok-crew.crew.duties c.start_guests.new.crew.duties c.start_driver.new.crew.duties c.start_pump.new.crew.duties
-    c.start_reader.new.crew.duties c.start_driver-2.new.crew.duties (search rules) (search rules) (search rules) (search rules) (c.start_guests.ensures.duties guests) (c.start_driver.ensures.duty with_pf) (c.start_pump.ensures.duty with_pump)
-    (c.start_reader.ensures.duty with_reader) (c.start_driver-2.ensures.duty with_service) in
+    let duties = all_duties now c.args.ports.items c.args.shares c.in_ok-pf.field-0.pf c.in_ok-pf.field-0.pump c.in_ok-pf.field-0.service c.in_ok-crew.crew.duties c.start_guests.new.crew.duties c.start_driver.new.crew.duties c.start_pair.new.crew.duties
+    c.start_driver-2.new.crew.duties (search rules) (search rules) (search rules) (search rules) (c.start_guests.ensures.duties guests) (c.start_driver.ensures.duty with_pf) (c.start_pair.ensures.duty with_pump)
+    (c.start_driver-2.ensures.duty with_service) in
     done_with (plan_of (arc_value c.args.script) c.args.ports.items) now c.args.ports.items c.args.shares c.start_driver-2.new.crew.duties c.in_ok-pf.field-0.others.items c.join-ends.new.shares.items is duties (search rules) (c.join-ends.ensures.done ready whole)

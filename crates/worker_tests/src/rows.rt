@@ -142,3 +142,42 @@ fn functions_of_ended_ports_are_closed(rt: HostRuntime) -> Result<(), Fail> {
     assert_eq!(rt; open, [Some(false), Some(true), Some(false)]);
     Ok(())
 }
+
+// A script without guests, whose wire brings 100 frames: more than the channel has room for.
+fn many_frames(alloc: Global) -> Result<String, Fail> {
+    let mut text = String::new(alloc);
+    text.push_str("vfs 1 4096\ngo\n")?;
+    for _ in 0..100 {
+        text.push_str("wire 0200000000000200000000990800.00*46\n")?;
+    }
+    Ok(text)
+}
+
+// How many calls the pump made, and how many are kept.
+fn seen_of_many<L: Ledger + Send + Sync + 'static, R: Threads + Wait + Copy + Send + 'static>(
+    rt: R,
+    alloc: Global,
+    blank: Blank,
+    cap: usize,
+) -> Result<Result<(u64, usize), Fault>, Fail>
+    requires name { blank.name ≡ L.name }
+    requires parts { (blank.parts ≡ L.parts) × (blank.parts ≡ 67) }
+{
+    let setting = setting_of(alloc, 0, 0, cap, false)?;
+    let gate = Arc::new(alloc, OpenGate)?;
+    let text = many_frames(alloc)?;
+    match done::<L, OpenGate, R, Discard>(rt, &Discard, alloc, blank, setting, &text, gate) {
+        Ok(seen) => Ok(Ok((seen.entries[65], seen.kept))),
+        Err(fault) => Ok(Err(fault)),
+    }
+}
+
+// The pump makes a call of each frame. Where it finds the history full it ends, and the reader, which waits for room, ends too.
+#[test]
+fn the_reader_ends_with_the_pump(rt: HostRuntime) -> Result<(), Fail> {
+    for (cap, due) in [(100, Ok((100, 100))), (3, Err(Fault::HistoryFull))] {
+        let seen = seen_of_many::<Brand, HostRuntime>(rt, rt.alloc(), Blank::new(67), cap)?;
+        assert_eq!(rt; seen, due, "{cap}");
+    }
+    Ok(())
+}

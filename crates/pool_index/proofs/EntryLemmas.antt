@@ -15,7 +15,7 @@ use Rattle.wire_frame.specs.Bits.{has_bit}
 use Rattle.wire_frame.proofs.BitLemmas.{has_bit_zero, joined_more, list_any-range_more}
 use Rattle.pool_index.specs.declared.index.Known.{Known}
 use Rattle.pool_index.specs.Index.{kept_pools, Rises}
-use Rattle.pool_index.specs.Entries.{Entries, is_held, is_given, IsAnswer, IsIndexOf}
+use Rattle.pool_index.specs.Entries.{Entries, SaySame, is_held, is_given, IsAnswer, IsIndexOf}
 use Rattle.pool_index.proofs.IndexLemmas.{Changed}
 
 -- ---- no entry passes
@@ -43,46 +43,36 @@ between_true true true c is = is
 between_true true false c is = refl
 between_true false b c is = absurd (true≢false (sym is))
 
--- entry n, where it is valid, has the pools of these bits
-module _ (found : Option ℕ) (n : ℕ) (t : Entries) (key : ℕ) (bits : ℕ → Bool) (has : (p : ℕ) → t.has_pool p n ≡ (t.is_valid n && bits p)) (so_far : IsAnswer found n t key) where
-  given : (p : ℕ) → (t.has_pool p n && eqb (t.key n) key) ≡ ((t.is_valid n && bits p) && eqb (t.key n) key)
-  given p = ap (λ b. b && eqb (t.key n) key) (has p)
-
-  -- it does not hold the key
+module _ (found : Option ℕ) (n : ℕ) (t : Entries) (key : ℕ) (so_far : IsAnswer found n t key) where
+  -- entry n does not hold the key
   pub answer_same : (t.is_valid n && eqb (t.key n) key) ≡ false → IsAnswer found (n + 1) t key
   unfolding is_held is_given
   answer_same not_held = (
     so_far.0 ∙ skipped (λ e. t.is_valid e && eqb (t.key e) key) n not_held,
-    λ p h. so_far.1 p h ∙ skipped (λ e. t.has_pool p e && eqb (t.key e) key) n (given p ∙ between_false (t.is_valid n) (bits p) (eqb (t.key n) key) not_held),
+    λ p h. so_far.1 p h ∙ skipped (λ e. (t.is_valid e && t.has_pool p e) && eqb (t.key e) key) n (between_false (t.is_valid n) (t.has_pool p n) (eqb (t.key n) key) not_held),
   )
 
   -- it holds the key, and its pools join the mask
-  pub answer_more : (pools : ℕ) → ((p : ℕ) → p < 64 → has_bit pools p ≡ bits p) → (t.is_valid n && eqb (t.key n) key) ≡ true → IsAnswer (Some (bit_or (unwrap_or found 0) pools)) (n + 1) t key
+  pub answer_more : (pools : ℕ) → ((p : ℕ) → p < 64 → has_bit pools p ≡ t.has_pool p n) → (t.is_valid n && eqb (t.key n) key) ≡ true → IsAnswer (Some (bit_or (unwrap_or found 0) pools)) (n + 1) t key
   unfolding is_held is_given
   answer_more pools mask held = (
     sym (list_any-range_more (λ e. t.is_valid e && eqb (t.key e) key) n ∙ ap (λ b. list_any (λ e. t.is_valid e && eqb (t.key e) key) (range_with_len 0 n) || b) held ∙ or-true _),
-    λ p h. joined_more (λ e. t.has_pool p e && eqb (t.key e) key) (unwrap_or found 0) pools p n (so_far.1 p h) (mask p h ∙ sym (given p ∙ between_true (t.is_valid n) (bits p) (eqb (t.key n) key) held)),
+    λ p h. joined_more (λ e. (t.is_valid e && t.has_pool p e) && eqb (t.key e) key) (unwrap_or found 0) pools p n (so_far.1 p h) (mask p h ∙ sym (between_true (t.is_valid n) (t.has_pool p n) (eqb (t.key n) key) held)),
   )
 
 -- ---- a table in which no entry is valid
 
-pub nothing_held : (n : ℕ) (t : Entries) → ((e : ℕ) → t.is_valid e ≡ false) → ((p e : ℕ) → t.has_pool p e ≡ false) → IsIndexOf [] n t
+pub nothing_held : (n : ℕ) (t : Entries) → ((e : ℕ) → t.is_valid e ≡ false) → IsIndexOf [] n t
 unfolding kept_pools is_held is_given
-nothing_held n t invalid poolless = (
+nothing_held n t invalid = (
   tt,
   λ key. (
     sym (none_passes (λ e. t.is_valid e && eqb (t.key e) key) 0 n (λ e h. ap (λ b. b && eqb (t.key e) key) (invalid e))),
-    λ p h. has_bit_zero p ∙ sym (none_passes (λ e. t.has_pool p e && eqb (t.key e) key) 0 n (λ e l. ap (λ b. b && eqb (t.key e) key) (poolless p e))),
+    λ p h. has_bit_zero p ∙ sym (none_passes (λ e. (t.is_valid e && t.has_pool p e) && eqb (t.key e) key) 0 n (λ e l. ap (λ b. (b && t.has_pool p e) && eqb (t.key e) key) (invalid e))),
   ),
 )
 
 -- ---- a write to one entry
-
--- two tables say the same of an entry
-pub record SaySame (a b : Entries) (e : ℕ) : Type 0 where
-  pub valid : a.is_valid e ≡ b.is_valid e
-  pub keys : a.key e ≡ b.key e
-  pub pools : (p : ℕ) → a.has_pool p e ≡ b.has_pool p e
 
 pub index_stays : (ks : List Known) (n : ℕ) (a b : Entries) → ((e : ℕ) → SaySame a b e) → IsIndexOf ks n a → IsIndexOf ks n b
 unfolding is_held is_given
@@ -90,7 +80,7 @@ index_stays ks n a b same says = (
   says.0,
   λ key. (
     (says.1 key).0 ∙ ap (λ t. list_any t (range_with_len 0 n)) (λ i e. (same e).valid i && eqb ((same e).keys i) key),
-    λ p h. (says.1 key).1 p h ∙ ap (λ t. list_any t (range_with_len 0 n)) (λ i e. (same e).pools p i && eqb ((same e).keys i) key),
+    λ p h. (says.1 key).1 p h ∙ ap (λ t. list_any t (range_with_len 0 n)) (λ i e. ((same e).valid i && (same e).pools p i) && eqb ((same e).keys i) key),
   ),
 )
 
@@ -111,7 +101,7 @@ module _ (a b : Entries) (e : ℕ) (others : (x : ℕ) → x ≢ e → SaySame a
   unfolding is_held is_given
   answer_stays found n key before after says = (
     says.0 ∙ ap (λ t. list_any t (range_with_len 0 n)) (λ i x. neither key before after a.is_valid b.is_valid (λ y other. (others y other).valid) x i),
-    λ p h. says.1 p h ∙ ap (λ t. list_any t (range_with_len 0 n)) (λ i x. neither key before after (a.has_pool p) (b.has_pool p) (λ y other. (others y other).pools p) x i),
+    λ p h. says.1 p h ∙ ap (λ t. list_any t (range_with_len 0 n)) (λ i x. neither key before after (λ y. a.is_valid y && a.has_pool p y) (λ y. b.is_valid y && b.has_pool p y) (λ y other j. (others y other).valid j && (others y other).pools p j) x i),
   )
 
 -- ---- there is room for every key that an entry holds

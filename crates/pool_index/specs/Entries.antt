@@ -3,7 +3,7 @@ use Rattle.std.specs.Prelude.{◌≡◌, ℕ, ◌<◌, ◌==◌, Bool, ◌&&◌,
 use Rattle.std.specs.List.{list_any, range_with_len}
 use Rattle.std.specs.Option.{unwrap_or}
 use Rattle.wire_frame.specs.Bits.{has_bit}
-use Rattle.pool_index.specs.declared.index.Known.{Known}
+use Rattle.pool_index.specs.declared.index.Entry.{Entry}
 use Rattle.pool_index.specs.Index.{kept_pools, Rises}
 
 -- what a table says of its entries, by their numbers: which are valid, the key of each, and whether one has a pool
@@ -33,5 +33,5 @@ IsAnswer found n t key =
     (is_some found ≡ is_held n t key) × ((p : ℕ) → p < 64 → has_bit (unwrap_or found 0) p ≡ is_given n t p key)
 
 -- the index keeps exactly the keys that the first n entries hold, each once, with its pools
-abbrev pub IsIndexOf : List Known → ℕ → Entries → Type 0
+abbrev pub IsIndexOf : List Entry → ℕ → Entries → Type 0
 IsIndexOf ks n t = Rises 0 ks × ((key : ℕ) → IsAnswer (kept_pools ks key) n t key)

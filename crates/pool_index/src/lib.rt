@@ -2,7 +2,8 @@
 //!
 //! [`PoolIndex`] keeps numbers that strictly rise, each with a set of pools as a mask of 64 bits. It finds the pools of a
 //! key by no more comparisons than the number of its places has binary digits ([`PoolIndex::probe`]), gives a key other
-//! pools ([`PoolIndex::put`]) and takes a key out ([`PoolIndex::take_out`]). Its meaning is the list of what it keeps.
+//! pools ([`PoolIndex::put`]) and takes a key out ([`PoolIndex::take_out`]). Its meaning is the list of what it keeps: each
+//! [`Entry`] of it is a key with its pools, while `Entries`, of this crate's definitions, is what a table says of its own.
 //!
 //! [`KeyedTable`] holds register words whose entries hold keys ([`KeyedWords`]), and an index that keeps exactly the keys of
 //! the valid entries with their pools: `IsIndexOf`, of this crate's definitions, from which follows that there is room for
@@ -14,5 +15,5 @@
 pub mod index;
 pub mod table;
 
-pub use index::{Known, PoolIndex};
+pub use index::{Entry, PoolIndex};
 pub use table::{KeyedTable, KeyedWords};

@@ -1,5 +1,5 @@
 -- Own settings that do not differ are those after the write.
-use Rattle.std.proofs.Common.{sym, ap, ◌∙◌}
+use Rattle.std.proofs.Common.{ap, ◌∙◌}
 use Rattle.pool_filter.specs.Own.{own}
 use Rattle.lone.proofs.watch.Watch.pf_write.Goals as goal
 

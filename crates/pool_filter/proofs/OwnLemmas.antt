@@ -1,5 +1,5 @@
 -- A pool's own addresses and ids are those that it has, in lists that strictly rise.
-use Rattle.std.proofs.Common.{arith, map, ◌&&◌, ◌||◌, ◌≡◌, ℕ, zero, suc, ◌+◌, ◌/◌, ◌%◌, get_or, replicate, Bool, true, false, List, [], ◌∷◌, refl, ap, ◌∙◌, eqb}
+use Rattle.std.proofs.Common.{arith, map, ◌&&◌, ◌||◌, ◌≡◌, ℕ, zero, suc, ◌+◌, ◌/◌, ◌%◌, get_or, replicate, Bool, true, false, List, [], ◌∷◌, refl, ap, subst, ◌∙◌, eqb}
 use Rattle.std.proofs.lemmas.Bool.Decides.{nat_tests, Decides-and, Decides-like, Decides-eqb}
 use Rattle.std.specs.Bool.{Decides}
 use Rattle.std.specs.Cmp.{booleans_Decides}
@@ -83,7 +83,19 @@ same_are_equal s t p q same = λ i. record {
   port_vlan = same.port_vlan i;
 }
 
--- the test of that finds no difference exactly where there is none
+-- the fields, one by one
+abbrev AreEqual : OwnSettings → OwnSettings → Type 0
+AreEqual o n = (o.addresses ≡ n.addresses) × ((o.vlan_ids ≡ n.vlan_ids) × ((o.takes_untagged ≡ n.takes_untagged) × ((o.may_receive ≡ n.may_receive)
+    × ((o.may_transmit ≡ n.may_transmit) × ((o.checks_address ≡ n.checks_address) × ((o.checks_vlan ≡ n.checks_vlan) × (o.port_vlan ≡ n.port_vlan)))))))
+
+fields_decide : (o n : OwnSettings) → Decides (same_settings o n) (AreEqual o n)
+fields_decide o n =
+    Decides-and _ _ (bytes_decides o.addresses n.addresses) (Decides-and _ _ (bytes_decides o.vlan_ids n.vlan_ids)
+    (Decides-and _ _ (booleans_Decides o.takes_untagged n.takes_untagged) (Decides-and _ _ (booleans_Decides o.may_receive n.may_receive)
+    (Decides-and _ _ (booleans_Decides o.may_transmit n.may_transmit) (Decides-and _ _ (booleans_Decides o.checks_address n.checks_address)
+    (Decides-and _ _ (booleans_Decides o.checks_vlan n.checks_vlan) (Decides-eqb o.port_vlan n.port_vlan)))))))
+
+-- the test finds no difference exactly where there is none
 pub same_settings_decides : (o n : OwnSettings) → Decides (same_settings o n) (o ≡ n)
 same_settings_decides o n =
     Decides-like (same_settings o n)
@@ -97,23 +109,7 @@ same_settings_decides o n =
       checks_vlan = h.1.1.1.1.1.1.0 i;
       port_vlan = h.1.1.1.1.1.1.1 i;
     })
-    (λ e. (
-      λ i. (e i).addresses,
-      (
-        λ i. (e i).vlan_ids,
-        (
-          λ i. (e i).takes_untagged,
-          (
-            λ i. (e i).may_receive,
-            (λ i. (e i).may_transmit, (λ i. (e i).checks_address, (λ i. (e i).checks_vlan, λ i. (e i).port_vlan))),
-          ),
-        ),
-      ),
-    ))
-    (Decides-and _ _ (bytes_decides o.addresses n.addresses) (Decides-and _ _ (bytes_decides o.vlan_ids n.vlan_ids)
-    (Decides-and _ _ (booleans_Decides o.takes_untagged n.takes_untagged) (Decides-and _ _ (booleans_Decides o.may_receive n.may_receive)
-    (Decides-and _ _ (booleans_Decides o.may_transmit n.may_transmit) (Decides-and _ _ (booleans_Decides o.checks_address n.checks_address)
-    (Decides-and _ _ (booleans_Decides o.checks_vlan n.checks_vlan) (Decides-eqb o.port_vlan n.port_vlan))))))))
+    (λ e. subst (AreEqual o) e (refl, (refl, (refl, (refl, (refl, (refl, (refl, refl)))))))) (fields_decide o n)
 
 -- ---- a device as it is made
 

@@ -1,15 +1,12 @@
-//! A guest's memory over bytes that someone else allocated, and lends for as long as the memory is there.
-//!
-//! A [`LentMem`] stands in the bytes themselves: what a device writes is there for whoever lent them, once the memory is
-//! gone. It takes no memory of its own. It doesn't say which sizes a device takes: the device's maker does.
-#![tactic(auto)]
-
+//! A memory over bytes that someone else allocated, and lends for as long as the memory is there.
 ghost use Rattle.std.specs.Prelude.{◌≡◌, ◌≤◌, ◌+◌, length, slice_range, replicate};
 ghost use Rattle.guest_memory.specs.Memory.{overwrite};
 
-use guest_memory::GuestMem;
+use crate::GuestMem;
 
-/// Bytes that are lent. Nobody else reads or writes them while the memory is there.
+/// A memory over bytes that are lent. It stands in the bytes themselves: what a device writes is there for whoever lent
+/// them, once the memory is gone, and nobody else reads or writes them while it is there. It takes no memory of its own. It
+/// doesn't say which sizes a device takes: the device's maker does.
 #[derive(Drop)]
 pub struct LentMem<'a> {
     cells: &'a mut [u8],

@@ -1,5 +1,5 @@
 -- Each turn takes the lowest pool and gives its function the frame, where there is one; once no pool is left, all have got it.
-use Rattle.std.proofs.Common.{◌≡◌, ℕ, map, false, ◌<◌, ◌≤◌, ap, sym, subst, ◌∙◌, arith, refl, rules, nat_eq, get_or, set, length, length-set, get_or-set_other}
+use Rattle.std.proofs.Common.{◌≡◌, ℕ, false, ◌<◌, ◌≤◌, ap, sym, subst, ◌∙◌, arith, refl, rules, nat_eq, get_or, set, length, length-set, get_or-set_other}
 use Rattle.std.specs.Int.{bit_at}
 use Rattle.std.proofs.lemmas.Nat.Bits.{bit_at-zero}
 use Rattle.std.proofs.lemmas.List.{get_or_default}

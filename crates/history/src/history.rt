@@ -55,12 +55,8 @@ impl History {
         if cap < 1 || cap > MOST_CALLS {
             return Err(Fault::BadMake);
         }
-        let Ok(heads) = Vec::with_capacity(alloc, cap) else {
-            return Err(Fault::NoMemory);
-        };
-        let Ok(pool) = room_for(alloc, cap) else {
-            return Err(Fault::NoMemory);
-        };
+        let heads = Vec::with_capacity(alloc, cap)?;
+        let pool = room_for(alloc, cap)?;
         Ok(History { heads, pool, cap })
     }
 

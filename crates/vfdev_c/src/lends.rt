@@ -67,14 +67,9 @@ fn lending(alloc: Global, cells: &'static mut [u8]) -> Result<Box<Stage>, Fault>
     if !is_memory_size(cells.len() as u64) {
         return Err(Fault::BadMake);
     }
-    let Ok(mut blocks) = LentBlocks::new(alloc) else {
-        return Err(Fault::NoMemory);
-    };
+    let mut blocks = LentBlocks::new(alloc)?;
     blocks.push(cells);
-    match Box::new(alloc, Stage::Lending(blocks)) {
-        Ok(stage) => Ok(stage),
-        Err(_) => Err(Fault::NoMemory),
-    }
+    Ok(Box::new(alloc, Stage::Lending(blocks))?)
 }
 
 // Lends one more block.
@@ -157,8 +152,5 @@ pub(crate) fn boxed_over(
         ≡ true → e ≡ Fault.NoMemory) }
 {
     let device = Device::with_limit(alloc, memories, limit)?;
-    match Box::new(alloc, Stage::Made(Running::of(device))) {
-        Ok(stage) => Ok(stage),
-        Err(_) => Err(Fault::NoMemory),
-    }
+    Ok(Box::new(alloc, Stage::Made(Running::of(device)))?)
 }

@@ -93,9 +93,7 @@ pub(crate) fn memories(
     let mut all = Vec::new(alloc);
     for _ in 0..functions {
         let memory = FlatMem::new(alloc, size)?;
-        if all.push(HostMem::Own(memory)).is_err() {
-            return Err(Fault::NoMemory);
-        }
+        all.push(HostMem::Own(memory))?;
     }
     Ok(all)
 }

@@ -155,8 +155,5 @@ fn boxed(
     let memories = memories(alloc, functions, size)?;
     let device = Device::with_limit(alloc, memories, limit)?;
     let recorder = Recorder::new(alloc, device, cap)?;
-    match Box::new(alloc, Stage::Kept(recorder)) {
-        Ok(stage) => Ok(stage),
-        Err(_) => Err(Fault::NoMemory),
-    }
+    Ok(Box::new(alloc, Stage::Kept(recorder))?)
 }

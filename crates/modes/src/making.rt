@@ -30,10 +30,7 @@ pub fn make_device<M: GuestMem>(
         return Err(wire_frame::Fault::BadMake);
     }
     let device = Device::with_limit(alloc, memories, shape.limit.get())?;
-    match Box::new(alloc, device) {
-        Ok(device) => Ok(device),
-        Err(_) => Err(wire_frame::Fault::NoMemory),
-    }
+    Ok(Box::new(alloc, device)?)
 }
 
 // Whether there are so many memories, and each has that size.

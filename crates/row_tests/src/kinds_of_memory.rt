@@ -1,5 +1,5 @@
 //! One script over memories of two kinds side by side.
-use super::check::run_in;
+use super::check::{assert_written, run_in};
 use guest_memory::{FlatMem, GuestMem};
 use modes::Mode;
 use modes::run::run;
@@ -90,9 +90,13 @@ fn boxes_of_two_kinds_serve_side_by_side(rt: HostRuntime) -> Result<(), Fail> {
         boxes.push(Box::new(alloc, OnePiece { cells })?)?;
     }
     let written = written_over(alloc, script.as_str(), boxes)?;
-    let (result, plain) = run_in(alloc, Mode::Run, script.as_str());
-    let is_due = written.as_slice() == output.as_bytes();
-    let is_plain = plain.as_slice() == output.as_bytes();
-    assert_eq!(rt; (result, is_due, is_plain), (Ok(()), true, true));
+    assert_written(
+        &rt,
+        (Ok(()), written),
+        output.as_str(),
+        (Mode::Run, "two kinds"),
+    );
+    let run = run_in(alloc, Mode::Run, script.as_str());
+    assert_written(&rt, run, output.as_str(), (Mode::Run, "one kind"));
     Ok(())
 }

@@ -85,27 +85,6 @@ impl<M: GuestMem, L: Ledger> Recorded<M, L> {
         shared(alloc, blank, Journal::new(device, None, line, history))
     }
 
-    /// The same of a device in a box, which stays there: a device is too large to be moved over a small stack.
-    pub fn from_box(
-        alloc: Global,
-        blank: Blank,
-        device: Box<Device<M>>,
-        line: DeviceSeat,
-        cap: usize,
-    ) -> Result<(Recorded<M, L>, Shares<L>), Fault>
-        requires name { blank.name ≡ L.name }
-        requires parts { (blank.parts ≡ L.parts) × (blank.parts ≡ 67) }
-        requires fresh { IsFresh device.value }
-        requires line { line.raises ≡ [] }
-        ensures begun { IfOk result (λ r. r.0 ≡ begun device.value cap false line) }
-        ensures shares { IfOk result (λ r. AreUnused r.1) }
-        ensures bad_make { is_cap cap ≡ false → result ≡ Err Fault.BadMake }
-        ensures no_memory { IfErr result (λ e. is_cap cap ≡ true → e ≡ Fault.NoMemory) }
-    {
-        let history = History::new(alloc, cap)?;
-        shared(alloc, blank, Journal::new(device, None, line, history))
-    }
-
     /// The same with a twin of the device, equal to it, by which [`Recorded::rebase`] moves the base.
     ///
     /// [`Fault::BadMake`] comes exactly where `cap` is not 1 to 65,536, or the two differ in how long a frame may be, in

@@ -1,5 +1,6 @@
 -- The events so far are done.
-use Rattle.std.proofs.Common.{◌≡◌, ◌<◌, length, take}
+use Rattle.std.proofs.Common.{◌≡◌, length, take}
+use Rattle.history.specs.declared.caller.Caller.TheVariants.{Port}
 use Rattle.workers.specs.Calls.{HasDoneAll}
 use Rattle.workers.specs.Plans.{own_events}
 use Rattle.workers.proofs.worker.calls.Given as goal
@@ -7,9 +8,8 @@ use Rattle.workers.proofs.worker.calls.Given as goal
 abbrev pub invariant-loop-turn : goal.invariant-loop-turn
 invariant-loop-turn g l = record {
   done : HasDoneAll (take l.turn (own_events l.plan l.caller)) l.fn.port l.port;
-  pool : l.port.port.pool ≡ l.caller;
-  same : l.fn.port.port.pool ≡ l.caller;
+  caller : l.caller ≡ Port l.port.port.pool;
+  same : l.caller ≡ Port l.fn.port.port.pool;
   closed : l.port.port.is_closed ≡ l.fn.port.port.is_closed;
-  below : l.caller < 64;
   read : length l.read ≡ 2048;
 }

@@ -127,15 +127,14 @@ fn calls<M: GuestMem, L: Ledger, P: GuestPort, G: Gate, R: Wait>(
     ensures kept { (port.new.port.pool ≡ port.old.port.pool)
         × (port.new.port.is_closed ≡ port.old.port.is_closed) }
 {
-    let caller = port.caller();
-    let number = caller.number();
+    let number = port.pool();
     let mut room = Room::new();
     let mut read = [0; MOST_BYTES];
     let mut n = 0u32;
-    for turn in 0..plan.turns(caller) {
+    for turn in 0..plan.turns(port.caller()) {
         n = n.wrapping_add(1);
         gate.before(number, n);
-        let done = call_turn(rt, plan, device, port, caller, turn, &mut room, &mut read);
+        let done = call_turn(rt, plan, device, port, turn, &mut room, &mut read);
         gate.after(number, n);
         if !done {
             return false;
@@ -151,18 +150,16 @@ fn call_turn<M: GuestMem, L: Ledger, P: GuestPort, R: Wait>(
     plan: &Plan,
     device: &LockedDevice<M, L>,
     port: &mut LockedPort<M, L, P>,
-    caller: Caller,
     turn: usize,
     room: &mut Room,
     read: &mut [u8; MOST_BYTES],
 ) -> bool
-    requires caller { caller ≡ Port port.old.port.pool }
-    requires turn { turn < length (own_events plan.now caller) }
+    requires { turn < length (own_events plan.now (Port port.old.port.pool)) }
     ensures done { result ≡ true
-        → HasDone (slice_index_or (own_events plan.now caller) turn PfReset) port.old port.new }
+        → HasDone (slice_index_or (own_events plan.now (Port port.old.port.pool)) turn PfReset) port.old port.new }
     ensures undone { result ≡ false → port.new ≡ port.old }
 {
-    let request = plan.request(caller, turn, room);
+    let request = plan.request(port.caller(), turn, room);
     match call(rt, device, port, request, read) {
         Ok(()) => true,
         Err(_) => false,
@@ -220,7 +217,7 @@ fn events<M: GuestMem, L: Ledger, G: Gate, R: Wait>(
         n = n.wrapping_add(1);
         gate.before(number, n);
         let done = ask_turn(
-            rt, plan, device, caller, share, turn, &mut room, &mut frame, &mut read,
+            rt, plan, device, &caller, share, turn, &mut room, &mut frame, &mut read,
         );
         gate.after(number, n);
         if !done {
@@ -236,24 +233,24 @@ fn ask_turn<M: GuestMem, L: Ledger, R: Wait>(
     rt: &R,
     plan: &Plan,
     device: &LockedDevice<M, L>,
-    caller: Caller,
+    caller: &Caller,
     share: &mut Share<L>,
     turn: usize,
     room: &mut Room,
     frame: &mut FrameBuf,
     read: &mut [u8; MOST_BYTES],
 ) -> bool
-    requires caller { share.old.caller ≡ caller }
-    requires other { is_port caller ≡ false }
-    requires turn { turn < length (own_events plan.now caller) }
+    requires caller { share.old.caller ≡ caller.now }
+    requires other { is_port caller.now ≡ false }
+    requires turn { turn < length (own_events plan.now caller.now) }
     requires read { length read.old ≡ 2048 }
     ensures asked { result ≡ true
-        → HasAsked (slice_index_or (own_events plan.now caller) turn PfReset ∷ []) share.old share.new }
+        → HasAsked (slice_index_or (own_events plan.now caller.now) turn PfReset ∷ []) share.old share.new }
     ensures undone { result ≡ false → share.new ≡ share.old }
     ensures caller { share.new.caller ≡ share.old.caller }
     ensures read { length read.new ≡ 2048 }
 {
-    let request = plan.request(caller, turn, room);
+    let request = plan.request(*caller, turn, room);
     match ask(rt, device, share, request, frame, read) {
         Ok(_) => true,
         Err(_) => false,

@@ -7,9 +7,8 @@ use Rattle.workers.proofs.worker.calls.Given as goal
 
 abbrev pub invariant-loop-turn : goal.invariant-loop-turn
 invariant-loop-turn g l = record {
-  done : HasDoneAll (take l.turn (own_events l.plan l.caller)) l.fn.port l.port;
-  caller : l.caller ≡ Port l.port.port.pool;
-  same : l.caller ≡ Port l.fn.port.port.pool;
+  done : HasDoneAll (take l.turn (own_events l.plan (Port l.fn.port.port.pool))) l.fn.port l.port;
+  pool : l.port.port.pool ≡ l.fn.port.port.pool;
   closed : l.port.port.is_closed ≡ l.fn.port.port.is_closed;
   read : length l.read ≡ 2048;
 }

@@ -88,12 +88,8 @@ impl<M: GuestMem> Device<M> {
         if !is_makeable(memories.as_slice()) {
             return Err(Fault::BadMake);
         }
-        let Ok(wire) = WireOut::new(alloc) else {
-            return Err(Fault::NoMemory);
-        };
-        let Ok(units) = close_all(alloc, memories) else {
-            return Err(Fault::NoMemory);
-        };
+        let wire = WireOut::new(alloc)?;
+        let units = close_all(alloc, memories)?;
         Ok(Device {
             limit,
             tables: Tables::new(),

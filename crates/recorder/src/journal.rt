@@ -6,7 +6,7 @@ ghost use Rattle.device.specs.World.{step, sent_by, world_after, answers, functi
 ghost use Rattle.device.specs.Outcome.{answer_in, left_by};
 ghost use Rattle.device.specs.Lone.{keep, lone_of, lone_seen, lone_after, seen_by};
 ghost use Rattle.device.specs.Request.{event_of};
-ghost use Rattle.irq_line.specs.Line.{raised, bit_for};
+ghost use Rattle.irq_line.specs.Line.{raised};
 ghost use Rattle.history.specs.Entries.{events, given};
 ghost use Rattle.recorder.specs.Callers.{may};
 ghost use Rattle.recorder.specs.Legal.{Legal, calls_of, kept_raises};
@@ -23,7 +23,7 @@ use history::{Caller, History};
 use irq_causes::Messages;
 use irq_line::DeviceSeat;
 use std::marker::Model;
-use wire_frame::{FrameBuf, PoolId};
+use wire_frame::FrameBuf;
 
 // How many calls may be folded away.
 const MOST_FOLDED: u64 = 1 << 62;
@@ -230,25 +230,8 @@ fn raise_all(line: &mut DeviceSeat, messages: &Messages)
         ≡ raised p v line.old.raises + bit_at (slice_index messages.now p) v }
     ensures line { line.new.line ≡ line.old.line }
 {
-    let mut rest = messages.pools();
-    while rest != 0 {
-        let pool = rest.trailing_zeros();
-        raise(line, pool as u8, messages);
-        rest &= !(1 << pool);
-    }
-}
-
-// Raises the messages that one pool got.
-#[inline]
-fn raise(line: &mut DeviceSeat, pool: u8, messages: &Messages)
-    requires { pool < 64 }
-    ensures raised { (p v : ℕ) →
-        raised p v line.new.raises
-        ≡ raised p v line.old.raises + bit_for p v pool (slice_index messages.now pool) }
-    ensures line { line.new.line ≡ line.old.line }
-{
-    if let Some(pool) = PoolId::new(pool) {
-        line.raise(pool.get(), messages.to(pool).bits());
+    for pool in messages.pools() {
+        line.raise(pool, messages.to(pool));
     }
 }
 

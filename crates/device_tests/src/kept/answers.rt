@@ -74,14 +74,14 @@ fn a_twin_gives_messages_to_any_pools(rt: HostRuntime) -> Result<(), Fail> {
         let told = keep(&rt, &mut history, &mut device, pump, wire, &mut frame).messages;
         assert_equal(
             &rt,
-            told.pools_with(vector as u8).count_ones() as usize,
+            told.pools_with(vector as u8).bits().count_ones() as usize,
             pools.len(),
         );
         assert_equal(&rt, told.pools(), told.pools_with(vector as u8));
         // all three vectors of one pool
         let set = Request::VfWrite(7, 0x104, 7);
         let told = keep(&rt, &mut history, &mut device, port_of(7), set, &mut frame).messages;
-        assert_equal(&rt, told.pools(), 1 << 7);
+        assert_equal(&rt, told.pools().bits(), 1 << 7);
         let mut twin = device_of_64(rt.alloc())?;
         assert_equal(&rt, first_other(&history, &mut twin, &mut room), None);
     }

@@ -11,7 +11,7 @@ use crate::gate::Gate;
 use crate::starting::Common;
 use crate::work::{Pumping, Reading};
 use crate::worker::{Came, Pumped, Worker, pumping, reader};
-use device_lock::{Caller, Share};
+use device_lock::Share;
 use guest_memory::GuestMem;
 use guest_port::GuestPort;
 use log::Log;
@@ -70,7 +70,7 @@ impl<L: Ledger + Send + 'static> Pair<L> {
             receiver,
             was_full,
         } = pump_thread.join(rt);
-        log_end(log, Worker::Of(Caller::Pump));
+        log_end(log, Worker::Pump);
         let mut sender = reader_thread.join(rt);
         let Some(receiver) = receiver else {
             // a sender that went without `Last`, which can't be, is answered as a start that was refused
@@ -113,7 +113,7 @@ pub fn start_pair<
     let Ok(pump_thread) = start_pump(rt, common, share, receiver) else {
         return crew.refuse();
     };
-    log_start(log, Worker::Of(Caller::Pump));
+    log_start(log, Worker::Pump);
     match start_reader(rt, common, sender) {
         Ok(reader_thread) => {
             let pair = Pair {
@@ -125,7 +125,7 @@ pub fn start_pair<
         Err(_) => {
             // the sender is gone, so the pump ends
             drop(pump_thread.join(&rt));
-            log_end(log, Worker::Of(Caller::Pump));
+            log_end(log, Worker::Pump);
             crew.refuse();
         }
     }

@@ -14,6 +14,7 @@ use crate::gate::Gate;
 use crate::pair::start_pair;
 use crate::plan::{Plan, Ports};
 use crate::starting::{Common, start_driver, start_guests};
+use crate::worker::Worker;
 use device::Event;
 use device_lock::{CALLERS, Caller, LockedDevice, Share, Shares};
 use guest_memory::GuestMem;
@@ -134,9 +135,25 @@ fn run<
         others: mut back,
     } = take_apart(alloc, shares)?;
     start_guests(rt, log, &common, ports, &mut crew);
-    start_driver(rt, log, &common, Caller::Driver, pf, &mut crew);
+    start_driver(
+        rt,
+        log,
+        &common,
+        Worker::Driver,
+        Caller::Driver,
+        pf,
+        &mut crew,
+    );
     start_pair(rt, log, &common, pump, sender, receiver, &mut crew);
-    start_driver(rt, log, &common, Caller::Service, service, &mut crew);
+    start_driver(
+        rt,
+        log,
+        &common,
+        Worker::Service,
+        Caller::Service,
+        service,
+        &mut crew,
+    );
     let ends = crew.join(&rt, log, &mut back);
     if ends.was_refused {
         return Err(AllocError);

@@ -68,7 +68,7 @@ pub fn start_guests<
 {
     for (port, note) in ports {
         drop(note);
-        start_guest(rt, log, common, port.caller(), port, crew);
+        start_guest(rt, log, common, port.pool(), port, crew);
     }
 }
 
@@ -84,7 +84,7 @@ fn start_guest<
     rt: R,
     log: &O,
     common: &Common<M, L, G>,
-    caller: Caller,
+    pool: u8,
     port: LockedPort<M, L, P>,
     crew: &mut Crew<M, L, P>,
 )
@@ -101,7 +101,7 @@ fn start_guest<
     }
     let work = Work::Guest(Shadow::of(&*mine.plan), Shadow::of(&port));
     match thread::spawn_with(&rt, work, move || do_port(rt, mine, port)) {
-        Ok(thread) => crew.add(log, Worker::Of(caller), Running::One(thread)),
+        Ok(thread) => crew.add(log, Worker::Port(pool), Running::One(thread)),
         Err(_) => crew.refuse(),
     }
 }
@@ -129,6 +129,7 @@ pub fn start_driver<
     rt: R,
     log: &O,
     common: &Common<M, L, G>,
+    worker: Worker,
     caller: Caller,
     share: Share<L>,
     crew: &mut Crew<M, L, P>,
@@ -148,7 +149,7 @@ pub fn start_driver<
     }
     let work = Work::Owner(Shadow::of(&*mine.plan), Shadow::of(&share));
     match thread::spawn_with(&rt, work, move || do_share(rt, mine, caller, share)) {
-        Ok(thread) => crew.add(log, Worker::Of(caller), Running::One(thread)),
+        Ok(thread) => crew.add(log, worker, Running::One(thread)),
         Err(_) => crew.refuse(),
     }
 }

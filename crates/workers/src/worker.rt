@@ -32,20 +32,26 @@ use wire_pump::{FeedEnd, FrameReceiver, FrameSender, PumpEnd, pump};
 /// A worker, which has a thread of its own.
 #[derive(Clone, Copy, Debug, PartialEq, Eq)]
 pub enum Worker {
-    /// The one that does a caller's events.
-    Of(Caller),
+    /// The guest of that pool.
+    Port(u8),
+    /// The driver of the physical function.
+    Driver,
     /// The reader of the wire.
     Reader,
+    /// The pump of frames from the wire.
+    Pump,
+    /// The service.
+    Service,
 }
 
 impl Display for Worker {
     fn fmt<W: Write>(&self, f: &mut Formatter<W>) -> fmt::Result {
         match self {
-            Worker::Of(Caller::Port(pool)) => write!(f, "port{}", pool.get()),
-            Worker::Of(Caller::Driver) => f.write_str("pf"),
-            Worker::Of(Caller::Pump) => f.write_str("pump"),
-            Worker::Of(Caller::Service) => f.write_str("service"),
+            Worker::Port(pool) => write!(f, "port{pool}"),
+            Worker::Driver => f.write_str("pf"),
             Worker::Reader => f.write_str("reader"),
+            Worker::Pump => f.write_str("pump"),
+            Worker::Service => f.write_str("service"),
         }
     }
 }

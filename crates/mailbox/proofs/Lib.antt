@@ -1,0 +1,4 @@
+pub mod Alike
+pub mod Entries
+pub mod Isolation
+pub mod Masks

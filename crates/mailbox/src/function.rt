@@ -5,7 +5,7 @@ ghost use Rattle.mailbox.specs.Function.{absent, begun, gone, is_number, is_unic
 
 use crate::message::{Message, Reply};
 use crate::registers::{ACK, CTS, NACK};
-use wire_frame::{Vid, has_bit};
+use wire_frame::has_bit;
 
 /// One function: what its policy grants, and what it has asked for so far.
 #[derive(Clone, Copy, Debug)]
@@ -136,7 +136,7 @@ impl Function {
         Some(function)
     }
 
-    fn with_vlan(self, ids: &[Vid], add: bool, id: u16) -> Option<Function>
+    fn with_vlan(self, ids: &[u16], add: bool, id: u16) -> Option<Function>
         requires { length ids.now ≤ 64 }
         ensures { result ≡ vlan_set ids.now self add id }
     {
@@ -224,7 +224,7 @@ impl Function {
     #[tactic(auto, unfolding(crate::specs::Function::granted))]
     fn granted(
         self,
-        ids: &[Vid],
+        ids: &[u16],
         limit: u16,
         taken: bool,
         message: Message,
@@ -252,7 +252,7 @@ impl Function {
     #[tactic(auto, unfolding(crate::specs::Function::answered))]
     pub fn answered(
         self,
-        ids: &[Vid],
+        ids: &[u16],
         limit: u16,
         taken: bool,
         message: Message,
@@ -337,13 +337,13 @@ pub fn is_unicast(address: u64) -> bool
 }
 
 // The first place that has the id.
-fn place_of(ids: &[Vid], id: u16) -> Option<u32>
+fn place_of(ids: &[u16], id: u16) -> Option<u32>
     requires { length ids.now ≤ 64 }
     ensures place { result ≡ place_from 0 ids.now id }
     ensures below { IfSome result (λ k. k < 64) }
 {
     for k in 0..ids.len() {
-        if ids[k].get() == id {
+        if ids[k] == id {
             return Some(k as u32);
         }
     }

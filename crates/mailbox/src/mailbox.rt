@@ -1,8 +1,10 @@
 //! The mailbox of one virtual function.
 ghost use Rattle.std.specs.Prelude.{◌≡◌};
+ghost use Rattle.mailbox.specs.Function.{reply_of};
 ghost use Rattle.mailbox.specs.Mailbox.{blank, after_reset, read_at, after_read, after_write, rung_at, replied};
 ghost use Rattle.mailbox.specs.Message.{message_of};
 
+use crate::function::Function;
 use crate::message::{Message, Reply};
 use crate::registers::{
     ANSWERED, READ_KEEPS, REQ, RSTD, VFMAILBOX, VFMBMEM, VFU, WORD_AFTER_RESET, WRITE_KEEPS,
@@ -107,6 +109,14 @@ impl Mailbox {
         self.words[3] = reply.third;
         self.words[4] = reply.fourth;
         self.control |= ANSWERED;
+    }
+
+    /// Puts the reply to the message that stands in the memory, of a function that it left as another, or that refused it.
+    pub fn answer(&mut self, function: &Function, message: Message, granted: Option<Function>)
+        ensures { self.new ≡ replied self.old (reply_of self.old.words function.now message granted) }
+    {
+        let reply = function.reply_of(&self.words, message, granted);
+        self.reply(reply);
     }
 
     /// Makes all words 0, as for a new guest, and after the function reset itself by VFCTRL.

@@ -1,0 +1,53 @@
+//! A driver's start.
+use crate::driver::{ask, host, policy, words};
+use mailbox::Mailbox;
+use std::test::Fail;
+use wire_frame::PoolId;
+
+/// What ixgbevf says as it comes up, in its order, and what it is answered: reset; API 1.7, 1.6, 1.5 and 1.4, which are refused,
+/// and 1.3; queues; its own address; multicast mode 1; VLAN 0; the link.
+#[test]
+fn starts(rt: HostRuntime) -> Result<(), Fail> {
+    let pool = PoolId::new(0).ok_or("no such pool")?;
+    let mut host = host()?;
+    host.admit(pool, &policy(0x10))?;
+    let mut mailbox = Mailbox::new();
+    for (message, reply) in [
+        ([1, 0, 0], [0x8000_0001, 0x9059_8202, 0x1000, 0, 0]),
+        ([8, 8, 0], [0x6000_0008, 8, 0, 0, 0]),
+        ([8, 7, 0], [0x6000_0008, 7, 0, 0, 0]),
+        ([8, 6, 0], [0x6000_0008, 6, 0, 0, 0]),
+        ([8, 5, 0], [0x6000_0008, 5, 0, 0, 0]),
+        ([8, 4, 0], [0xA000_0008, 4, 0, 0, 0]),
+        ([9, 0, 0], [0xA000_0009, 2, 2, 0, 0]),
+        ([2, 0x9059_8202, 0x1000], [0xA000_0002, 0x9059_8202, 0x1000, 0, 0]),
+        ([12, 1, 0], [0xA000_000C, 1, 0, 0, 0]),
+        ([0x1_0004, 0, 0], [0xA001_0004, 0, 0, 0, 0]),
+        ([16, 0, 0], [0xA000_0010, 1, 0, 0, 0]),
+    ] {
+        let _ = ask(&mut host, pool, &mut mailbox, message)?;
+        assert_eq!(rt; words(&mut mailbox), reply);
+    }
+    assert_eq!(rt; mailbox.read(0x2FC), Some(0x34));
+    assert_eq!(rt; mailbox.read(0x2FC), Some(4));
+    Ok(())
+}
+
+/// After a reset from outside the driver reads RSTD once, and a word 0 that is a refusal without CTS; all that it asks before it
+/// resets is refused without CTS.
+#[test]
+fn begins_anew(rt: HostRuntime) -> Result<(), Fail> {
+    let pool = PoolId::new(0).ok_or("no such pool")?;
+    let mut host = host()?;
+    host.admit(pool, &policy(0x10))?;
+    let mut mailbox = Mailbox::new();
+    let _ = ask(&mut host, pool, &mut mailbox, [1, 0, 0])?;
+    let _ = host.reset(pool);
+    mailbox.reset();
+    assert_eq!(rt; mailbox.read(0x200), Some(0x4000_0100));
+    assert_eq!(rt; mailbox.read(0x2FC), Some(0x80));
+    assert_eq!(rt; mailbox.read(0x2FC), Some(0));
+    let _ = ask(&mut host, pool, &mut mailbox, [16, 0, 0])?;
+    assert_eq!(rt; mailbox.read(0x200), Some(0x4000_0010));
+    Ok(())
+}

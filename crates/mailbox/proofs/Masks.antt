@@ -29,7 +29,7 @@ mask_below t first (suc count) =
 -- a mask of fewer than 32 bits has room for one more
 pub mask_room : (t : ℕ → Bool) (first count : ℕ) → count < 32 → mask_from t first count < 2 ^ 31
 mask_room t first count few =
-    let most : 2 ^ count ≤ 2 ^ 31 = pow-le-pow_right {2} (omega arith) {count} {31} (omega arith) in
+    let most : 2 ^ count ≤ 2 ^ 31 = pow-le-pow_right {n = 2} (omega arith) {i = count} {j = 31} (omega arith) in
     omega (arith, mask_below t first count, most)
 
 lowest : (b : Bool) (m : ℕ) → eqb ((cond b 1 0 + 2 * m) % 2) 1 ≡ b

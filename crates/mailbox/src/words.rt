@@ -1,5 +1,5 @@
 //! The registers of the physical function, as they are for a host.
-ghost use Rattle.std.specs.Prelude.{◌≡◌, ◌+◌, ◌*◌, ◌<◌, true, length};
+ghost use Rattle.std.specs.Prelude.{◌≡◌, ◌+◌, ◌*◌, ◌^◌, ◌<◌, true, length, if◌then◌else◌};
 ghost use Rattle.pool_filter.specs.Own.{contains};
 ghost use Rattle.mailbox.specs.Host.{function_at};
 ghost use Rattle.mailbox.specs.Words.{mask_from, is_in_set, is_set, entry, low_word, valid, high_word, member_word, up_word, flags_word, inserted, port_word};
@@ -35,7 +35,7 @@ impl Host {
     }
 
     // The numbers 32 i to 32 i + 31, bit by bit.
-    #[tactic(auto, using(crate::proofs::Masks::mask_none, crate::proofs::Masks::mask_room, crate::proofs::Masks::mask_step))]
+    #[tactic(auto, using(crate::proofs::Masks::mask_none))]
     fn mask(&self, set: Set, i: u32) -> u32
         requires set { is_set set ≡ true }
         requires below { i < 2 }
@@ -44,7 +44,7 @@ impl Host {
         let mut word = 0u32;
         for done in 0..32 {
             let bit = self.is_in(set, 32 * i + 31 - done);
-            word = 2 * word + if bit { 1 } else { 0 };
+            word = one_more(word, bit);
         }
         word
     }
@@ -125,6 +125,14 @@ impl Function {
     {
         if self.is_up { inserted(self.port) } else { 0 }
     }
+}
+
+// The word with its bits one higher, and one more below them.
+fn one_more(word: u32, bit: bool) -> u32
+    requires { word < 2 ^ 31 }
+    ensures { result ≡ 2 * word + (if bit then 1 else 0) }
+{
+    2 * word + if bit { 1 } else { 0 }
 }
 
 // AV, and bytes 4 and 5 of an address.

@@ -1,12 +1,11 @@
--- What a write leaves of the entries, and words that are 0.
-use Rattle.std.proofs.Common.{◌≡◌, ◌≢◌, ℕ, ◌+◌, ◌*◌, ◌/◌, ◌%◌, ◌^◌, true, ◌&&◌, [], Option, Some, replicate, slice_index, ap}
+-- What a write leaves of the entries.
+use Rattle.std.proofs.Common.{◌≡◌, ◌≢◌, ℕ, ◌+◌, ◌*◌, ◌/◌, ◌%◌, ◌^◌, true, Option, Some, slice_index, ap}
 use Rattle.wire_frame.specs.Row.{is_in, place, words_after}
 use Rattle.wire_frame.specs.Bits.{has_bit, has_bit_in, two_words}
-use Rattle.pool_index.specs.Entries.{IsIndexOf}
-use Rattle.pool_index.proofs.EntryLemmas.{SaySame, nothing_held}
-use Rattle.pool_index.proofs.WordLemmas.{one_word_stays, two_words_stay, no_bit_at}
+use Rattle.pool_index.specs.Entries.{SaySame}
+use Rattle.pool_index.proofs.WordLemmas.{one_word_stays, two_words_stay}
 use Rattle.addr_tables.specs.Registers.{RAL, RAH, MPSAR}
-use Rattle.addr_tables.specs.Addresses.{Addresses, initial_addresses, addresses_after, address_entries}
+use Rattle.addr_tables.specs.Addresses.{Addresses, addresses_after, address_entries}
 
 -- no word of another entry than this stands at the offset
 abbrev pub NamesEntry : ℕ → Option ℕ → Type 0
@@ -25,11 +24,5 @@ entry_stays a offset x named names e other =
     record {
       valid = ap (λ w. has_bit w 31) high;
       keys = λ i. low i + 2 ^ 32 * (high i % 2 ^ 16);
-      pools = λ p i. has_bit (high i) 31 && has_bit_in (pools i) p;
+      pools = λ p i. has_bit_in (pools i) p;
     }
-
-pub nothing_said : IsIndexOf [] 128 (address_entries initial_addresses)
-unfolding initial_addresses
-nothing_said =
-    nothing_held 128 (address_entries initial_addresses) (λ e. no_bit_at 128 e 31)
-    (λ p e. ap (λ b. b && has_bit_in (two_words (replicate 256 0) e) p) (no_bit_at 128 e 31))

@@ -62,7 +62,7 @@ is_held a address = list_any (λ pool. has_address a pool address) (range_with_l
 
 -- the entries as they are kept in an index: by their addresses
 abbrev pub address_entries : Addresses → Entries
-address_entries a = record { is_valid = λ e. has_bit (slice_index a.high e) VALID; key = entry_address a; has_pool = entry_has_pool a }
+address_entries a = record { is_valid = λ e. has_bit (slice_index a.high e) VALID; key = entry_address a; has_pool = λ pool e. has_bit_in (two_words a.pools e) pool }
 
 -- ---- the multicast table
 

@@ -4,27 +4,23 @@ ghost use Rattle.byteorder.specs.Endian.{little_number};
 ghost use Rattle.wire_frame.specs.Bits.{has_bit};
 ghost use Rattle.addr_tables.specs.Addresses.{initial_addresses, addresses_at, addresses_after, entry_address, entry_has_pool, has_address, is_held, multicast_hit};
 
-use crate::words::{Words, entry_of};
-use pool_index::PoolIndex;
+use crate::words::Words;
+use pool_index::KeyedTable;
 use std::marker::Model;
 use wire_frame::{Mac, PoolId, has_bit};
 
 /// 128 receive addresses, each with its pools, and the multicast table (82599 datasheet, Packet Filtering).
 #[derive(Drop)]
 pub struct AddrTables {
-    words: Words,
-    index: PoolIndex<128>,
+    table: KeyedTable<Words, 128>,
 }
 
 impl Model for AddrTables {
-    ghost use Rattle.pool_index.specs.Entries.{IsIndexOf};
-    ghost use Rattle.addr_tables.specs.Addresses.{Addresses, address_entries};
+    ghost use Rattle.addr_tables.specs.Addresses.{Addresses};
 
     ghost Value = { Addresses };
 
-    ghost view = { λ t. t.words };
-
-    ghost invariant = { λ t. IsIndexOf t.index 128 (address_entries t.words) };
+    ghost view = { λ t. t.table };
 }
 
 impl Default for AddrTables {
@@ -43,8 +39,7 @@ impl AddrTables {
         ensures { result ≡ initial_addresses }
     {
         AddrTables {
-            words: Words::new(),
-            index: PoolIndex::new(),
+            table: KeyedTable::new(Words::new()),
         }
     }
 
@@ -52,7 +47,7 @@ impl AddrTables {
     pub fn read(&self, offset: u32) -> Option<u32>
         ensures { result ≡ addresses_at self.now offset }
     {
-        self.words.read(offset)
+        self.table.words().read(offset)
     }
 
     /// Writes the word at an offset, of which it keeps the register's bits. Where the offset names no register of these
@@ -60,17 +55,7 @@ impl AddrTables {
     pub fn write(&mut self, offset: u32, value: u32)
         ensures { self.new ≡ addresses_after self.old offset value }
     {
-        let Some(e) = entry_of(offset) else {
-            self.words.write(offset, value);
-            return;
-        };
-        let former = self.words.entry_address(e);
-        self.words.write(offset, value);
-        let address = self.words.entry_address(e);
-        self.index.set(former, self.words.found(former));
-        if address != former {
-            self.index.set(address, self.words.found(address));
-        }
+        self.table.write(offset, value);
     }
 }
 
@@ -84,7 +69,7 @@ impl AddrTables {
         ensures { result
             ≡ (if entry_has_pool self.now pool e then Some (entry_address self.now e) else None) }
     {
-        self.words.address_for(pool, e)
+        self.table.words().address_for(pool, e)
     }
 
     /// The pools of an address, as [`AddrTables::pools_of`] gives them, and how many of the kept addresses were compared
@@ -96,7 +81,7 @@ impl AddrTables {
         ensures none { (result.0 == 0) ≡ not (is_held self.now (little_number 6 address.0)) }
         ensures few { result.1 ≤ 8 }
     {
-        self.index.probe(address.number())
+        self.table.probe(address.number())
     }
 
     /// The pools that have an address, as a mask with bit p for pool p: the pools of every valid entry that holds it. The
@@ -133,6 +118,6 @@ impl AddrTables {
     pub fn multicast_hit(&self, address: Mac) -> bool
         ensures { result ≡ multicast_hit self.now (little_number 6 address.0) }
     {
-        self.words.multicast_hit(address)
+        self.table.words().multicast_hit(address)
     }
 }

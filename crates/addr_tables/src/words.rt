@@ -1,13 +1,12 @@
 //! The words of the registers, and what they say.
-ghost use Rattle.std.specs.Prelude.{◌≡◌, ℕ, ◌/◌, ◌%◌, ◌<◌, ◌==◌, ◌&&◌, true, Some, None, IfSome, slice_index, if◌then◌else◌};
+ghost use Rattle.std.specs.Prelude.{◌≡◌, ◌/◌, ◌%◌, ◌<◌, true, Some, None, IfSome, if◌then◌else◌};
 ghost use Rattle.byteorder.specs.Endian.{little_number};
-ghost use Rattle.wire_frame.specs.Bits.{has_bit, has_bit_in, two_words};
 ghost use Rattle.wire_frame.specs.Row.{is_in, place};
-ghost use Rattle.pool_index.specs.Entries.{IsAnswer};
 ghost use Rattle.addr_tables.specs.Registers.{RAL, RAH, MPSAR};
 ghost use Rattle.addr_tables.specs.Addresses.{initial_addresses, addresses_at, addresses_after, entry_address, entry_has_pool, address_entries, hash_low, multicast_hit};
 
 use crate::registers::{HASH_SIZE, MCSTCTRL, MCSTCTRL_KEPT, MFE, MPSAR, MTA, RAH, RAL, VALID};
+use pool_index::KeyedWords;
 use std::marker::Model;
 use wire_frame::{
     Mac, PoolId, field, has_bit, pool_words, read_one, read_word, write_one, write_word,
@@ -65,95 +64,48 @@ impl Words {
             .or(read_word(&self.hashes, MTA, offset))
             .or(read_one(self.control, MCSTCTRL, offset))
     }
+}
 
-    /// Writes the word at an offset, of which it keeps the register's bits. Where the offset names no register of these
-    /// tables, nothing changes.
+/// The entries, by their addresses.
+impl KeyedWords<128> for Words {
+    ghost entries = { address_entries };
+
+    ghost after = { addresses_after };
+
+    #[inline]
+    fn is_valid(&self, e: usize) -> bool {
+        has_bit(u64::from(self.high[e]), VALID)
+    }
+
+    #[inline]
+    fn key(&self, e: usize) -> u64 {
+        u64::from(self.low[e]) + u64::from(self.high[e] % 0x1_0000) * 0x1_0000_0000
+    }
+
+    #[inline]
+    fn pools(&self, e: usize) -> u64 {
+        pool_words(&self.pools, e)
+    }
+
     #[tactic(auto, unfolding(crate::specs::Addresses::addresses_after))]
-    pub(crate) fn write(&mut self, offset: u32, value: u32)
-        ensures { self.new ≡ addresses_after self.old offset value }
-    {
+    fn write(&mut self, offset: u32, value: u32) {
         write_word(&mut self.low, RAL, offset, value);
         write_word(&mut self.high, RAH, offset, value);
         write_word(&mut self.pools, MPSAR, offset, value);
         write_word(&mut self.hashes, MTA, offset, value);
         write_one(&mut self.control, MCSTCTRL, MCSTCTRL_KEPT, offset, value);
     }
-}
 
-/// One entry.
-impl Words {
-    /// Whether an entry is valid.
     #[inline]
-    pub(crate) fn is_valid(&self, e: usize) -> bool
-        requires { e < 128 }
-        ensures { result ≡ has_bit (slice_index self.now.high e) 31 }
-    {
-        has_bit(u64::from(self.high[e]), VALID)
-    }
-
-    /// The address of an entry, as a number.
-    #[inline]
-    pub(crate) fn entry_address(&self, e: usize) -> u64
-        requires { e < 128 }
-        ensures { result ≡ entry_address self.now e }
-    {
-        u64::from(self.low[e]) + u64::from(self.high[e] % 0x1_0000) * 0x1_0000_0000
-    }
-
-    /// Whether an entry is valid and holds the address.
-    #[inline]
-    pub(crate) fn holds(&self, e: usize, address: u64) -> bool
-        requires { e < 128 }
-        ensures { result
-            ≡ (has_bit (slice_index self.now.high e) 31 && (entry_address self.now e == address)) }
-    {
-        self.is_valid(e) && self.entry_address(e) == address
-    }
-
-    /// The pools of an entry, as a mask with bit p for pool p.
-    #[inline]
-    pub(crate) fn entry_pools(&self, e: usize) -> u64
-        requires { e < 128 }
-        ensures { (p : ℕ) → p < 64 → has_bit result p ≡ has_bit_in (two_words self.now.pools e) p }
-    {
-        pool_words(&self.pools, e)
-    }
-
-    /// The address that the entry gives the pool: `None` where the entry is not valid or does not have the pool's bit.
-    #[inline]
-    pub(crate) fn address_for(&self, pool: PoolId, e: usize) -> Option<u64>
-        requires { e < 128 }
-        ensures { result
-            ≡ (if entry_has_pool self.now pool e then Some (entry_address self.now e) else None) }
-    {
-        if self.is_valid(e) && has_bit(self.entry_pools(e), u32::from(pool.get())) {
-            Some(self.entry_address(e))
-        } else {
-            None
-        }
+    fn entry_of(offset: u32) -> Option<usize> {
+        entry_at(offset)
     }
 }
 
-/// All entries.
-impl Words {
-    /// The pools of all valid entries that hold the address; `None` where no valid entry does. It looks at every entry.
-    pub(crate) fn found(&self, address: u64) -> Option<u64>
-        ensures { IsAnswer result 128 (address_entries self.now) address }
-    {
-        let mut found = None;
-        for e in 0..128 {
-            if self.holds(e, address) {
-                found = Some(found.unwrap_or(0) | self.entry_pools(e));
-            }
-        }
-        found
-    }
-}
-
-/// The entry of which the offset names a word, one of RAL, RAH or MPSAR. An entry's words of RAL and RAH stand in 8 bytes,
-/// and so do its two of MPSAR.
+// The entry of which the offset names a word, one of RAL, RAH or MPSAR. An entry's words of RAL and RAH stand in 8 bytes,
+// and so do its two of MPSAR.
 #[inline]
-pub(crate) fn entry_of(offset: u32) -> Option<usize>
+fn entry_at(offset: u32) -> Option<usize>
     ensures low { is_in RAL offset ≡ true → result ≡ Some (place RAL offset) }
     ensures high { is_in RAH offset ≡ true → result ≡ Some (place RAH offset) }
     ensures pools { is_in MPSAR offset ≡ true → result ≡ Some (place MPSAR offset / 2) }
@@ -168,6 +120,23 @@ pub(crate) fn entry_of(offset: u32) -> Option<usize>
         return None;
     }
     Some(((offset - first) / 8) as usize)
+}
+
+/// What an entry gives a pool.
+impl Words {
+    /// The address that the entry gives the pool: `None` where the entry is not valid or does not have the pool's bit.
+    #[inline]
+    pub(crate) fn address_for(&self, pool: PoolId, e: usize) -> Option<u64>
+        requires { e < 128 }
+        ensures { result
+            ≡ (if entry_has_pool self.now pool e then Some (entry_address self.now e) else None) }
+    {
+        if self.is_valid(e) && has_bit(self.pools(e), u32::from(pool.get())) {
+            Some(self.key(e))
+        } else {
+            None
+        }
+    }
 }
 
 /// The multicast table.

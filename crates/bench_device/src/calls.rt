@@ -1,7 +1,7 @@
 //! The two ways of an event: [`Device::take`], and the call by its name.
 use device::{Device, MemSlice, Outcome, Queue, Request};
 use guest_memory::GuestMem;
-use wire_frame::FrameBuf;
+use wire_frame::{FrameBuf, PoolSet};
 
 /// Room for what an event gives out.
 #[derive(Drop)]
@@ -25,8 +25,8 @@ pub struct Take<'a> {
     pub request: Request<'a>,
     /// The value that it is to read, if it reads a register.
     pub value: u32,
-    /// The pools that are to get messages: bit p is pool p.
-    pub pools: u64,
+    /// The pools that are to get messages.
+    pub pools: PoolSet,
 }
 
 impl<'a, M: GuestMem> Call<M> for Take<'a> {
@@ -83,7 +83,7 @@ impl<M: GuestMem> Call<M> for VfWrite {
     #[inline]
     fn call(&self, device: &mut Device<M>, _room: &mut Room) -> bool {
         match device.vf_write(self.pool, self.offset, self.value) {
-            Ok(messages) => messages.pools() == 0,
+            Ok(messages) => messages.pools().is_empty(),
             Err(_) => false,
         }
     }
@@ -163,8 +163,8 @@ impl<'a, M: GuestMem> Call<M> for MemWrite<'a> {
 pub struct Wire<'a> {
     /// The frame.
     pub frame: &'a FrameBuf,
-    /// The pools that are to get messages: bit p is pool p.
-    pub pools: u64,
+    /// The pools that are to get messages.
+    pub pools: PoolSet,
 }
 
 impl<'a, M: GuestMem> Call<M> for Wire<'a> {
@@ -184,8 +184,8 @@ pub struct Serve {
     pub pool: u8,
     /// The queue.
     pub queue: Queue,
-    /// The pools that are to get messages: bit p is pool p.
-    pub pools: u64,
+    /// The pools that are to get messages.
+    pub pools: PoolSet,
 }
 
 impl<M: GuestMem> Call<M> for Serve {

@@ -7,7 +7,7 @@ use crate::workload::{SENDER, Workload};
 use anyhow::{Result, anyhow};
 use device::{Device, MemSlice, Queue, Request};
 use guest_memory::GuestMem;
-use pool_filter::registers::{PF_VT_CTL, VMOLR};
+use pool_filter::registers::{BAM, PF_VT_CTL, VMOLR};
 use std::time::Instant;
 use vf_unit::offsets::{RDH0, RDT0};
 use wire_frame::FrameBuf;
@@ -100,7 +100,7 @@ fn request_of<'a>(workload: Workload, frame: &'a FrameBuf, bytes: MemSlice<'a>) 
         Workload::VfRead => Request::VfRead(SENDER, RDH0),
         Workload::VfWrite => Request::VfWrite(SENDER, RDT0, 5),
         Workload::PfRead => Request::PfRead(PF_VT_CTL),
-        Workload::PfWrite => Request::PfWrite(VMOLR.first, 1 << 27),
+        Workload::PfWrite => Request::PfWrite(VMOLR.first, 1 << BAM),
         Workload::MemRead => Request::MemRead(SENDER, 0x4000, 2048),
         Workload::MemWrite => Request::MemWrite(SENDER, 0x4000, bytes),
         Workload::WireShort | Workload::WireLong | Workload::Broadcast => Request::Wire(frame),

@@ -1,10 +1,10 @@
 //! What is set up before a workload, and between its turns.
 use crate::workload::{RECEIVER, SENDER, Workload};
-use addr_tables::registers::{MPSAR, RAH, RAL};
+use addr_tables::registers::{MPSAR, RAH, RAL, VALID};
 use anyhow::Result;
 use device::{Device, MemSlice};
 use guest_memory::GuestMem;
-use pool_filter::registers::{PFDTXGSWC, PFVFRE, PFVFSPOOF, PFVFTE, VMOLR};
+use pool_filter::registers::{BAM, LOOPBACK, PFDTXGSWC, PFVFRE, PFVFSPOOF, PFVFTE, VMOLR};
 use vf_unit::offsets::*;
 use wire_frame::FrameBuf;
 
@@ -29,7 +29,7 @@ const RECEIVE: [(u32, u32); 7] = [
     (VTEIMS, 7),
     (RDBAL0, RECEIVE_RING),
     (RDLEN0, 16 * COUNT),
-    (SRRCTL0, 0x0200_0002),
+    (SRRCTL0, ADVANCED << DESCTYPE | 2),
     (RXDCTL0, 1 << ENABLE),
 ];
 /// How a transmit queue is set up.
@@ -60,7 +60,7 @@ pub fn set_up<M: GuestMem>(device: &mut Device<M>, workload: Workload) -> Result
         open(device, pool)?;
     }
     if workload == Workload::Service {
-        device.pf_write(PFDTXGSWC, 1)?;
+        device.pf_write(PFDTXGSWC, 1 << LOOPBACK)?;
         device.pf_write(PFVFSPOOF.first, 1)?;
         fill_transmit_ring(device)?;
     }
@@ -75,12 +75,12 @@ fn open<M: GuestMem>(device: &mut Device<M>, pool: u8) -> Result<()> {
         device.pf_write(PFVFTE.first + 4 * half, u32::MAX)?;
     }
     device.pf_write(RAL.first + 8 * entry, 2)?;
-    device.pf_write(RAH.first + 8 * entry, 1 << 31 | entry << 8)?;
+    device.pf_write(RAH.first + 8 * entry, 1 << VALID | entry << 8)?;
     device.pf_write(
         MPSAR.first + 8 * entry + 4 * (entry / 32),
         1 << (entry % 32),
     )?;
-    device.pf_write(VMOLR.first + 4 * entry, 1 << 27)?;
+    device.pf_write(VMOLR.first + 4 * entry, 1 << BAM)?;
     device.open(pool)?;
     // A memory stores what lies between the first and the last byte written, and a driver wrote its rings.
     for at in 0..72 {

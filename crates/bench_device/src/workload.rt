@@ -1,4 +1,6 @@
 //! The kinds of events that are measured.
+use pool_filter::registers::PF_VT_CTL_INITIAL;
+use wire_frame::PoolSet;
 
 /// A kind of events.
 #[derive(Clone, Copy, Debug, PartialEq, Eq)]
@@ -64,21 +66,21 @@ impl Workload {
         }
     }
 
-    /// The pools that get a message for each event: bit p is pool p.
-    pub fn messages(self) -> u64 {
-        match self {
+    /// The pools that get a message for each event.
+    pub fn messages(self) -> PoolSet {
+        PoolSet::from_bits(match self {
             Workload::WireShort | Workload::WireLong => 1 << RECEIVER,
             Workload::Broadcast => u64::MAX,
             Workload::Service => 1 << SENDER | 1 << RECEIVER,
             _ => 0,
-        }
+        })
     }
 
     /// The value that each event reads, if it reads a register, and else 0.
     pub fn value(self) -> u32 {
         match self {
             // replication and virtualization are on, and the default pool is off
-            Workload::PfRead => 0x6000_0001,
+            Workload::PfRead => PF_VT_CTL_INITIAL,
             _ => 0,
         }
     }

@@ -1,6 +1,4 @@
 pub mod Act
-pub mod Equality
-pub mod EqualityLaws
 pub mod Limits
 pub mod Lone
 pub mod Outcome

@@ -126,7 +126,7 @@ pub(crate) fn vf_write<M: GuestMem>(
         return Err(unless_closed(unit, Fault::BadOffset));
     }
     match unit.reg_write(offset, value) {
-        Some(messages) => Ok(Vectors::from_bits(messages)),
+        Some(vectors) => Ok(vectors),
         None => Err(Fault::NotOpen),
     }
 }

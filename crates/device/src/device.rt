@@ -1,5 +1,6 @@
 //! The device: how it is made, and what it shows.
 ghost use Rattle.std.specs.Prelude.{◌≡◌, ◌<◌, ◌≤◌, ◌&&◌, true, false, length, replicate, map, slice_get, option_copied, IfOk, IfErr};
+ghost use Rattle.pool_filter.specs.Settings.{initial_settings};
 ghost use Rattle.vf_unit.specs.Unit.{Closed, size_of, bytes_at};
 ghost use Rattle.device.specs.World.{fresh, is_frame_limit, is_makeable, function_of};
 
@@ -16,7 +17,8 @@ use wire_frame::{Fault, FrameBuf, FrameLimit, PoolId};
 #[derive(Drop)]
 pub struct Device<M: GuestMem> {
     pub(crate) limit: FrameLimit,
-    pub(crate) tables: Tables,
+    // in a box, so that a device is a few words, and moved in few steps over a small stack
+    pub(crate) tables: Box<Tables>,
     // bit p where function p was reset
     pub(crate) resets: u64,
     pub(crate) units: Vec<VfUnit<M>>,
@@ -31,7 +33,7 @@ impl<M: GuestMem> Model for Device<M> {
 
     ghost view = { λ d. record {
       limit = d.limit;
-      settings = d.tables;
+      settings = d.tables.value;
       resets = d.resets;
       functions = d.units.items;
       wire = d.wire;
@@ -88,15 +90,12 @@ impl<M: GuestMem> Device<M> {
         if !is_makeable(memories.as_slice()) {
             return Err(Fault::BadMake);
         }
-        let Ok(wire) = WireOut::new(alloc) else {
-            return Err(Fault::NoMemory);
-        };
-        let Ok(units) = close_all(alloc, memories) else {
-            return Err(Fault::NoMemory);
-        };
+        let tables = first_tables(alloc)?;
+        let wire = WireOut::new(alloc)?;
+        let units = close_all(alloc, memories)?;
         Ok(Device {
             limit,
-            tables: Tables::new(),
+            tables,
             resets: 0,
             units,
             wire,
@@ -163,6 +162,15 @@ fn is_makeable<M: GuestMem>(memories: &[M]) -> bool
         }
     }
     true
+}
+
+// The tables of a device as it is made, in their box. It is a call of its own, so that what it needs of the stack is free again.
+#[inline(never)]
+fn first_tables(alloc: Global) -> Result<Box<Tables>, Fault>
+    ensures ok { IfOk result (λ b. b.value ≡ initial_settings) }
+    ensures no_memory { IfErr result (λ e. e ≡ Fault.NoMemory) }
+{
+    Ok(Box::new(alloc, Tables::new())?)
 }
 
 // A closed function over each of the memories. The error comes only where the host refused the room.

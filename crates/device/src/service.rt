@@ -8,7 +8,6 @@ ghost use Rattle.device.specs.Outcome.{reply_by, went_out};
 use crate::outcome::{Acted, Outcome};
 use anti_spoof::honest_by;
 use guest_memory::GuestMem;
-use irq_causes::Vectors;
 use pool_filter::SenderRules;
 use tx_desc::Progress;
 use vf_unit::{Queue, VfUnit};
@@ -42,7 +41,6 @@ pub fn serve_queue<R: SenderRules, M: GuestMem>(
     match unit.serve(queue, frame, rules.port_vlan(), limit) {
         None => Acted::silent(Outcome::Refused(Fault::NotOpen)),
         Some(service) => {
-            let vectors = Vectors::from_bits(service.messages);
             let outcome = match service.outcome {
                 Progress::Idle => Outcome::Idle,
                 Progress::More => Outcome::More,
@@ -57,7 +55,10 @@ pub fn serve_queue<R: SenderRules, M: GuestMem>(
                     }
                 }
             };
-            Acted { outcome, vectors }
+            Acted {
+                outcome,
+                vectors: service.messages,
+            }
         }
     }
 }

@@ -10,7 +10,7 @@ use guest_memory::GuestMem;
 use irq_causes::{Messages, Vectors};
 use local_switch::{Source, route};
 use vf_unit::VfUnit;
-use wire_frame::{FrameBuf, PoolId};
+use wire_frame::{FrameBuf, PoolId, PoolSet};
 
 /// What the switching of a frame issued, and whether the frame left for the wire.
 #[derive(Clone, Copy)]
@@ -29,7 +29,7 @@ fn is_looped(from: &Source) -> bool
 // Delivers a frame to each function in a set of pools; the messages that each pool got.
 fn deliver_to_all<M: GuestMem>(
     units: &mut [VfUnit<M>],
-    pools: u64,
+    pools: PoolSet,
     loopback: bool,
     frame: &FrameBuf,
 ) -> Messages
@@ -47,15 +47,12 @@ fn deliver_to_all<M: GuestMem>(
         (slice_index_or units.old r (Closed 0))).messages }
 {
     let mut raised = Messages::none();
-    let mut rest = pools;
-    while rest != 0 {
-        let lowest = rest.trailing_zeros();
-        let pool = lowest as usize;
-        if pool < units.len() {
-            let messages = units[pool].deliver(frame, loopback);
-            note(&mut raised, pool, messages);
+    for pool in pools {
+        let place = usize::from(pool.get());
+        if place < units.len() {
+            let vectors = units[place].deliver(frame, loopback);
+            note(&mut raised, pool, vectors);
         }
-        rest &= !(1 << lowest);
     }
     raised
 }
@@ -63,18 +60,12 @@ fn deliver_to_all<M: GuestMem>(
 // Sets the messages to one pool, which has been told none. Most frames issue none.
 #[inline]
 #[tactic(auto, using(crate::proofs::Arrivals::raised_no_more))]
-fn note(raised: &mut Messages, pool: usize, messages: u8)
-    requires pool { pool < 64 }
-    requires vectors { messages < 8 }
-    requires silent { slice_index raised.old pool ≡ 0 }
-    ensures { raised.new ≡ slice_set raised.old pool messages }
+fn note(raised: &mut Messages, pool: PoolId, vectors: Vectors)
+    requires { slice_index raised.old pool ≡ 0 }
+    ensures { raised.new ≡ slice_set raised.old pool vectors }
 {
-    if messages == 0 {
-        return;
-    }
-    match PoolId::new(pool as u8) {
-        Some(pool) => raised.set(pool, Vectors::from_bits(messages)),
-        None => unreachable!(),
+    if !vectors.is_empty() {
+        raised.set(pool, vectors);
     }
 }
 

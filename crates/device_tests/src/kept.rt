@@ -2,13 +2,13 @@
 use device::{Device, MemSlice, Queue, Request, Taken};
 use guest_memory::{FlatMem, GuestMem};
 use history::head::Head;
-use history::{History, Room};
+use history::{Caller, History, Room};
 use std::alloc::Global;
 use std::mem::size_of;
 use std::process::Abort;
 use std::test::Fail;
 use test_support::memories;
-use wire_frame::{Fault, FrameBuf};
+use wire_frame::{Fault, FrameBuf, PoolId};
 
 mod answers;
 mod entries;
@@ -31,12 +31,20 @@ fn device_of_64(alloc: Global) -> Result<Device<FlatMem>, Fault> {
     Device::new(alloc, memories(alloc, 64, 4096)?)
 }
 
+// The port of a pool; the service where there is no such pool.
+fn port_of(pool: u8) -> Caller {
+    match PoolId::new(pool) {
+        Some(pool) => Caller::Port(pool),
+        None => Caller::Service,
+    }
+}
+
 // One more call, for which there is room.
 fn keep<'f, R: Abort, M: GuestMem>(
     rt: &R,
     history: &mut History,
     device: &mut Device<M>,
-    caller: u8,
+    caller: Caller,
     request: Request<'_>,
     frame: &'f mut FrameBuf,
 ) -> Taken<'f> {

@@ -3,7 +3,7 @@ use crate::compare::assert_equal;
 use local_switch::*;
 use pool_filter::Tables;
 use std::test::Fail;
-use wire_frame::{FrameBuf, PoolId};
+use wire_frame::{FrameBuf, PoolId, PoolSet};
 
 // Pools 3, 4 and 5 have the addresses 02:00:00:00:00:03 to 05 and take broadcast; all pools may receive.
 fn three_tenants() -> Tables {
@@ -47,6 +47,7 @@ fn routes_frames_of_the_wire(rt: HostRuntime) -> Result<(), Fail> {
     ] {
         tables.write(0x51B0, default);
         let route = route(&tables, Source::Wire, &frame_to(address)?);
+        let local = PoolSet::from_bits(local);
         assert_equal(&rt, route, Route { local, wire: false });
     }
     Ok(())
@@ -68,6 +69,7 @@ fn routes_frames_of_a_pool(rt: HostRuntime) -> Result<(), Fail> {
     ] {
         tables.write(0x8220, loopback);
         let route = route(&tables, Source::Pool(sender), &frame_to(address)?);
+        let local = PoolSet::from_bits(local);
         assert_equal(&rt, route, Route { local, wire });
     }
     // VLAN filtering holds of frames of pools too, and changes nothing of the wire.
@@ -77,7 +79,7 @@ fn routes_frames_of_a_pool(rt: HostRuntime) -> Result<(), Fail> {
         &rt,
         route,
         Route {
-            local: 0,
+            local: PoolSet::none(),
             wire: false,
         },
     );

@@ -9,30 +9,50 @@ use wire_frame::PoolId;
 #[test]
 fn messages_follow_the_mask(rt: HostRuntime) {
     let mut causes = Causes::new();
-    assert_equal_at(&rt, causes.ims(0b010), 0b000, "nothing stands");
-    assert_equal_at(&rt, causes.ics(0b011), 0b010, "vector 0 is not enabled");
-    assert_equal_at(&rt, causes.read_icr(), 0b011, "both stand");
+    assert_equal_at(&rt, causes.ims(0b010).bits(), 0b000, "nothing stands");
     assert_equal_at(
         &rt,
-        causes.ics(0b001),
+        causes.ics(0b011).bits(),
+        0b010,
+        "vector 0 is not enabled",
+    );
+    assert_equal_at(&rt, causes.read_icr().bits(), 0b011, "both stand");
+    assert_equal_at(
+        &rt,
+        causes.ics(0b001).bits(),
         0b000,
         "vector 0 is still not enabled",
     );
     causes.iac(0b001);
-    assert_equal_at(&rt, causes.ims(0b001), 0b001, "the cause was waiting");
     assert_equal_at(
         &rt,
-        causes.read_icr(),
+        causes.ims(0b001).bits(),
+        0b001,
+        "the cause was waiting",
+    );
+    assert_equal_at(
+        &rt,
+        causes.read_icr().bits(),
         0b000,
         "it was cleared automatically",
     );
-    assert_equal_at(&rt, causes.ims(0b001), 0b000, "vector 0 is enabled already");
-    causes.imc(0b010);
-    assert_equal(&rt, causes.mask(), 0b001);
-    assert_equal_at(&rt, causes.ics(0b111), 0b001, "the others are not enabled");
     assert_equal_at(
         &rt,
-        causes.read_icr(),
+        causes.ims(0b001).bits(),
+        0b000,
+        "vector 0 is enabled already",
+    );
+    causes.imc(0b010);
+    assert_equal(&rt, causes.mask().bits(), 0b001);
+    assert_equal_at(
+        &rt,
+        causes.ics(0b111).bits(),
+        0b001,
+        "the others are not enabled",
+    );
+    assert_equal_at(
+        &rt,
+        causes.read_icr().bits(),
         0b110,
         "vector 0 was cleared automatically",
     );
@@ -42,12 +62,12 @@ fn messages_follow_the_mask(rt: HostRuntime) {
 #[test]
 fn reserved_bits_are_ignored(rt: HostRuntime) {
     let mut causes = Causes::new();
-    assert_equal(&rt, causes.ims(0xFFFF_FFF8), 0);
-    assert_equal(&rt, causes.mask(), 0);
-    assert_equal(&rt, causes.ics(0xFFFF_FFF8), 0);
-    assert_equal(&rt, causes.read_icr(), 0);
+    assert_equal(&rt, causes.ims(0xFFFF_FFF8).bits(), 0);
+    assert_equal(&rt, causes.mask().bits(), 0);
+    assert_equal(&rt, causes.ics(0xFFFF_FFF8).bits(), 0);
+    assert_equal(&rt, causes.read_icr().bits(), 0);
     causes.iac(0xFFFF_FFFF);
-    assert_equal(&rt, causes.auto_clear(), 0b111);
+    assert_equal(&rt, causes.auto_clear().bits(), 0b111);
 }
 
 // Bit 7 of an entry says that it names a vector, and bits 1:0 say which; a function has no vector 3.
@@ -62,9 +82,9 @@ fn entries_raise_their_vector(rt: HostRuntime) {
         (0x02, 0),
     ] {
         let mut causes = Causes::new();
-        assert_equal(&rt, causes.ims(0b111), 0);
-        assert_equal_at(&rt, causes.raise_by(entry), messages, entry);
-        assert_equal_at(&rt, causes.read_icr(), messages, entry);
+        assert_equal(&rt, causes.ims(0b111).bits(), 0);
+        assert_equal_at(&rt, causes.raise_by(entry).bits(), messages, entry);
+        assert_equal_at(&rt, causes.read_icr().bits(), messages, entry);
     }
 }
 
@@ -78,7 +98,7 @@ fn each_vector_has_its_pools(rt: HostRuntime) -> Result<(), Fail> {
             Vectors::from_bits(bits),
         );
     }
-    assert_equal(&rt, messages.pools(), 0x8000_0000_0000_0021);
+    assert_equal(&rt, messages.pools().bits(), 0x8000_0000_0000_0021);
     for (v, pools) in [
         (0, 0x0000_0000_0000_0021),
         (1, 0x8000_0000_0000_0020),
@@ -86,7 +106,7 @@ fn each_vector_has_its_pools(rt: HostRuntime) -> Result<(), Fail> {
         (3, 0),
         (255, 0),
     ] {
-        assert_equal_at(&rt, messages.pools_with(v), pools, v);
+        assert_equal_at(&rt, messages.pools_with(v).bits(), pools, v);
     }
     let words = [0x21, 0x8000_0000_0000_0020, 0x8000_0000_0000_0020];
     assert_equal(&rt, messages.words().as_slice(), words.as_slice());
@@ -117,7 +137,7 @@ fn texts_for_people(rt: HostRuntime) -> Result<(), Fail> {
     assert_equal(
         &rt,
         format!(in rt.alloc(); "{causes:?}")?.as_str(),
-        "Causes { causes: 0, enabled: 0, auto_clear: 0 }",
+        "Causes { causes: Vectors { bits: 0 }, enabled: Vectors { bits: 0 }, auto_clear: Vectors { bits: 0 } }",
     );
     Ok(())
 }

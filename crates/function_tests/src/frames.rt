@@ -221,3 +221,19 @@ fn reads_sets_of_pools(rt: HostRuntime) {
     let entries = [0, 0, 1, 0x8000_0000];
     assert_equal(&rt, pool_words(&entries, 1), 0x8000_0000_0000_0001);
 }
+
+// Pools 0, 5 and 63, the lowest and the highest among them.
+#[test]
+fn a_set_gives_its_pools_in_rising_order(rt: HostRuntime) -> Result<(), Fail> {
+    let set = PoolSet::from_bits(0x8000_0000_0000_0021);
+    let mut pools = Vec::new(rt.alloc());
+    for pool in set {
+        assert!(rt; set.contains(pool));
+        pools.push(pool.get())?;
+    }
+    assert_equal(&rt, pools.as_slice(), [0, 5, 63].as_slice());
+    let other = PoolId::new(6).ok_or("a pool")?;
+    assert!(rt; !set.contains(other) && !set.is_empty());
+    assert!(rt; PoolSet::none().is_empty() && PoolSet::none().into_iter().next().is_none());
+    Ok(())
+}

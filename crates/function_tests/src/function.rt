@@ -1,5 +1,6 @@
 //! Worked examples from outside, as a driver and the wire would do them: each is a list of steps with what they answer.
 use guest_memory::{FlatMem, GuestMem};
+use irq_causes::Vectors;
 use std::alloc::Global;
 use std::process::Abort;
 use std::test::Fail;
@@ -50,9 +51,19 @@ fn do_step<M: GuestMem>(
     step: Step,
 ) -> Result<(), Fail> {
     match step {
-        W(offset, x) => assert_equal_at(rt, unit.reg_write(offset, x), Some(0), offset),
+        W(offset, x) => assert_equal_at(
+            rt,
+            unit.reg_write(offset, x),
+            Some(Vectors::none()),
+            offset,
+        ),
         Issues(offset, x, messages) => {
-            assert_equal_at(rt, unit.reg_write(offset, x), Some(messages), offset);
+            assert_equal_at(
+                rt,
+                unit.reg_write(offset, x),
+                Vectors::new(messages),
+                offset,
+            );
         }
         R(offset, x) => assert_equal_at(rt, unit.reg_read(offset), Some(x), offset),
         Put(at, head, fill, len) => {
@@ -68,12 +79,12 @@ fn do_step<M: GuestMem>(
         Wire(head, fill, len, messages) => {
             let bytes = filled(head, fill);
             let received = FrameBuf::from_bytes(&bytes[..len.min(9018)])?;
-            assert_equal_at(rt, unit.deliver(&received, false), messages, len);
+            assert_equal_at(rt, unit.deliver(&received, false).bits(), messages, len);
         }
         Serve(outcome, messages) => {
             let service = unit.serve(Queue::Q0, frame, rule, limit).ok_or("open")?;
             assert_equal(rt, service.outcome, outcome);
-            assert_equal(rt, service.messages, messages);
+            assert_equal(rt, service.messages.bits(), messages);
         }
         Ended(head, fill, len) => {
             let bytes = filled(head, fill);
@@ -602,7 +613,7 @@ fn a_closed_function_does_nothing(rt: HostRuntime) -> Result<(), Fail> {
     assert_equal(&rt, unit.reg_write(0x108, 7), None);
     let service = unit.serve(Queue::Q1, &mut frame, PortVlan::Never, limit);
     assert!(rt; service.is_none());
-    assert_equal(&rt, unit.deliver(&frame, true), 0);
+    assert_equal(&rt, unit.deliver(&frame, true), Vectors::none());
     let accessed = (unit.mem_write(0, &[0xAA]), unit.mem_read(0, &mut byte));
     assert!(rt; accessed == (false, false) && byte == [1]);
     Ok(())

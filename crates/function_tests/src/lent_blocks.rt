@@ -2,8 +2,7 @@
 ghost use Rattle.std.specs.Prelude.{◌≡◌, ◌≤◌, length};
 
 use crate::compare::assert_equal;
-use guest_memory::GuestMem;
-use lent_memory::LentMem;
+use guest_memory::{GuestMem, LentMem};
 
 // Writes four bytes of the memory, and reads six around them.
 fn write_and_read<M: GuestMem>(memory: &mut M, out: &mut [u8; 6])

@@ -1,7 +1,7 @@
 //! A memory on the heap.
-ghost use Rattle.std.specs.Prelude.{◌≡◌, ℕ, ◌+◌, ◌-◌, ◌*◌, ◌/◌, ◌%◌, ◌<◌, ◌≤◌, ◌↔◌, ◌++◌, true, false, List, [], ◌∷◌, length, set, replicate, slice_range, vec_capacity, IfOk, IfErr, IfSome};
+ghost use Rattle.std.specs.Prelude.{◌≡◌, ℕ, ◌+◌, ◌-◌, ◌*◌, ◌/◌, ◌%◌, ◌<◌, ◌≤◌, ◌↔◌, ◌++◌, true, false, List, length, set, replicate, slice_range, vec_capacity, IfOk, IfErr, IfSome};
 ghost use Rattle.guest_memory.specs.Memory.{overwrite, is_memory_size, word_at, word_bytes, two_words};
-ghost use Rattle.guest_memory.specs.Pages.{Paired, Listed, place_in, reaching};
+ghost use Rattle.guest_memory.specs.Pages.{place_in, reaching};
 
 use crate::GuestMem;
 use crate::words::{bytes_of, bytes_of_two, put_word, put_words, words_of};
@@ -26,38 +26,36 @@ pub fn is_memory_size(size: u64) -> bool
 }
 
 /// The bytes of a page.
-const PAGE: usize = 4096;
+const PAGE: usize = 2048;
 /// The mark of a page that isn't stored.
 const UNSTORED: u16 = u16::MAX;
 
 /// A memory on the heap, of 4096 to 16,777,216 bytes, a multiple of 128.
 ///
-/// The room is taken when the memory is made, and none later. Of it, the pages of 4096 bytes that were written since the
+/// The room is taken when the memory is made, and none later. Of it, the pages of 2048 bytes that were written since the
 /// memory was made or cleared are stored, one behind another in the order of their first write; the others are zero. So
 /// the host holds as much as those pages and a table of two bytes for each page up to the last that was ever written. An
 /// access costs as much as its bytes, and the first write to a page as much as the page and those entries of the table that
-/// are new; clearing costs as much as the number of the pages that were written.
+/// are new since the memory was made or cleared; clearing costs no more than a few steps.
 #[derive(Drop)]
 pub struct FlatMem {
-    // where each page is stored, up to the last page that was ever written
+    // where each page is stored, up to the last page that was written
     table: Vec<u16>,
-    // the stored pages, in the order of their first write
-    stored: Vec<u16>,
-    // the bytes of the stored pages
+    // the bytes of the stored pages, in the order of their first write
     cells: Vec<u8>,
     size: usize,
 }
 
 impl Model for FlatMem {
-    ghost use Rattle.std.specs.Prelude.{List, ℕ, length, vec_capacity};
+    ghost use Rattle.std.specs.Prelude.{List, ℕ, ◌/◌, length, vec_capacity};
     ghost use Rattle.guest_memory.specs.Pages.{paged, IsPaged};
 
     ghost Value = { List ℕ };
 
     ghost view = { λ m. paged m.size m.table.items m.cells.items };
 
-    ghost invariant = { λ m. IsPaged m.size m.table.items m.stored.items (length m.cells.items)
-        (vec_capacity m.cells) (vec_capacity m.stored) (vec_capacity m.table) };
+    ghost invariant = { λ m. IsPaged m.size m.table.items (length m.cells.items / 2048)
+        (length m.cells.items) (vec_capacity m.cells) (vec_capacity m.table) };
 }
 
 impl FlatMem {
@@ -78,16 +76,8 @@ impl FlatMem {
         let Ok(table) = Vec::with_capacity(alloc, pages) else {
             return Err(Fault::NoMemory);
         };
-        let Ok(stored) = Vec::with_capacity(alloc, pages) else {
-            return Err(Fault::NoMemory);
-        };
         match Vec::with_capacity(alloc, pages * PAGE) {
-            Ok(cells) => Ok(FlatMem {
-                table,
-                stored,
-                cells,
-                size,
-            }),
+            Ok(cells) => Ok(FlatMem { table, cells, size }),
             Err(_) => Err(Fault::NoMemory),
         }
     }
@@ -97,7 +87,7 @@ impl FlatMem {
     #[tactic(auto, using(crate::proofs::PagesLemmas::length_paged, crate::proofs::PagesLemmas::read_paged, crate::proofs::PagesLemmas::read_unstored))]
     fn read_page(&self, start: usize, out: &mut [u8])
         requires fits { start + length out.old ≤ length self.now }
-        requires one { start % 4096 + length out.old ≤ 4096 }
+        requires one { start % 2048 + length out.old ≤ 2048 }
         ensures { out.new ≡ slice_range self.now start (start + length out.old) }
     {
         let cells = self.cells.as_slice();
@@ -156,20 +146,13 @@ impl FlatMem {
     #[tactic(auto, using(crate::proofs::PagesLemmas::length_paged, crate::proofs::PagesLemmas::write_paged, crate::proofs::PagesLemmas::is_paged_same))]
     fn write_page(&mut self, start: usize, source: &[u8])
         requires fits { start + length source.now ≤ length self.old }
-        requires one { start % 4096 + length source.now ≤ 4096 }
+        requires one { start % 2048 + length source.now ≤ 2048 }
         ensures { self.new ≡ overwrite start source.now self.old }
     {
         let page = start / PAGE;
         let place = place_of(&self.table, page);
         if place == UNSTORED {
-            store(
-                &mut self.table,
-                &mut self.stored,
-                &mut self.cells,
-                page,
-                start % PAGE,
-                source,
-            );
+            store(&mut self.table, &mut self.cells, page, start % PAGE, source);
         } else {
             let at = place as usize * PAGE + start % PAGE;
             write_within(&mut self.cells, at, source);
@@ -226,53 +209,24 @@ fn place_of(table: &[u16], page: usize) -> u16
 // Stores a page at the next place, with zeros but for `source` from `start` on. There is room, so nothing is allocated.
 #[cold]
 #[inline(never)]
-fn store(
-    table: &mut Vec<u16>,
-    stored: &mut Vec<u16>,
-    cells: &mut Vec<u8>,
-    page: usize,
-    start: usize,
-    source: &[u8],
-)
-    requires few { page + 1 ≤ 4097 }
-    requires place { length stored.old.items < 4097 }
+fn store(table: &mut Vec<u16>, cells: &mut Vec<u8>, page: usize, start: usize, source: &[u8])
+    requires place { length cells.old.items / 2048 < 8193 }
     requires entry { page + 1 ≤ vec_capacity table.old }
-    requires seat { length stored.old.items < vec_capacity stored.old }
-    requires within { start + length source.now ≤ 4096 }
-    requires cells { length cells.old.items + 4096 ≤ vec_capacity cells.old }
+    requires few { page + 1 ≤ 8193 }
+    requires within { start + length source.now ≤ 2048 }
+    requires cells { length cells.old.items + 2048 ≤ vec_capacity cells.old }
     ensures table { table.new.items
-        ≡ set (reaching (page + 1) table.old.items) page (length stored.old.items) }
-    ensures stored { stored.new.items ≡ stored.old.items ++ page ∷ [] }
+        ≡ set (reaching (page + 1) table.old.items) page (length cells.old.items / 2048) }
     ensures cells { cells.new.items
         ≡ overwrite (length cells.old.items + start) source.now
-        (cells.old.items ++ replicate 4096 0) }
-    ensures len { length cells.new.items ≡ length cells.old.items + 4096 }
+        (cells.old.items ++ replicate 2048 0) }
+    ensures len { length cells.new.items ≡ length cells.old.items + 2048 }
     ensures entries { vec_capacity table.old ≤ vec_capacity table.new }
-    ensures seats { vec_capacity stored.old ≤ vec_capacity stored.new }
     ensures room { vec_capacity cells.old ≤ vec_capacity cells.new }
 {
-    give_place(table, stored, page);
-    write_first(cells, start, source);
-}
-
-// Gives the page the next place. There is room, so nothing is allocated.
-fn give_place(table: &mut Vec<u16>, stored: &mut Vec<u16>, page: usize)
-    requires few { page + 1 ≤ 4097 }
-    requires place { length stored.old.items < 4097 }
-    requires entry { page + 1 ≤ vec_capacity table.old }
-    requires room { length stored.old.items < vec_capacity stored.old }
-    ensures table { table.new.items
-        ≡ set (reaching (page + 1) table.old.items) page (length stored.old.items) }
-    ensures stored { stored.new.items ≡ stored.old.items ++ page ∷ [] }
-    ensures entries { vec_capacity table.old ≤ vec_capacity table.new }
-    ensures capacity { vec_capacity stored.old ≤ vec_capacity stored.new }
-{
     reach(table, page + 1);
-    table[page] = stored.len() as u16;
-    match stored.push(page as u16) {
-        Ok(()) => {}
-        Err(_) => unreachable!(),
-    }
+    table[page] = (cells.len() / PAGE) as u16;
+    write_first(cells, start, source);
 }
 
 // Makes the table that long at least. There is room, so nothing is allocated.
@@ -292,12 +246,12 @@ fn reach(table: &mut Vec<u16>, pages: usize)
 
 // One page more, whose bytes are zero but for `source` from `start` on. There is room, so nothing is allocated.
 fn write_first(cells: &mut Vec<u8>, start: usize, source: &[u8])
-    requires within { start + length source.now ≤ 4096 }
-    requires room { length cells.old.items + 4096 ≤ vec_capacity cells.old }
+    requires within { start + length source.now ≤ 2048 }
+    requires room { length cells.old.items + 2048 ≤ vec_capacity cells.old }
     ensures cells { cells.new.items
         ≡ overwrite (length cells.old.items + start) source.now
-        (cells.old.items ++ replicate 4096 0) }
-    ensures len { length cells.new.items ≡ length cells.old.items + 4096 }
+        (cells.old.items ++ replicate 2048 0) }
+    ensures len { length cells.new.items ≡ length cells.old.items + 2048 }
     ensures capacity { vec_capacity cells.old ≤ vec_capacity cells.new }
 {
     let count = cells.len();
@@ -347,7 +301,7 @@ impl GuestMem for FlatMem {
         }
     }
 
-    #[tactic(auto, using(crate::proofs::PagesLemmas::length_paged, crate::proofs::PagesLemmas::write_paged, crate::proofs::PagesLemmas::is_paged_same, crate::proofs::WordsLemmas::length_word))]
+    #[tactic(auto, using(crate::proofs::PagesLemmas::length_paged, crate::proofs::PagesLemmas::write_stored, crate::proofs::PagesLemmas::is_paged_same, crate::proofs::WordsLemmas::length_word))]
     fn write_word(&mut self, addr: u64, word: u64) {
         let start = addr as usize;
         let place = place_of(&self.table, start / PAGE);
@@ -359,7 +313,7 @@ impl GuestMem for FlatMem {
         }
     }
 
-    #[tactic(auto, using(crate::proofs::PagesLemmas::length_paged, crate::proofs::PagesLemmas::write_paged, crate::proofs::PagesLemmas::is_paged_same, crate::proofs::WordsLemmas::length_two))]
+    #[tactic(auto, using(crate::proofs::PagesLemmas::length_paged, crate::proofs::PagesLemmas::write_stored, crate::proofs::PagesLemmas::is_paged_same, crate::proofs::WordsLemmas::length_two))]
     fn write_words(&mut self, addr: u64, low: u64, high: u64) {
         let start = addr as usize;
         let place = place_of(&self.table, start / PAGE);
@@ -373,22 +327,8 @@ impl GuestMem for FlatMem {
 
     #[tactic(auto, using(crate::proofs::PagesLemmas::length_paged, crate::proofs::PagesLemmas::paged_none))]
     fn clear(&mut self) {
-        forget(&mut self.table, &self.stored);
-        self.stored.clear();
+        self.table.clear();
         self.cells.clear();
-    }
-}
-
-// Puts the mark of a page that isn't stored in the place of each stored page, so that the table has nothing else.
-#[tactic(auto, using(crate::proofs::PagesLemmas::all_unstored))]
-fn forget(table: &mut Vec<u16>, stored: &[u16])
-    requires listed { Listed table.old.items stored.now }
-    requires paired { Paired table.old.items stored.now }
-    ensures table { table.new.items ≡ replicate (length table.old.items) 65535 }
-    ensures capacity { vec_capacity table.old ≤ vec_capacity table.new }
-{
-    for page in stored {
-        table[*page as usize] = UNSTORED;
     }
 }
 

@@ -5,6 +5,7 @@ ghost use Rattle.device.specs.declared.event.Event.{Event};
 ghost use Rattle.device.specs.declared.span.Span.{Span};
 ghost use Rattle.device.specs.Request.{event_of};
 ghost use Rattle.device.specs.Outcome.{reply_by, done_or_refused, value_or_refused, bytes_or_refused};
+ghost use Rattle.history.specs.declared.caller.Caller.TheVariants.{Port};
 ghost use Rattle.recorder.specs.Callers.{may};
 ghost use Rattle.recorder.specs.Held.{having_calls};
 ghost use Rattle.recorder.specs.Read.{bytes_asked, bytes_told};
@@ -15,13 +16,13 @@ ghost use Rattle.guest_port.specs.Calls.{HasCalled, is_full, read_or_refused, Is
 use crate::port::{GuestPort, Tokens};
 use device::bytes::MOST_BYTES;
 use device::{MemBytes, MemSlice, Outcome, Request};
-use device_lock::{LockedDevice, Share};
+use device_lock::{Caller, LockedDevice, Share};
 use guest_memory::GuestMem;
 use shadow::Shadow;
 use std::marker::Model;
 use std::sync::ledger::Ledger;
 use std::sync::{Arc, Wait};
-use wire_frame::{Fault, FrameBuf};
+use wire_frame::{Fault, FrameBuf, PoolId};
 
 /// A port with the device behind it: what a guest has of its virtual function. The calls that take a handle wait for the
 /// device's lock. Each of them is one event of the port's own pool, which the device keeps with its answer and which counts
@@ -48,6 +49,7 @@ impl<M: GuestMem, L: Ledger, P: GuestPort> Model for LockedPort<M, L, P> {
     ghost Value = { CallingPort };
 
     ghost use Rattle.std.specs.Prelude.{◌≡◌, true, false, MatchOption};
+    ghost use Rattle.history.specs.declared.caller.Caller.TheVariants.{Port};
     ghost use Rattle.recorder.specs.Held.{having_calls};
     ghost use Rattle.guest_port.specs.Calls.{asked_since};
 
@@ -61,14 +63,14 @@ impl<M: GuestMem, L: Ledger, P: GuestPort> Model for LockedPort<M, L, P> {
         (s.last.value ≡ having_calls (asked_since s.first.value s.last.value) s.first.value)
         × MatchOption s.share ((P.meaning s.inner).is_closed ≡ true)
         (λ share. ((P.meaning s.inner).is_closed ≡ false)
-        × (share.caller ≡ (P.meaning s.inner).pool)
+        × (share.caller ≡ Port (P.meaning s.inner).pool)
         × (share ≡ s.last.value)) };
 }
 
 impl<M: GuestMem, L: Ledger, P: GuestPort> LockedPort<M, L, P> {
     /// The port with the device, of one pool with the share. It has made no call.
     pub fn new(device: Arc<LockedDevice<M, L>>, share: Share<L>, inner: P) -> LockedPort<M, L, P>
-        requires pool { share.caller ≡ (P.meaning inner).pool }
+        requires pool { share.caller ≡ Port (P.meaning inner).pool }
         requires closed { (P.meaning inner).is_closed ≡ false }
         ensures { result ≡ record { port = P.meaning inner; made = share; calls = [] } }
     {
@@ -90,6 +92,16 @@ impl<M: GuestMem, L: Ledger, P: GuestPort> LockedPort<M, L, P> {
         ensures below { result < 64 }
     {
         self.inner.pool()
+    }
+
+    /// The caller that it is.
+    pub fn caller(&self) -> Caller
+        ensures { result ≡ Port self.now.port.pool }
+    {
+        match PoolId::new(self.inner.pool()) {
+            Some(pool) => Caller::Port(pool),
+            None => unreachable!(),
+        }
     }
 
     /// Whether it has not ended.
@@ -268,7 +280,7 @@ impl<M: GuestMem, L: Ledger, P: GuestPort> LockedPort<M, L, P> {
     pub fn close(&mut self) -> Option<(Share<L>, Tokens)>
         ensures closed { self.new ≡ record self.old { port = closed self.old.port } }
         ensures back { MatchOption result (self.old.port.is_closed ≡ true)
-            (λ r. (self.old.port.is_closed ≡ false) × (r.0.caller ≡ self.old.port.pool)
+            (λ r. (self.old.port.is_closed ≡ false) × (r.0.caller ≡ Port self.old.port.pool)
             × (r.1.seat ≡ self.old.port.seat) × (r.1.seat.view.pool ≡ self.old.port.pool)
             × (r.1.note ≡ self.new.port.note)) }
         ensures share { IfSome result (λ r. r.0 ≡ having_calls self.old.calls self.old.made) }
@@ -283,7 +295,7 @@ impl<M: GuestMem, L: Ledger, P: GuestPort> LockedPort<M, L, P> {
     #[tactic(auto, using(crate::proofs::Called::still_since))]
     fn ask<R: Wait>(&mut self, rt: &R, request: Request<'_>, read: &mut [u8]) -> Option<Outcome>
         requires open { self.old.port.is_closed ≡ false }
-        requires may { may self.old.port.pool (event_of request) ≡ true }
+        requires may { may (Port self.old.port.pool) (event_of request) ≡ true }
         requires room { bytes_asked (event_of request) ≤ length read.old }
         ensures kept { IfSome result (λ outcome. HasCalled (event_of request.entry)
             (reply_by (λ span. take (bytes_told outcome) read.new) outcome) self.old self.new) }

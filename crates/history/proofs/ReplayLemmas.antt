@@ -1,5 +1,5 @@
 -- Devices as they are made, one more call, and one call on in those that are kept.
-use Rattle.std.proofs.Common.{◌≡◌, ℕ, ◌+◌, ◌<◌, Bool, true, false, ◌&&◌, List, [], ◌∷◌, ◌++◌, length, map, drop, get_or, refl, sym, ap, ◌∙◌, subst, arith}
+use Rattle.std.proofs.Common.{◌≡◌, ℕ, ◌+◌, ◌<◌, Bool, true, false, ◌&&◌, List, [], ◌∷◌, ◌++◌, length, map, drop, get_or, refl, sym, ap, ◌∙◌, subst}
 use Rattle.std.proofs.Common.{add-one}
 use Rattle.std.proofs.Math.Seq.{drop-cons}
 use Rattle.std.proofs.lemmas.List.{map-append}
@@ -8,6 +8,7 @@ use Rattle.vf_unit.specs.Unit.{Closed, size_of}
 use Rattle.device.specs.declared.event.Event.{Event}
 use Rattle.device.specs.World.{World, step, fresh, sizes_of, answers, world_after}
 use Rattle.device.proofs.Append.{answers_append, world_after_append}
+use Rattle.history.specs.declared.caller.Caller.{Caller}
 use Rattle.history.specs.Entries.{Entry, entry, events, given, Leads}
 
 -- ---- devices as they are made
@@ -27,7 +28,7 @@ fresh_again w limit sizes made =
 pub leads_none : (w : World) → Leads w [] w
 leads_none w = record { answers = refl; world = refl }
 
-pub leads_more : (base : World) (calls : List Entry) (live : World) (c : ℕ) (e : Event) → Leads base calls live
+pub leads_more : (base : World) (calls : List Entry) (live : World) (c : Caller) (e : Event) → Leads base calls live
     → Leads base (calls ++ entry c e (step live e).answer ∷ []) (step live e).world
 leads_more base calls live c e l = record {
   answers = ap (answers base) (map-append (λ (x : Entry). x.event) calls (call ∷ []))

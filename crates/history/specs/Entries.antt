@@ -5,14 +5,16 @@ use Rattle.device.specs.declared.event.Event.TheVariants.{MemWrite, PfReset, Wir
 use Rattle.device.specs.declared.event.Reply.TheVariants.{Idle}
 use Rattle.device.specs.declared.event.Answer.{Answer}
 use Rattle.device.specs.World.{World, answers, world_after}
+use Rattle.history.specs.declared.caller.Caller.{Caller}
+use Rattle.history.specs.declared.caller.Caller.TheVariants.{Driver}
 
 -- who called, what was asked, and what was answered
 pub record Entry : Type 0 where
-  pub caller : ℕ
+  pub caller : Caller
   pub event : Event
   pub answer : Answer
 
-abbrev pub entry : ℕ → Event → Answer → Entry
+abbrev pub entry : Caller → Event → Answer → Entry
 entry c e a = record { caller = c; event = e; answer = a }
 
 -- the entries, the oldest first, and how many there may be
@@ -26,7 +28,7 @@ is_cap n = nat_le 1 n && nat_le n 65536
 
 -- what stands where there is no entry
 abbrev pub no_entry : Entry
-no_entry = entry 0 PfReset (record { reply = Idle; raised = [] })
+no_entry = entry Driver PfReset (record { reply = Idle; raised = [] })
 
 -- the entry of that place, counted from the oldest
 abbrev pub entry_at : Kept → ℕ → Entry

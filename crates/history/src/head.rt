@@ -3,8 +3,10 @@ ghost use Rattle.std.specs.Prelude.{◌≡◌, ◌≤◌, length};
 ghost use Rattle.device.specs.Request.{event_of};
 ghost use Rattle.history.specs.Heads.{asked_of, told_of, brought, IsSound};
 
+use crate::caller::Caller;
 use device::{Outcome, Queue, Request};
 use irq_causes::Vectors;
+use std::marker::Model;
 
 /// What was asked, but for bytes.
 #[derive(Clone, Copy)]
@@ -58,6 +60,49 @@ pub enum Told {
     Refused(u8),
 }
 
+/// A caller in one byte.
+#[derive(Clone, Copy)]
+pub struct PackedCaller {
+    number: u8,
+}
+
+impl Model for PackedCaller {
+    ghost use Rattle.std.specs.Prelude.{◌<◌};
+    ghost use Rattle.history.specs.Callers.{caller_number, caller_of};
+    ghost use Rattle.history.specs.declared.caller.Caller.{Caller};
+
+    ghost Value = { Caller };
+
+    ghost view = { λ c. caller_of c.number };
+
+    ghost invariant = { λ c. c.number < 67 };
+
+    ghost inverse = { λ c. record { number = caller_number c } };
+}
+
+impl PackedCaller {
+    /// The caller in one byte.
+    #[inline]
+    pub fn new(caller: Caller) -> PackedCaller
+        ensures { result ≡ caller }
+    {
+        PackedCaller {
+            number: caller.number(),
+        }
+    }
+
+    /// The caller.
+    #[inline]
+    pub fn get(self) -> Caller
+        ensures { result ≡ self }
+    {
+        match Caller::from_number(self.number) {
+            Some(caller) => caller,
+            None => unreachable!(),
+        }
+    }
+}
+
 /// A kept call without its bytes. In the pool, from `start` on, stand the `count` bytes that it brought or read, and then
 /// those of the words of its messages.
 #[derive(Clone, Copy)]
@@ -71,7 +116,7 @@ pub struct Head {
     /// How many bytes it brought or read.
     pub count: u16,
     /// Who called.
-    pub caller: u8,
+    pub caller: PackedCaller,
     /// The vectors that some pool got a message of.
     pub vectors: Vectors,
 }

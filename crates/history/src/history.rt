@@ -6,7 +6,8 @@ ghost use Rattle.wire_frame.specs.Frame.{IsFrame};
 ghost use Rattle.history.specs.Entries.{entry, entry_at, is_cap, brings};
 
 use crate::bytes::{append_moved, part};
-use crate::head::{Asked, Head, asked_of, told_of};
+use crate::caller::Caller;
+use crate::head::{Asked, Head, PackedCaller, asked_of, told_of};
 use crate::reply::is_reply;
 use crate::words::{append_words, are_messages, words_len};
 use device::{Device, MemSlice, Request, Taken};
@@ -54,12 +55,8 @@ impl History {
         if cap < 1 || cap > MOST_CALLS {
             return Err(Fault::BadMake);
         }
-        let Ok(heads) = Vec::with_capacity(alloc, cap) else {
-            return Err(Fault::NoMemory);
-        };
-        let Ok(pool) = room_for(alloc, cap) else {
-            return Err(Fault::NoMemory);
-        };
+        let heads = Vec::with_capacity(alloc, cap)?;
+        let pool = room_for(alloc, cap)?;
         Ok(History { heads, pool, cap })
     }
 
@@ -102,7 +99,7 @@ impl History {
     #[inline]
     pub fn push<M: GuestMem>(
         &mut self,
-        caller: u8,
+        caller: Caller,
         request: Request<'_>,
         device: &Device<M>,
         taken: &Taken<'_>,
@@ -121,7 +118,7 @@ impl History {
             told: told_of(taken.outcome),
             start,
             count,
-            caller,
+            caller: PackedCaller::new(caller),
             vectors,
         });
     }
@@ -137,11 +134,11 @@ impl History {
 
     /// Who made a call, counted from the oldest.
     #[inline]
-    pub fn caller(&self, index: usize) -> u8
+    pub fn caller(&self, index: usize) -> Caller
         requires { index < length self.now.entries }
         ensures { result ≡ (entry_at self.now index).caller }
     {
-        self.heads[index].caller
+        self.heads[index].caller.get()
     }
 
     /// What was asked in a call, counted from the oldest. Its frame, where it has one, is laid into `frame`.

@@ -13,11 +13,13 @@
 #![tactic(auto)]
 
 mod bytes;
+mod caller;
 pub mod head;
 mod history;
 mod replay;
 mod reply;
 mod words;
 
+pub use caller::Caller;
 pub use history::{History, MOST_CALLS};
 pub use replay::Room;

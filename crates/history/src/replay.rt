@@ -5,6 +5,7 @@ ghost use Rattle.device.specs.Outcome.{answer_in, left_by};
 ghost use Rattle.device.specs.Request.{event_of};
 ghost use Rattle.history.specs.Entries.{entry, entry_at, events, given};
 
+use crate::caller::Caller;
 use crate::history::History;
 use device::{Device, Request, Taken};
 use guest_memory::GuestMem;
@@ -42,7 +43,7 @@ impl History {
     #[inline]
     pub fn record<'f, M: GuestMem>(
         &mut self,
-        caller: u8,
+        caller: Caller,
         request: Request<'_>,
         device: &mut Device<M>,
         frame: &'f mut FrameBuf,

@@ -9,7 +9,6 @@ use Rattle.std.proofs.lemmas.Nat.Bits.{bit_at-lt, bit_at-zero, bit_at_above, bit
 use Rattle.std.proofs.lemmas.List.{get_or_past, length-set, get_or-set_same, get_or-set_other}
 use Rattle.std.proofs.lemmas.List.FromFn.{fill_by_all}
 use Rattle.wire_frame.specs.Bits.{has_bit}
-use Rattle.wire_frame.proofs.BitLemmas.{done_more}
 use Rattle.irq_causes.specs.Messages.{mask_at, masks, no_messages}
 use Rattle.irq_causes.specs.Words.{pools_of, length_of_masks, mask_of_pool, bit_zero, bit_one, bit_two, zero_back, one_back, two_back}
 
@@ -110,14 +109,9 @@ mask_of_pool_small a b c p = at (ltb p 64) refl
     at true is = rw (mask_of_pool a b c p (grind (arith, nat_tests))) (mask_small a b c p)
     at false is = rw (get_or_past (masks a b c) p 0 (rw (length_of_masks a b c) (grind (arith, nat_tests)))) (omega arith)
 
--- ---- the array is filled at the pools that got any, one by one
-
--- a pool that is in no word got none
-pub none_left : (a b c p : ℕ) → bit_at (bit_or (bit_or a b) c) p ≡ 0 → mask_at a b c p ≡ 0
-none_left a b c p is = omega (arith, is, bit_at_or (bit_or a b) c p, bit_at_or a b p)
-
--- one more pool is done
-pub filled_more : (a b c rest p m : ℕ) (xs : List ℕ) → p < 64 → m ≡ mask_at a b c p → length xs ≡ 64
-    → ((k : ℕ) → k < 64 → bit_at rest k ≡ 0 → get_or xs k 0 ≡ mask_at a b c k)
-    → (k : ℕ) → k < 64 → bit_at (bit_and rest (bit_not w64 (1 * 2 ^ p % 18446744073709551616))) k ≡ 0 → get_or (set xs p m) k 0 ≡ mask_at a b c k
-filled_more a b c rest p m xs within is whole = done_more (mask_at a b c) xs 64 rest p m 0 within (omega arith) (omega arith) is
+-- ---- a pool that is none of those that got any got none
+pub got_none : (pools mask p : ℕ) → bit_at pools p ≡ 0 → has_bit pools p ≡ ltb 0 mask → mask ≡ 0
+unfolding has_bit
+got_none pools mask p clear is =
+    let test : eqb 0 1 ≡ ltb 0 mask = ap (λ bit. eqb bit 1) (sym clear) ∙ is in
+    grind (arith, nat_tests)

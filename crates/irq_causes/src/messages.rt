@@ -1,75 +1,15 @@
 //! The interrupt messages that the pools got, as a value.
-ghost use Rattle.std.specs.Prelude.{◌≡◌, ◌≢◌, ℕ, ◌<◌, is_some, IfSome, nat_lt, nat_eq, length, slice_index, slice_set};
+ghost use Rattle.std.specs.Prelude.{◌≡◌, ◌≢◌, ℕ, ◌<◌, nat_lt, nat_eq, length, slice_index, slice_set};
 ghost use Rattle.std.specs.Int.{bit_at};
 ghost use Rattle.std.specs.Cmp.Lexicographic.{pointwise};
 ghost use Rattle.std.specs.Cmp.{partial_equiv_from_equiv};
 ghost use Rattle.std.proofs.lemmas.Cmp.{nat_list_eq_equiv};
 ghost use Rattle.wire_frame.specs.Bits.{has_bit};
-ghost use Rattle.irq_causes.specs.Messages.{mask_at, masks_of, no_messages};
+ghost use Rattle.irq_causes.specs.Messages.{masks_of, no_messages};
 
+use crate::Vectors;
 use std::marker::Model;
-use wire_frame::PoolId;
-
-/// A set of the vectors 0 to 2, which are all that a virtual function has (82599 datasheet, VTIVAR).
-///
-/// A contract sees the number [`Vectors::bits`].
-#[derive(Clone, Copy, Debug, PartialEq, Eq)]
-pub struct Vectors {
-    bits: u8,
-}
-
-impl Model for Vectors {
-    ghost use Rattle.std.specs.Prelude.{ℕ, ◌<◌};
-
-    ghost Value = { ℕ };
-
-    ghost view = { λ v. v.bits };
-
-    ghost invariant = { λ v. v.bits < 8 };
-
-    ghost inverse = { λ n. record { bits = n } };
-}
-
-impl Vectors {
-    /// The set that has vector v where bit v is 1, if the number names no vector above 2.
-    #[inline]
-    pub fn new(bits: u8) -> Option<Vectors>
-        ensures variant { is_some result ≡ nat_lt bits 8 }
-        ensures value { IfSome result (λ v. v ≡ bits) }
-    {
-        if bits < 8 {
-            Some(Vectors { bits })
-        } else {
-            None
-        }
-    }
-
-    /// The set that has vector v where bit v is 1, of a number that is known to name no vector above 2.
-    #[inline]
-    pub fn from_bits(bits: u8) -> Vectors
-        requires { bits < 8 }
-        ensures { result ≡ bits }
-    {
-        Vectors { bits }
-    }
-
-    /// The set as a number below 8: bit v is 1 where vector v is in it.
-    #[inline]
-    pub fn bits(self) -> u8
-        ensures value { result ≡ self }
-        ensures below { result < 8 }
-    {
-        self.bits
-    }
-
-    /// Whether no vector is in the set.
-    #[inline]
-    pub fn is_empty(self) -> bool
-        ensures { result ≡ nat_eq self 0 }
-    {
-        self.bits == 0
-    }
-}
+use wire_frame::{PoolId, PoolSet};
 
 /// The interrupt messages that the 64 pools got: for each pool a set of its vectors.
 ///
@@ -137,8 +77,10 @@ impl Messages {
     pub fn to(&self, pool: PoolId) -> Vectors
         ensures { result ≡ slice_index self.now pool }
     {
-        let pool = u32::from(pool.get());
-        Vectors::from_bits(mask_at(self.vector_0, self.vector_1, self.vector_2, pool))
+        let first = bit_of(self.vector_0, pool);
+        let second = bit_of(self.vector_1, pool);
+        let third = bit_of(self.vector_2, pool);
+        Vectors::from_bits(first + 2 * second + 4 * third)
     }
 
     /// Makes those the vectors that the pool got, whatever they were. What every other pool got stays.
@@ -153,27 +95,27 @@ impl Messages {
         self.vector_2 = put(self.vector_2, pool, bits / 4);
     }
 
-    /// The pools that got any vector: bit p is pool p.
+    /// The pools that got any vector.
     #[inline]
     #[tactic(auto, using(crate::proofs::MessageLemmas::any_of))]
-    pub fn pools(&self) -> u64
+    pub fn pools(&self) -> PoolSet
         ensures { (p : ℕ) → p < 64 → has_bit result p ≡ nat_lt 0 (slice_index self.now p) }
     {
-        self.vector_0 | self.vector_1 | self.vector_2
+        PoolSet::from_bits(self.vector_0 | self.vector_1 | self.vector_2)
     }
 
-    /// The pools that got vector `v`: bit p is pool p. None got a vector above 2.
+    /// The pools that got vector `v`. None got a vector above 2.
     #[inline]
     #[tactic(auto, using(crate::proofs::MessageLemmas::pools_with_zero, crate::proofs::MessageLemmas::pools_with_one, crate::proofs::MessageLemmas::pools_with_two, crate::proofs::MessageLemmas::pools_with_past_two))]
-    pub fn pools_with(&self, v: u8) -> u64
+    pub fn pools_with(&self, v: u8) -> PoolSet
         ensures { (p : ℕ) → p < 64 → has_bit result p ≡ has_bit (slice_index self.now p) v }
     {
-        match v {
+        PoolSet::from_bits(match v {
             0 => self.vector_0,
             1 => self.vector_1,
             2 => self.vector_2,
             _ => 0,
-        }
+        })
     }
 
     /// The messages as three words: word v has bit p where pool p got vector v.
@@ -201,12 +143,10 @@ impl Messages {
     pub fn to_masks(&self) -> [u8; 64]
         ensures { result ≡ self.now }
     {
+        self.masks_are_small();
         let mut masks = [0; 64];
-        let mut rest = self.vector_0 | self.vector_1 | self.vector_2;
-        while rest != 0 {
-            let p = rest.trailing_zeros();
-            masks[p as usize] = mask_at(self.vector_0, self.vector_1, self.vector_2, p);
-            rest &= !(1 << p);
+        for pool in self.pools() {
+            masks[usize::from(pool.get())] = self.to(pool).bits();
         }
         masks
     }
@@ -248,15 +188,13 @@ impl Eq for Messages {
     ghost laws = { nat_list_eq_equiv };
 }
 
-// The set of the pool of that number, of a word for each vector.
+// The bit of the pool in the word.
 #[inline]
-#[tactic(auto, using(crate::proofs::MessageLemmas::mask_small))]
-fn mask_at(first: u64, second: u64, third: u64, pool: u32) -> u8
-    requires { pool < 64 }
-    ensures value { result ≡ mask_at first second third pool }
-    ensures below { result < 8 }
+fn bit_of(word: u64, pool: PoolId) -> u8
+    ensures value { result ≡ bit_at word pool }
+    ensures below { result < 2 }
 {
-    (((first >> pool) & 1) + 2 * ((second >> pool) & 1) + 4 * ((third >> pool) & 1)) as u8
+    ((word >> pool.get()) & 1) as u8
 }
 
 // The word with the bit of the pool as it is given.

@@ -5,7 +5,7 @@
 //! of a line. Each call is one atomic step of the caller's own thread: it takes no lock, waits for nobody and takes no memory.
 //! Between any two steps, of whatever threads, the words and what the seats did fit by one rule, `IsLine` of `specs/Line.antt`:
 //! a message that was raised where none stood is taken once, or stands still. The crate stands on `wire_frame`, for pools and
-//! faults, and on `atomic_table`, which keeps the rule.
+//! faults, on `irq_causes`, for sets of vectors, and on `atomic_table`, which keeps the rule.
 #![tactic(auto)]
 
 pub mod laws;

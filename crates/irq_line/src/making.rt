@@ -23,15 +23,9 @@ pub fn make(alloc: Global) -> Result<(DeviceSeat, Vec<GuestSeat>), Fault>
         slice_get r.1.items p ≡ Some (record { line = r.0.line; view = new_guest p })) }
     ensures no_memory { IfErr result (λ fault. fault ≡ NoMemory) }
 {
-    let Ok((table, mut seat)) = Table::of_words(alloc, &[0; 64], &()) else {
-        return Err(Fault::NoMemory);
-    };
-    let Ok(line) = Arc::new(alloc, table) else {
-        return Err(Fault::NoMemory);
-    };
-    let Ok(guests) = guests_of(alloc, &line, &mut seat) else {
-        return Err(Fault::NoMemory);
-    };
+    let (table, mut seat) = Table::of_words(alloc, &[0; 64], &())?;
+    let line = Arc::new(alloc, table)?;
+    let guests = guests_of(alloc, &line, &mut seat)?;
     Ok((DeviceSeat { line, seat }, guests))
 }
 

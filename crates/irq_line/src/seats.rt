@@ -1,11 +1,12 @@
 //! The seats of a line: the device's and the guests'.
-ghost use Rattle.std.specs.Prelude.{◌≡◌, ℕ, ◌+◌, ◌<◌, [], ◌∷◌, ◌++◌, ◌↔◌, List, IsTrue};
+ghost use Rattle.std.specs.Prelude.{◌≡◌, ℕ, ◌+◌, ◌<◌, [], ◌∷◌, ◌++◌, List};
 ghost use Rattle.irq_line.specs.declared.views.Raise.{Raise};
 ghost use Rattle.irq_line.specs.Line.{raise_of, bit_for, raised, IsWord, StandsIn, record_of, after_take, after_peek};
 
 use crate::line::{Beside, Line, Peeks, Raises, Takes};
 use crate::views::View;
 use atomic_table::Seat;
+use irq_causes::Vectors;
 use std::marker::Model;
 use std::sync::Arc;
 use wire_frame::PoolId;
@@ -60,27 +61,19 @@ impl Model for GuestSeat {
 }
 
 impl DeviceSeat {
-    /// Whether [`DeviceSeat::raise`] takes them: a pool below 64, and a mask of the vectors 0 to 2 alone.
+    /// Raises vectors for the guest of a pool: they stand until the guest takes them, and one that stands already stands on.
+    /// One step, which waits for nobody.
     #[inline]
-    pub fn can_raise(pool: u8, mask: u8) -> bool
-        ensures { IsTrue result ↔ ((pool < 64) × (mask < 8)) }
-    {
-        pool < PoolId::COUNT && mask < 8
-    }
-
-    /// Raises the vectors of `mask`, bit v for vector v, for the guest of `pool`: they stand until the guest takes them, and
-    /// one that stands already stands on. One step, which waits for nobody.
-    #[inline]
-    pub fn raise(&mut self, pool: u8, mask: u8)
-        requires { (pool < 64) × (mask < 8) }
+    pub fn raise(&mut self, pool: PoolId, vectors: Vectors)
         ensures made { (found : ℕ) × (found < 8)
             × (self.new
-            ≡ record self.old { raises = self.old.raises ++ raise_of pool mask found ∷ [] }) }
+            ≡ record self.old { raises = self.old.raises ++ raise_of pool vectors found ∷ [] }) }
         ensures counted { (p v : ℕ) →
-            raised p v self.new.raises ≡ raised p v self.old.raises + bit_for p v pool mask }
+            raised p v self.new.raises ≡ raised p v self.old.raises + bit_for p v pool vectors }
     {
         let words = &self.line.shared;
-        words.fetch_or::<Raises>(&mut self.seat, usize::from(pool), u64::from(mask));
+        let (place, mask) = (usize::from(pool.get()), u64::from(vectors.bits()));
+        words.fetch_or::<Raises>(&mut self.seat, place, mask);
     }
 
     /// Compares the seat with a guest's of the same line, which changes neither: there is a word, and a story of it that has the

@@ -1,20 +1,31 @@
 //! Messages that are raised, and who takes them.
 ghost use Rattle.std.specs.Prelude.{◌≡◌};
 
+use irq_causes::Vectors;
 use irq_line::{DeviceSeat, GuestSeat, make};
 use std::test::Fail;
 use std::thread;
+use wire_frame::PoolId;
+
+// Raises the vectors of a mask for the pool of that number.
+fn raise(device: &mut DeviceSeat, pool: u8, mask: u8)
+    ensures line { device.new.line ≡ device.old.line }
+{
+    if let (Some(pool), Some(vectors)) = (PoolId::new(pool), Vectors::new(mask)) {
+        device.raise(pool, vectors);
+    }
+}
 
 // Vectors 0 and 2 are raised for pool 3, vector 0 twice, and once more when they were taken. What the guest takes and peeks before
 // that, then two peeks and two takes, and a take at the end.
 fn seen_by_3(device: &mut DeviceSeat, guest: &mut GuestSeat) -> [u8; 7] {
     let (taken, standing) = (guest.take(), guest.peek());
-    device.raise(3, 1);
-    device.raise(3, 4);
-    device.raise(3, 1);
+    raise(device, 3, 1);
+    raise(device, 3, 4);
+    raise(device, 3, 1);
     let (peeked, again) = (guest.peek(), guest.peek());
     let (all, left) = (guest.take(), guest.take());
-    device.raise(3, 1);
+    raise(device, 3, 1);
     [taken, standing, peeked, again, all, left, guest.take()]
 }
 
@@ -33,7 +44,7 @@ fn a_pool_sees_its_own_messages_alone(rt: HostRuntime) -> Result<(), Fail> {
     let (mut device, mut guests) = make(rt.alloc())?;
     for pool in 0..64u8 {
         let mask = pool % 7 + 1;
-        device.raise(pool, mask);
+        raise(&mut device, pool, mask);
         for guest in &mut guests {
             let due = if guest.pool() == pool { mask } else { 0 };
             assert_eq!(rt; (guest.peek(), guest.take()), (due, due), "of pool {pool}");
@@ -46,10 +57,10 @@ fn a_pool_sees_its_own_messages_alone(rt: HostRuntime) -> Result<(), Fail> {
 fn taken_while_compared(device: &mut DeviceSeat, guest: GuestSeat) -> [u8; 3]
     requires one { guest.line ≡ device.old.line }
 {
-    device.raise(3, 5);
+    raise(device, 3, 5);
     let mut guest = device.beside(guest);
     let first = guest.take();
-    device.raise(3, 2);
+    raise(device, 3, 2);
     let mut guest = device.beside(guest);
     [first, guest.take(), guest.take()]
 }
@@ -66,7 +77,7 @@ const RAISES: u32 = 1000;
 
 fn raise_often(device: &mut DeviceSeat) {
     for _ in 0..RAISES {
-        device.raise(0, 1);
+        raise(device, 0, 1);
     }
 }
 

@@ -5,7 +5,7 @@ ghost use Rattle.local_switch.specs.Switch.{receives, leaves, takes_from_wire, t
 
 use crate::ways::{Route, Source};
 use pool_filter::{Tables, accept_mask};
-use wire_frame::{AddressKind, FrameBuf, PoolId, has_bit};
+use wire_frame::{AddressKind, FrameBuf, PoolId, PoolSet, has_bit};
 
 /// Where a frame goes. That its sender may send it is not asked here.
 #[tactic(auto, using(wire_frame::proofs::BitLemmas::has_bit_and), unfolding(crate::specs::Switch::receives))]
@@ -17,11 +17,11 @@ pub fn route(tables: &Tables, from: Source, frame: &FrameBuf) -> Route
     let receiving = tables.receiving_pools();
     match from {
         Source::Wire => Route {
-            local: from_wire(tables, frame) & receiving,
+            local: PoolSet::from_bits(from_wire(tables, frame) & receiving),
             wire: false,
         },
         Source::Pool(pool) => Route {
-            local: from_pool(tables, pool, frame) & receiving,
+            local: PoolSet::from_bits(from_pool(tables, pool, frame) & receiving),
             wire: !tables.loops_back() || is_for_the_wire(tables, frame),
         },
     }

@@ -1,5 +1,5 @@
 //! Where a frame comes from, and where it goes.
-use wire_frame::PoolId;
+use wire_frame::{PoolId, PoolSet};
 
 /// Where a frame comes from.
 #[derive(Clone, Copy, Debug, PartialEq, Eq)]
@@ -13,8 +13,8 @@ pub enum Source {
 /// Where a frame goes.
 #[derive(Clone, Copy, Debug, PartialEq, Eq)]
 pub struct Route {
-    /// The pools that it is for and that may receive: bit p for pool p.
-    pub local: u64,
+    /// The pools that it is for and that may receive.
+    pub local: PoolSet,
     /// Whether it goes to the wire.
     pub wire: bool,
 }

@@ -2,7 +2,7 @@
 ghost use Rattle.std.specs.Prelude.{◌≡◌};
 
 use device::{Answer, Device, Event, Reply};
-use device_lock::{CALLERS, Full, Recorded, SERVICE, Share, Shares};
+use device_lock::{CALLERS, Caller, Full, Recorded, Share, Shares};
 use guest_memory::FlatMem;
 use irq_line::GuestSeat;
 use lock_support::{is_scripted, line_of, recorded, script};
@@ -165,7 +165,7 @@ fn service_of<L: Ledger>(
     let mut all = Vec::with_capacity(alloc, CALLERS)?;
     shares.put_back(&mut all)?;
     match recorded.gather(all) {
-        Some(tally) => Ok(Some(tally.entries[usize::from(SERVICE)])),
+        Some(tally) => Ok(Some(tally.entries[usize::from(Caller::Service.number())])),
         None => Ok(None),
     }
 }

@@ -10,7 +10,6 @@ use crate::item::{Given, Seen};
 use device::act::{act, read_or_zero};
 use device::{Request, Span, serve_queue};
 use guest_memory::GuestMem;
-use irq_causes::Vectors;
 use pool_filter::Own;
 use std::alloc::Global;
 use std::marker::Model;
@@ -42,12 +41,9 @@ impl<M: GuestMem> Lone<M> {
         ensures ok { IfOk result (λ l. l ≡ alone limit (length (M.bytes memory))) }
         ensures err { IfErr result (λ e. e ≡ Fault.NoMemory) }
     {
-        let Ok(unit) = VfUnit::new(alloc, memory) else {
-            return Err(Fault::NoMemory);
-        };
         Ok(Lone {
             limit,
-            unit,
+            unit: VfUnit::new(alloc, memory)?,
             settings: Own::none(),
             frame: FrameBuf::blank(),
         })
@@ -111,9 +107,11 @@ impl<M: GuestMem> Lone<M> {
         if !self.settings.may_receive() {
             return None;
         }
-        match self.unit.deliver(frame, looped) {
-            0 => None,
-            messages => Some(Seen::Interrupted(Vectors::from_bits(messages))),
+        let vectors = self.unit.deliver(frame, looped);
+        if vectors.is_empty() {
+            None
+        } else {
+            Some(Seen::Interrupted(vectors))
         }
     }
 }

@@ -42,7 +42,7 @@ pub fn lone_function<M: GuestMem, W: Write>(
     let shape = script.shape();
     let (size, limit) = (shape.memory_size, shape.limit);
     if !is_of_size(&memory, size) {
-        return Err(Fault::NoMemory);
+        return Err(Fault::from(wire_frame::Fault::BadMake));
     }
     let device = make_device(alloc, shape, memories)?;
     let mut watch = make_watch(alloc, device, pool)?;
@@ -75,13 +75,31 @@ fn perform<M: GuestMem, W: Write>(
     ensures late { IfErr result (λ e. is_late e ≡ true) }
 {
     let mut lone = make_lone(alloc, memory, limit)?;
-    let Ok(mut room) = make_room(alloc) else {
-        put_away(lone);
-        return Err(Fault::NoMemory);
-    };
-    let told = observations(watch, &mut lone, pool, script, &mut room, output, writer);
-    put_away(room);
+    let told = observe(alloc, watch, &mut lone, pool, script, output, writer);
     put_away(lone);
+    told
+}
+
+// Makes the room for the events, and gives them to the watched device and what is seen of the lone function to the output.
+fn observe<M: GuestMem, W: Write>(
+    alloc: Global,
+    watch: &mut Watch<M>,
+    lone: &mut Lone<M>,
+    pool: PoolId,
+    script: &Script,
+    output: &mut Output,
+    writer: &mut W,
+) -> Result<(), Fault>
+    requires { watch.old.pool ≡ pool }
+    ensures ok { OnOk result (Sent (W.contents writer.old) (W.contents writer.new)
+        (output.old ++ lone_text pool lone.old watch.old.world script.now.events) output.new) }
+    ensures err { OnErr result (Began (W.contents writer.old) (W.contents writer.new)
+        (output.old ++ lone_text pool lone.old watch.old.world script.now.events)) }
+    ensures late { IfErr result (λ e. is_late e ≡ true) }
+{
+    let mut room = make_room(alloc)?;
+    let told = observations(watch, lone, pool, script, &mut room, output, writer);
+    put_away(room);
     Ok(told?)
 }
 

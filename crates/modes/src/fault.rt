@@ -102,7 +102,7 @@ impl From<wire_frame::Fault> for Fault {
 
     ghost from_gives = { λ _ e. is_late e ≡ true };
 
-    // The makers of memories and devices are given what a script may ask for, so only memory can be refused.
+    // The program's makers are given what a script may ask for, and memories of that size: the host's memory is what lacks.
     fn from(_fault: wire_frame::Fault) -> Fault {
         Fault::NoMemory
     }

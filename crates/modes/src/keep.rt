@@ -37,13 +37,28 @@ pub fn keep<M: GuestMem, W: Write>(
 {
     let device = make_device(alloc, script.shape(), memories)?;
     let mut watch = make_watch(alloc, device, pool)?;
-    let Ok(mut room) = make_room(alloc) else {
-        put_away(watch);
-        return Err(Fault::NoMemory);
-    };
-    let told = items(&mut watch, script, &mut room, output, writer);
-    put_away(room);
+    let told = perform(alloc, &mut watch, script, output, writer);
     put_away(watch);
+    told
+}
+
+// Makes the room for the events, and gives them to the watched device and what they leave to the output.
+fn perform<M: GuestMem, W: Write>(
+    alloc: Global,
+    watch: &mut Watch<M>,
+    script: &Script,
+    output: &mut Output,
+    writer: &mut W,
+) -> Result<(), Fault>
+    ensures ok { OnOk result (Sent (W.contents writer.old) (W.contents writer.new)
+        (output.old ++ keep_text watch.old.pool watch.old.world script.now.events) output.new) }
+    ensures err { OnErr result (Began (W.contents writer.old) (W.contents writer.new)
+        (output.old ++ keep_text watch.old.pool watch.old.world script.now.events)) }
+    ensures late { IfErr result (λ e. is_late e ≡ true) }
+{
+    let mut room = make_room(alloc)?;
+    let told = items(watch, script, &mut room, output, writer);
+    put_away(room);
     Ok(told?)
 }
 

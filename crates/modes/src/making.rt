@@ -1,5 +1,6 @@
 //! The device that a script asks for.
-ghost use Rattle.std.specs.Prelude.{◌≡◌, true, false, length, map, replicate, IfOk, IfErr};
+ghost use Rattle.std.specs.Prelude.{◌≡◌, ◌⊎◌, true, false, length, map, replicate, IfOk, IfErr};
+ghost use Rattle.wire_frame.specs.declared.fault.Fault.{Fault as Refused};
 ghost use Rattle.device.specs.Lone.{alone};
 ghost use Rattle.script.specs.Shapes.{asked_by};
 ghost use Rattle.modes.specs.Faults.{is_late};
@@ -14,18 +15,19 @@ use std::alloc::{AllocError, Global};
 use wire_frame::{FrameLimit, PoolId};
 
 /// The device of a script's shape, over these memories. They have to be as many and as large as the shape says, which is
-/// tested: what is in a box is not known from outside. [`Fault::NoMemory`] where they are not, or the host refused the room.
+/// tested: what is in a box is not known from outside. [`BadMake`](wire_frame::Fault::BadMake) where they are not, and else
+/// [`NoMemory`](wire_frame::Fault::NoMemory) where the host refused the room.
 #[inline(never)]
 pub fn make_device<M: GuestMem>(
     alloc: Global,
     shape: Shape,
     memories: Vec<M>,
-) -> Result<Box<Device<M>>, Fault>
+) -> Result<Box<Device<M>>, wire_frame::Fault>
     ensures ok { IfOk result (λ d. d.value ≡ device_of (asked_by shape)) }
-    ensures err { IfErr result (λ e. is_late e ≡ true) }
+    ensures err { IfErr result (λ e. (e ≡ Refused.BadMake) ⊎ (e ≡ Refused.NoMemory)) }
 {
     if !are_of_size(memories.as_slice(), shape.functions, shape.memory_size) {
-        return Err(Fault::NoMemory);
+        return Err(wire_frame::Fault::BadMake);
     }
     let device = Device::with_limit(alloc, memories, shape.limit.get())?;
     Ok(Box::new(alloc, device)?)

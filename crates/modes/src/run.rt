@@ -46,38 +46,36 @@ pub fn run<M: GuestMem, W: Write>(
 {
     let shape = script.shape();
     let mut device = make_device(alloc, shape, memories)?;
-    let Ok(mut room) = make_room(alloc) else {
-        put_away(device);
-        return Err(Fault::NoMemory);
-    };
-    let told = perform(&mut device, script, &mut room, output, writer);
-    put_away(room);
+    let told = perform(alloc, &mut device, script, output, writer);
     match told {
         Ok(()) => Ok(device),
         Err(fault) => {
             put_away(device);
-            Err(Fault::from(fault))
+            Err(fault)
         }
     }
 }
 
 // Gives the lines of the answers to the output, and then those of the frames that went to the wire.
 fn perform<M: GuestMem, W: Write>(
+    alloc: Global,
     device: &mut Device<M>,
     script: &Script,
-    room: &mut Room,
     output: &mut Output,
     writer: &mut W,
-) -> Result<(), transcript::Fault>
+) -> Result<(), Fault>
     ensures ok { OnOk result (Sent (W.contents writer.old) (W.contents writer.new)
         (output.old ++ run_text device.old script.now.events) output.new) }
     ensures err { OnErr result (Began (W.contents writer.old) (W.contents writer.new)
         (output.old ++ run_text device.old script.now.events)) }
     ensures world { OnOk result (device.new ≡ world_after device.old script.now.events) }
+    ensures late { IfErr result (λ e. is_late e ≡ true) }
 {
-    answers(device, script, room, output, writer)?;
-    frames(device, output, writer)?;
-    Ok(())
+    let mut room = make_room(alloc)?;
+    let told = answers(device, script, &mut room, output, writer);
+    put_away(room);
+    told?;
+    Ok(frames(device, output, writer)?)
 }
 
 // Gives the events to the device, and the lines of its answers to the output.

@@ -1,6 +1,9 @@
 -- A pool's own addresses and ids are those that it has, in lists that strictly rise.
-use Rattle.std.proofs.Common.{arith, map, ◌&&◌, ◌||◌, ◌≡◌, ℕ, zero, suc, ◌+◌, ◌/◌, ◌%◌, get_or, replicate, Bool, true, false, List, [], ◌∷◌, refl, ap, ◌∙◌, eqb}
-use Rattle.std.proofs.lemmas.Bool.Decides.{nat_tests}
+use Rattle.std.proofs.Common.{arith, map, ◌&&◌, ◌||◌, ◌≡◌, ℕ, zero, suc, ◌+◌, ◌/◌, ◌%◌, get_or, replicate, Bool, true, false, List, [], ◌∷◌, refl, ap, subst, ◌∙◌, eqb}
+use Rattle.std.proofs.lemmas.Bool.Decides.{nat_tests, Decides-and, Decides-like, Decides-eqb}
+use Rattle.std.specs.Bool.{Decides}
+use Rattle.std.specs.Cmp.{booleans_Decides}
+use Rattle.std.specs.Cmp.Lexicographic.{bytes_decides}
 use Rattle.std.specs.List.{list_any, range_with_len, filter}
 use Rattle.std.specs.List.Sorted.{IsStrictlyIncreasing}
 use Rattle.wire_frame.specs.Bits.{has_bit, has_bit_in}
@@ -8,7 +11,7 @@ use Rattle.wire_frame.proofs.BitLemmas.{has_bit_zero}
 use Rattle.addr_tables.specs.Addresses.{initial_addresses, has_address, entry_address, entry_has_pool as address_has_pool}
 use Rattle.vlan_table.specs.Vlans.{initial_vlans, has_vlan, is_in_entries, entry_id, entry_has_pool as vlan_has_pool}
 use Rattle.pool_filter.specs.Settings.{Settings, initial_settings}
-use Rattle.pool_filter.specs.Own.{OwnSettings, own, contains, rising, addresses_of, vlan_ids_of, no_settings, SaysSame}
+use Rattle.pool_filter.specs.Own.{OwnSettings, own, contains, rising, addresses_of, vlan_ids_of, no_settings, same_settings, SaysSame}
 use Rattle.pool_filter.proofs.RisingLemmas.{contains-rising, IsRising-rising, IsStrictlyIncreasing-from_rising, equal_from_same_set}
 
 contains-map-filter : (f : ℕ → ℕ) (t : ℕ → Bool) (q : ℕ) (xs : List ℕ) → contains (map f (filter t xs)) q ≡ list_any (λ x. t x && eqb (f x) q) xs
@@ -79,6 +82,34 @@ same_are_equal s t p q same = λ i. record {
   checks_vlan = same.checks_vlan i;
   port_vlan = same.port_vlan i;
 }
+
+-- the fields, one by one
+abbrev AreEqual : OwnSettings → OwnSettings → Type 0
+AreEqual o n = (o.addresses ≡ n.addresses) × ((o.vlan_ids ≡ n.vlan_ids) × ((o.takes_untagged ≡ n.takes_untagged) × ((o.may_receive ≡ n.may_receive)
+    × ((o.may_transmit ≡ n.may_transmit) × ((o.checks_address ≡ n.checks_address) × ((o.checks_vlan ≡ n.checks_vlan) × (o.port_vlan ≡ n.port_vlan)))))))
+
+fields_decide : (o n : OwnSettings) → Decides (same_settings o n) (AreEqual o n)
+fields_decide o n =
+    Decides-and _ _ (bytes_decides o.addresses n.addresses) (Decides-and _ _ (bytes_decides o.vlan_ids n.vlan_ids)
+    (Decides-and _ _ (booleans_Decides o.takes_untagged n.takes_untagged) (Decides-and _ _ (booleans_Decides o.may_receive n.may_receive)
+    (Decides-and _ _ (booleans_Decides o.may_transmit n.may_transmit) (Decides-and _ _ (booleans_Decides o.checks_address n.checks_address)
+    (Decides-and _ _ (booleans_Decides o.checks_vlan n.checks_vlan) (Decides-eqb o.port_vlan n.port_vlan)))))))
+
+-- the test finds no difference exactly where there is none
+pub same_settings_decides : (o n : OwnSettings) → Decides (same_settings o n) (o ≡ n)
+same_settings_decides o n =
+    Decides-like (same_settings o n)
+    (λ h i. record {
+      addresses = h.0 i;
+      vlan_ids = h.1.0 i;
+      takes_untagged = h.1.1.0 i;
+      may_receive = h.1.1.1.0 i;
+      may_transmit = h.1.1.1.1.0 i;
+      checks_address = h.1.1.1.1.1.0 i;
+      checks_vlan = h.1.1.1.1.1.1.0 i;
+      port_vlan = h.1.1.1.1.1.1.1 i;
+    })
+    (λ e. subst (AreEqual o) e (refl, (refl, (refl, (refl, (refl, (refl, (refl, refl)))))))) (fields_decide o n)
 
 -- ---- a device as it is made
 

@@ -3,7 +3,6 @@ pub mod Flags
 pub mod Map
 pub mod Own
 pub mod Registers
-pub mod Same
 pub mod Settings
 pub use Rattle.wire_frame.specs.Bits
 pub use Rattle.wire_frame.specs.Row

@@ -1,5 +1,6 @@
 -- What of the settings is a pool's own.
-use Rattle.std.specs.Prelude.{◌≡◌, ℕ, ◌+◌, ◌/◌, ◌%◌, ◌^◌, Bool, true, false, not, ◌&&◌, List, [], ◌∷◌, map, ◌==◌, nat_lt, slice_index, if◌then◌else◌}
+use Rattle.std.specs.Prelude.{◌≡◌, ℕ, ◌+◌, ◌/◌, ◌%◌, ◌^◌, Bool, false, ◌&&◌, List, [], ◌∷◌, map, ◌==◌, nat_lt, bytes_eq, slice_index, if◌then◌else◌}
+use Rattle.std.specs.Bool.{beq}
 use Rattle.std.specs.List.{list_any, range_with_len, filter}
 use Rattle.wire_frame.specs.declared.vlan.PortVlan.{PortVlan}
 use Rattle.wire_frame.specs.declared.vlan.PortVlan.TheVariants.{Descriptor, Always, Never}
@@ -87,16 +88,7 @@ pub record SaysSame (o n : OwnSettings) : Type 0 where
 
 -- ---- the test of that
 
-abbrev pub same_bool : Bool → Bool → Bool
-same_bool true b = b
-same_bool false b = not b
-
-abbrev pub same_numbers : List ℕ → List ℕ → Bool
-same_numbers [] [] = true
-same_numbers (x ∷ xs) (y ∷ ys) = (x == y) && same_numbers xs ys
-same_numbers _ _ = false
-
 abbrev pub same_settings : OwnSettings → OwnSettings → Bool
-same_settings o n = same_numbers o.addresses n.addresses && (same_numbers o.vlan_ids n.vlan_ids
-    && (same_bool o.takes_untagged n.takes_untagged && (same_bool o.may_receive n.may_receive && (same_bool o.may_transmit n.may_transmit
-    && (same_bool o.checks_address n.checks_address && (same_bool o.checks_vlan n.checks_vlan && (o.port_vlan == n.port_vlan)))))))
+same_settings o n = bytes_eq o.addresses n.addresses && (bytes_eq o.vlan_ids n.vlan_ids
+    && (beq o.takes_untagged n.takes_untagged && (beq o.may_receive n.may_receive && (beq o.may_transmit n.may_transmit
+    && (beq o.checks_address n.checks_address && (beq o.checks_vlan n.checks_vlan && (o.port_vlan == n.port_vlan)))))))

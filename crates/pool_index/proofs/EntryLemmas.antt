@@ -13,9 +13,9 @@ use Rattle.std.proofs.lemmas.Map.Keys.{IsDistinct-push}
 use Rattle.std.proofs.lemmas.Map.Made.{length-le_from_is_member}
 use Rattle.wire_frame.specs.Bits.{has_bit}
 use Rattle.wire_frame.proofs.BitLemmas.{has_bit_zero, joined_more, list_any-range_more}
-use Rattle.pool_index.specs.declared.index.Known.{Known}
+use Rattle.pool_index.specs.declared.index.Entry.{Entry}
 use Rattle.pool_index.specs.Index.{kept_pools, Rises}
-use Rattle.pool_index.specs.Entries.{Entries, is_held, is_given, IsAnswer, IsIndexOf}
+use Rattle.pool_index.specs.Entries.{Entries, SaySame, is_held, is_given, IsAnswer, IsIndexOf}
 use Rattle.pool_index.proofs.IndexLemmas.{Changed}
 
 -- ---- no entry passes
@@ -43,54 +43,44 @@ between_true true true c is = is
 between_true true false c is = refl
 between_true false b c is = absurd (true≢false (sym is))
 
--- entry n, where it is valid, has the pools of these bits
-module _ (found : Option ℕ) (n : ℕ) (t : Entries) (key : ℕ) (bits : ℕ → Bool) (has : (p : ℕ) → t.has_pool p n ≡ (t.is_valid n && bits p)) (so_far : IsAnswer found n t key) where
-  given : (p : ℕ) → (t.has_pool p n && eqb (t.key n) key) ≡ ((t.is_valid n && bits p) && eqb (t.key n) key)
-  given p = ap (λ b. b && eqb (t.key n) key) (has p)
-
-  -- it does not hold the key
+module _ (found : Option ℕ) (n : ℕ) (t : Entries) (key : ℕ) (so_far : IsAnswer found n t key) where
+  -- entry n does not hold the key
   pub answer_same : (t.is_valid n && eqb (t.key n) key) ≡ false → IsAnswer found (n + 1) t key
   unfolding is_held is_given
   answer_same not_held = (
     so_far.0 ∙ skipped (λ e. t.is_valid e && eqb (t.key e) key) n not_held,
-    λ p h. so_far.1 p h ∙ skipped (λ e. t.has_pool p e && eqb (t.key e) key) n (given p ∙ between_false (t.is_valid n) (bits p) (eqb (t.key n) key) not_held),
+    λ p h. so_far.1 p h ∙ skipped (λ e. (t.is_valid e && t.has_pool p e) && eqb (t.key e) key) n (between_false (t.is_valid n) (t.has_pool p n) (eqb (t.key n) key) not_held),
   )
 
   -- it holds the key, and its pools join the mask
-  pub answer_more : (pools : ℕ) → ((p : ℕ) → p < 64 → has_bit pools p ≡ bits p) → (t.is_valid n && eqb (t.key n) key) ≡ true → IsAnswer (Some (bit_or (unwrap_or found 0) pools)) (n + 1) t key
+  pub answer_more : (pools : ℕ) → ((p : ℕ) → p < 64 → has_bit pools p ≡ t.has_pool p n) → (t.is_valid n && eqb (t.key n) key) ≡ true → IsAnswer (Some (bit_or (unwrap_or found 0) pools)) (n + 1) t key
   unfolding is_held is_given
   answer_more pools mask held = (
     sym (list_any-range_more (λ e. t.is_valid e && eqb (t.key e) key) n ∙ ap (λ b. list_any (λ e. t.is_valid e && eqb (t.key e) key) (range_with_len 0 n) || b) held ∙ or-true _),
-    λ p h. joined_more (λ e. t.has_pool p e && eqb (t.key e) key) (unwrap_or found 0) pools p n (so_far.1 p h) (mask p h ∙ sym (given p ∙ between_true (t.is_valid n) (bits p) (eqb (t.key n) key) held)),
+    λ p h. joined_more (λ e. (t.is_valid e && t.has_pool p e) && eqb (t.key e) key) (unwrap_or found 0) pools p n (so_far.1 p h) (mask p h ∙ sym (between_true (t.is_valid n) (t.has_pool p n) (eqb (t.key n) key) held)),
   )
 
 -- ---- a table in which no entry is valid
 
-pub nothing_held : (n : ℕ) (t : Entries) → ((e : ℕ) → t.is_valid e ≡ false) → ((p e : ℕ) → t.has_pool p e ≡ false) → IsIndexOf [] n t
+pub nothing_held : (n : ℕ) (t : Entries) → ((e : ℕ) → t.is_valid e ≡ false) → IsIndexOf [] n t
 unfolding kept_pools is_held is_given
-nothing_held n t invalid poolless = (
+nothing_held n t invalid = (
   tt,
   λ key. (
     sym (none_passes (λ e. t.is_valid e && eqb (t.key e) key) 0 n (λ e h. ap (λ b. b && eqb (t.key e) key) (invalid e))),
-    λ p h. has_bit_zero p ∙ sym (none_passes (λ e. t.has_pool p e && eqb (t.key e) key) 0 n (λ e l. ap (λ b. b && eqb (t.key e) key) (poolless p e))),
+    λ p h. has_bit_zero p ∙ sym (none_passes (λ e. (t.is_valid e && t.has_pool p e) && eqb (t.key e) key) 0 n (λ e l. ap (λ b. (b && t.has_pool p e) && eqb (t.key e) key) (invalid e))),
   ),
 )
 
 -- ---- a write to one entry
 
--- two tables say the same of an entry
-pub record SaySame (a b : Entries) (e : ℕ) : Type 0 where
-  pub valid : a.is_valid e ≡ b.is_valid e
-  pub keys : a.key e ≡ b.key e
-  pub pools : (p : ℕ) → a.has_pool p e ≡ b.has_pool p e
-
-pub index_stays : (ks : List Known) (n : ℕ) (a b : Entries) → ((e : ℕ) → SaySame a b e) → IsIndexOf ks n a → IsIndexOf ks n b
+pub index_stays : (ks : List Entry) (n : ℕ) (a b : Entries) → ((e : ℕ) → SaySame a b e) → IsIndexOf ks n a → IsIndexOf ks n b
 unfolding is_held is_given
 index_stays ks n a b same says = (
   says.0,
   λ key. (
     (says.1 key).0 ∙ ap (λ t. list_any t (range_with_len 0 n)) (λ i e. (same e).valid i && eqb ((same e).keys i) key),
-    λ p h. (says.1 key).1 p h ∙ ap (λ t. list_any t (range_with_len 0 n)) (λ i e. (same e).pools p i && eqb ((same e).keys i) key),
+    λ p h. (says.1 key).1 p h ∙ ap (λ t. list_any t (range_with_len 0 n)) (λ i e. ((same e).valid i && (same e).pools p i) && eqb ((same e).keys i) key),
   ),
 )
 
@@ -111,28 +101,28 @@ module _ (a b : Entries) (e : ℕ) (others : (x : ℕ) → x ≢ e → SaySame a
   unfolding is_held is_given
   answer_stays found n key before after says = (
     says.0 ∙ ap (λ t. list_any t (range_with_len 0 n)) (λ i x. neither key before after a.is_valid b.is_valid (λ y other. (others y other).valid) x i),
-    λ p h. says.1 p h ∙ ap (λ t. list_any t (range_with_len 0 n)) (λ i x. neither key before after (a.has_pool p) (b.has_pool p) (λ y other. (others y other).pools p) x i),
+    λ p h. says.1 p h ∙ ap (λ t. list_any t (range_with_len 0 n)) (λ i x. neither key before after (λ y. a.is_valid y && a.has_pool p y) (λ y. b.is_valid y && b.has_pool p y) (λ y other j. (others y other).valid j && (others y other).pools p j) x i),
   )
 
 -- ---- there is room for every key that an entry holds
 
-abbrev keys_of : List Known → List ℕ
+abbrev keys_of : List Entry → List ℕ
 keys_of ks = map (λ k. k.key) ks
 
 -- every kept key, but for this one, is held
-abbrev pub KeptAreHeld : List Known → ℕ → Entries → ℕ → Type 0
+abbrev pub KeptAreHeld : List Entry → ℕ → Entries → ℕ → Type 0
 KeptAreHeld ks n t key = (k : ℕ) → k ≢ key → is_some (kept_pools ks k) ≡ true → is_held n t k ≡ true
 
-rises_apart : (x low : ℕ) (ks : List Known) → Rises low ks → x < low → AllByRecursion (λ y. eqb x y ≡ false) (keys_of ks)
+rises_apart : (x low : ℕ) (ks : List Entry) → Rises low ks → x < low → AllByRecursion (λ y. eqb x y ≡ false) (keys_of ks)
 rises_apart x low [] r h = tt
 rises_apart x low (k ∷ ks) r h = (grind (arith, nat_tests, r.0, h), rises_apart x (k.key + 1) ks r.1 (omega (arith, r.0, h)))
 
-rises_distinct : (low : ℕ) (ks : List Known) → Rises low ks → IsDistinct eqb (keys_of ks)
+rises_distinct : (low : ℕ) (ks : List Entry) → Rises low ks → IsDistinct eqb (keys_of ks)
 unfolding IsDistinct
 rises_distinct low [] r = tt
 rises_distinct low (k ∷ ks) r = (rises_apart k.key (k.key + 1) ks r.1 (omega arith), rises_distinct (k.key + 1) ks r.1)
 
-member_kept : (ks : List Known) (q : ℕ) → list_any (eqb q) (keys_of ks) ≡ true → is_some (kept_pools ks q) ≡ true
+member_kept : (ks : List Entry) (q : ℕ) → list_any (eqb q) (keys_of ks) ≡ true → is_some (kept_pools ks q) ≡ true
 unfolding kept_pools
 member_kept [] q e = absurd (true≢false (sym e))
 member_kept (k ∷ ks) q e = go (eqb k.key q) refl (member_kept ks q)
@@ -144,7 +134,7 @@ member_kept (k ∷ ks) q e = go (eqb k.key q) refl (member_kept ks q)
         let later : list_any (eqb q) (keys_of ks) ≡ true = (rw other at e) in
         rw is (rest later)
 
-not_member : (ks : List Known) (key : ℕ) → kept_pools ks key ≡ None → list_any (eqb key) (keys_of ks) ≡ false
+not_member : (ks : List Entry) (key : ℕ) → kept_pools ks key ≡ None → list_any (eqb key) (keys_of ks) ≡ false
 not_member ks key none = go (list_any (eqb key) (keys_of ks)) refl
   where
     go : (b : Bool) → list_any (eqb key) (keys_of ks) ≡ b → list_any (eqb key) (keys_of ks) ≡ false
@@ -163,7 +153,7 @@ held_member t q (e ∷ es) held = go (eqb (t.key e) q) refl (held_member t q es)
         rw (rest later) (or-true (eqb q (t.key e)))
 
 -- as many keys as are kept, and one more, have an entry each
-pub room : (ks : List Known) (n : ℕ) (t : Entries) (key : ℕ) → Rises 0 ks → KeptAreHeld ks n t key → is_held n t key ≡ true → kept_pools ks key ≡ None → length ks < n
+pub room : (ks : List Entry) (n : ℕ) (t : Entries) (key : ℕ) → Rises 0 ks → KeptAreHeld ks n t key → is_held n t key ≡ true → kept_pools ks key ≡ None → length ks < n
 unfolding is_held
 room ks n t key rises kept held none =
     let distinct : IsDistinct eqb (keys_of ks ++ key ∷ []) = IsDistinct-push nat_eq_equiv (keys_of ks) key (rises_distinct 0 ks rises) (not_member ks key none) in
@@ -190,7 +180,7 @@ all_pass t u (e ∷ es) implies some = go (t e) refl (all_pass t u es implies)
     go false is rest = rw (rest (rw is at some)) (or-true (u e))
 
 -- the key that was changed is answered for, and the others are as they were
-one_changed : (n : ℕ) (t : Entries) (old new : List Known) (key : ℕ) (found : Option ℕ) → Changed key found old new → IsAnswer found n t key → (k : ℕ) → (key ≢ k → IsAnswer (kept_pools old k) n t k) → IsAnswer (kept_pools new k) n t k
+one_changed : (n : ℕ) (t : Entries) (old new : List Entry) (key : ℕ) (found : Option ℕ) → Changed key found old new → IsAnswer found n t key → (k : ℕ) → (key ≢ k → IsAnswer (kept_pools old k) n t k) → IsAnswer (kept_pools new k) n t k
 one_changed n t old new key found changed answer k others = go (eqb key k) refl
   where
     go : (b : Bool) → eqb key k ≡ b → IsAnswer (kept_pools new k) n t k
@@ -202,7 +192,7 @@ one_changed n t old new key found changed answer k others = go (eqb key k) refl
         rw there (others (eqb-false key k is))
 
 -- entry e held `former` and holds `now`, and the others say what they said
-module _ (a b : Entries) (e former now : ℕ) (was : former ≡ a.key e) (is : now ≡ b.key e) (others : (x : ℕ) → x ≢ e → SaySame a b x) (ks : List Known) (n : ℕ) (says : IsIndexOf ks n a) where
+module _ (a b : Entries) (e former now : ℕ) (was : former ≡ a.key e) (is : now ≡ b.key e) (others : (x : ℕ) → x ≢ e → SaySame a b x) (ks : List Entry) (n : ℕ) (says : IsIndexOf ks n a) where
   first_kept : KeptAreHeld ks n b former
   unfolding is_held
   first_kept k differ kept =
@@ -218,7 +208,7 @@ module _ (a b : Entries) (e former now : ℕ) (was : former ≡ a.key e) (is : n
   pub first_room : (found : Option ℕ) → IsAnswer found n b former → is_some found ≡ true → kept_pools ks former ≡ None → length ks < n
   first_room found answer some none = room ks n b former says.0 first_kept (sym answer.0 ∙ some) none
 
-  module _ (found : Option ℕ) (new : List Known) (changed : Changed former found ks new) (rises : Rises 0 new) (answer : IsAnswer found n b former) where
+  module _ (found : Option ℕ) (new : List Entry) (changed : Changed former found ks new) (rises : Rises 0 new) (answer : IsAnswer found n b former) where
     after_first : (k : ℕ) → now ≢ k → IsAnswer (kept_pools new k) n b k
     after_first k after = one_changed n b ks new former found changed answer k (λ before. answer_stays a b e others (kept_pools ks k) n k (λ same. before (was ∙ same)) (λ same. after (is ∙ same)) (says.1 k))
 
@@ -231,6 +221,6 @@ module _ (a b : Entries) (e former now : ℕ) (was : former ≡ a.key e) (is : n
     index_once same =
         (rises, λ k. one_changed n b ks new former found changed answer k (λ before. answer_stays a b e others (kept_pools ks k) n k (λ here. before (was ∙ here)) (λ here. before (sym same ∙ is ∙ here)) (says.1 k)))
 
-    pub index_twice : (found_now : Option ℕ) (last : List Known) → Changed now found_now new last → Rises 0 last → IsAnswer found_now n b now → IsIndexOf last n b
+    pub index_twice : (found_now : Option ℕ) (last : List Entry) → Changed now found_now new last → Rises 0 last → IsAnswer found_now n b now → IsIndexOf last n b
     index_twice found_now last changed_now rises_now answer_now =
         (rises_now, λ k. one_changed n b new last now found_now changed_now answer_now k (after_first k))

@@ -6,40 +6,40 @@ use Rattle.std.proofs.Math.Seq.{take-append_seam}
 use Rattle.std.proofs.lemmas.Bool.{cases_lt, eq-eqb}
 use Rattle.std.proofs.lemmas.Bool.Decides.{nat_tests}
 use Rattle.std.proofs.Math.Nat.{pow-suc}
-use Rattle.pool_index.specs.declared.index.Known.{Known}
+use Rattle.pool_index.specs.declared.index.Entry.{Entry}
 use Rattle.pool_index.specs.Index.{kept_pools, Rises, IsGap}
 
 -- ---- keys that rise
 
-rises_low : (low : ℕ) (ks : List Known) → Rises low ks → (i : ℕ) (d : Known) → i < length ks → low ≤ (get_or ks i d).key
+rises_low : (low : ℕ) (ks : List Entry) → Rises low ks → (i : ℕ) (d : Entry) → i < length ks → low ≤ (get_or ks i d).key
 rises_low low [] r i d h = absurd (omega arith)
 rises_low low (k ∷ ks) r zero d h = r.0
 rises_low low (k ∷ ks) r (suc i) d h = let later = rises_low (k.key + 1) ks r.1 i d (omega arith) in omega (arith, r.0, later)
 
-rises_far : (low : ℕ) (ks : List Known) → Rises low ks → (i j : ℕ) (d e : Known) → i < j → j < length ks → (get_or ks i d).key < (get_or ks j e).key
+rises_far : (low : ℕ) (ks : List Entry) → Rises low ks → (i j : ℕ) (d e : Entry) → i < j → j < length ks → (get_or ks i d).key < (get_or ks j e).key
 rises_far low [] r i j d e h l = absurd (omega arith)
 rises_far low (k ∷ ks) r i zero d e h l = absurd (omega arith)
 rises_far low (k ∷ ks) r zero (suc j) d e h l = let later = rises_low (k.key + 1) ks r.1 j e (omega arith) in omega (arith, later)
 rises_far low (k ∷ ks) r (suc i) (suc j) d e h l = rises_far (k.key + 1) ks r.1 i j d e (omega arith) (omega arith)
 
-rises_from_lower : (low from : ℕ) (ks : List Known) → low ≤ from → Rises from ks → Rises low ks
+rises_from_lower : (low from : ℕ) (ks : List Entry) → low ≤ from → Rises from ks → Rises low ks
 rises_from_lower low from [] h r = tt
 rises_from_lower low from (k ∷ ks) h r = (omega (arith, h, r.0), r.1)
 
-same_default : (ks : List Known) (i : ℕ) (d e : Known) → i < length ks → get_or ks i d ≡ get_or ks i e
+same_default : (ks : List Entry) (i : ℕ) (d e : Entry) → i < length ks → get_or ks i d ≡ get_or ks i e
 same_default [] i d e h = absurd (omega arith)
 same_default (k ∷ ks) zero d e h = refl
 same_default (k ∷ ks) (suc i) d e h = same_default ks i d e (omega arith)
 
 -- ---- a comparison with the key at a place
 
-pub all_lower : (ks : List Known) (key middle : ℕ) (d : Known) → Rises 0 ks → middle < length ks → (get_or ks middle d).key < key → (k : ℕ) (e : Known) → k < middle + 1 → (get_or ks k e).key < key
+pub all_lower : (ks : List Entry) (key middle : ℕ) (d : Entry) → Rises 0 ks → middle < length ks → (get_or ks middle d).key < key → (k : ℕ) (e : Entry) → k < middle + 1 → (get_or ks k e).key < key
 all_lower ks key middle d r h below k e l = ⊎_elim (λ before. let far = rises_far 0 ks r k middle e d before h in omega (arith, far, below)) (λ after. here (omega (arith, after, l))) (cases_lt k middle)
   where
     here : k ≡ middle → (get_or ks k e).key < key
     here same = rw (same, same_default ks middle e d h) below
 
-pub all_higher : (ks : List Known) (key middle : ℕ) (d : Known) → Rises 0 ks → middle < length ks → key < (get_or ks middle d).key → (k : ℕ) (e : Known) → middle ≤ k → k < length ks → key < (get_or ks k e).key
+pub all_higher : (ks : List Entry) (key middle : ℕ) (d : Entry) → Rises 0 ks → middle < length ks → key < (get_or ks middle d).key → (k : ℕ) (e : Entry) → middle ≤ k → k < length ks → key < (get_or ks k e).key
 all_higher ks key middle d r h above k e l m = ⊎_elim (λ before. absurd (omega (arith, before, l))) (λ after. ⊎_elim (λ later. let far = rises_far 0 ks r middle k d e later m in omega (arith, far, above)) (λ no_later. here (omega (arith, l, no_later))) (cases_lt middle k)) (cases_lt k middle)
   where
     here : k ≡ middle → key < (get_or ks k e).key
@@ -65,7 +65,7 @@ halved_more digits n width half h fits less = let power = power_halves digits n 
 
 -- ---- what is kept with a key
 
-pub kept_at : (low : ℕ) (ks : List Known) → Rises low ks → (i : ℕ) (d : Known) (key : ℕ) → i < length ks → (get_or ks i d).key ≡ key → kept_pools ks key ≡ Some (get_or ks i d).pools
+pub kept_at : (low : ℕ) (ks : List Entry) → Rises low ks → (i : ℕ) (d : Entry) (key : ℕ) → i < length ks → (get_or ks i d).key ≡ key → kept_pools ks key ≡ Some (get_or ks i d).pools
 unfolding kept_pools
 kept_at low [] r i d key h is = absurd (omega arith)
 kept_at low (k ∷ ks) r zero d key h is = let same : eqb k.key key ≡ true = eq-eqb k.key key is in rw same refl
@@ -74,10 +74,10 @@ kept_at low (k ∷ ks) r (suc i) d key h is =
     let differs : eqb k.key key ≡ false = grind (arith, nat_tests, later, is) in
     rw differs (kept_at (k.key + 1) ks r.1 i d key (omega arith) is)
 
-later_gap : (k : Known) (ks : List Known) (key i : ℕ) → IsGap (k ∷ ks) key (suc i) → IsGap ks key i
+later_gap : (k : Entry) (ks : List Entry) (key i : ℕ) → IsGap (k ∷ ks) key (suc i) → IsGap ks key i
 later_gap k ks key i gap = (omega (arith, gap.0), ((λ j d h. gap.1.0 (suc j) d (omega arith)), (λ j d h l. gap.1.1 (suc j) d (omega arith) (omega arith))))
 
-pub kept_gap : (ks : List Known) (key i : ℕ) → IsGap ks key i → kept_pools ks key ≡ None
+pub kept_gap : (ks : List Entry) (key i : ℕ) → IsGap ks key i → kept_pools ks key ≡ None
 unfolding kept_pools
 kept_gap [] key i gap = refl
 kept_gap (k ∷ ks) key zero gap =
@@ -90,7 +90,7 @@ kept_gap (k ∷ ks) key (suc i) gap =
     rw differs (kept_gap ks key i (later_gap k ks key i gap))
 
 -- a key below all that are kept is not kept
-kept_below : (low : ℕ) (ks : List Known) (key : ℕ) → Rises low ks → key < low → kept_pools ks key ≡ None
+kept_below : (low : ℕ) (ks : List Entry) (key : ℕ) → Rises low ks → key < low → kept_pools ks key ≡ None
 unfolding kept_pools
 kept_below low [] key r h = refl
 kept_below low (k ∷ ks) key r h =
@@ -100,10 +100,10 @@ kept_below low (k ∷ ks) key r h =
 -- ---- one key changes
 
 -- one key is kept with other pools, or no more, and the others stay
-abbrev pub Changed : ℕ → Option ℕ → List Known → List Known → Type 0
+abbrev pub Changed : ℕ → Option ℕ → List Entry → List Entry → Type 0
 Changed key found old new = (k : ℕ) → kept_pools new k ≡ (if eqb key k then found else kept_pools old k)
 
-pub changed_at : (low : ℕ) (ks : List Known) → Rises low ks → (i : ℕ) (d n : Known) (key : ℕ) → i < length ks → (get_or ks i d).key ≡ key → n.key ≡ key → Changed key (Some n.pools) ks (slice_set ks i n)
+pub changed_at : (low : ℕ) (ks : List Entry) → Rises low ks → (i : ℕ) (d n : Entry) (key : ℕ) → i < length ks → (get_or ks i d).key ≡ key → n.key ≡ key → Changed key (Some n.pools) ks (slice_set ks i n)
 unfolding kept_pools
 changed_at low [] r i d n key h is same a = absurd (omega arith)
 changed_at low (k ∷ ks) r zero d n key h is same a = rw (is, same) (go (eqb key a) refl)
@@ -120,12 +120,12 @@ changed_at low (k ∷ ks) r (suc i) d n key h is same a = go (eqb k.key a) refl 
         rw (e, differs) refl
     go false e rest = rw e rest
 
-pub rises_at : (low : ℕ) (ks : List Known) → Rises low ks → (i : ℕ) (d n : Known) → i < length ks → (get_or ks i d).key ≡ n.key → Rises low (slice_set ks i n)
+pub rises_at : (low : ℕ) (ks : List Entry) → Rises low ks → (i : ℕ) (d n : Entry) → i < length ks → (get_or ks i d).key ≡ n.key → Rises low (slice_set ks i n)
 rises_at low [] r i d n h is = absurd (omega arith)
 rises_at low (k ∷ ks) r zero d n h is = rw (← is) r
 rises_at low (k ∷ ks) r (suc i) d n h is = (r.0, rises_at (k.key + 1) ks r.1 i d n (omega arith) is)
 
-pub changed_gap : (ks : List Known) (i : ℕ) (n : Known) → IsGap ks n.key i → Changed n.key (Some n.pools) ks (insert ks i n)
+pub changed_gap : (ks : List Entry) (i : ℕ) (n : Entry) → IsGap ks n.key i → Changed n.key (Some n.pools) ks (insert ks i n)
 unfolding kept_pools
 changed_gap ks zero n gap a = refl
 changed_gap [] (suc i) n gap a = absurd (omega (arith, gap.0))
@@ -138,13 +138,13 @@ changed_gap (k ∷ ks) (suc i) n gap a = go (eqb k.key a) refl (changed_gap ks i
         rw (e, differs) refl
     go false e rest = rw e rest
 
-pub rises_gap : (low : ℕ) (ks : List Known) → Rises low ks → (i : ℕ) (n : Known) → low ≤ n.key → IsGap ks n.key i → Rises low (insert ks i n)
+pub rises_gap : (low : ℕ) (ks : List Entry) → Rises low ks → (i : ℕ) (n : Entry) → low ≤ n.key → IsGap ks n.key i → Rises low (insert ks i n)
 rises_gap low [] r zero n h gap = (h, tt)
 rises_gap low [] r (suc i) n h gap = absurd (omega (arith, gap.0))
 rises_gap low (k ∷ ks) r zero n h gap = (h, (let first = gap.1.1 0 k (omega arith) (omega arith) in omega (arith, first), r.1))
 rises_gap low (k ∷ ks) r (suc i) n h gap = (r.0, rises_gap (k.key + 1) ks r.1 i n (let first = gap.1.0 0 k (omega arith) in omega (arith, first)) (later_gap k ks n.key i gap))
 
-pub changed_removed : (low : ℕ) (ks : List Known) → Rises low ks → (i : ℕ) (d : Known) (key : ℕ) → i < length ks → (get_or ks i d).key ≡ key → Changed key None ks (remove ks i)
+pub changed_removed : (low : ℕ) (ks : List Entry) → Rises low ks → (i : ℕ) (d : Entry) (key : ℕ) → i < length ks → (get_or ks i d).key ≡ key → Changed key None ks (remove ks i)
 unfolding kept_pools
 changed_removed low [] r i d key h is a = absurd (omega arith)
 changed_removed low (k ∷ ks) r zero d key h is a = rw is (go (eqb key a) refl)
@@ -161,13 +161,13 @@ changed_removed low (k ∷ ks) r (suc i) d key h is a = go (eqb k.key a) refl (c
         rw (e, differs) refl
     go false e rest = rw e rest
 
-pub rises_removed : (low : ℕ) (ks : List Known) → Rises low ks → (i : ℕ) → i < length ks → Rises low (remove ks i)
+pub rises_removed : (low : ℕ) (ks : List Entry) → Rises low ks → (i : ℕ) → i < length ks → Rises low (remove ks i)
 rises_removed low [] r i h = absurd (omega arith)
 rises_removed low (k ∷ ks) r zero h = rises_from_lower low (k.key + 1) ks (omega (arith, r.0)) r.1
 rises_removed low (k ∷ ks) r (suc i) h = (r.0, rises_removed (k.key + 1) ks r.1 i (omega arith))
 
 -- a key that is not kept, taken out
-pub changed_nothing : (ks : List Known) (key : ℕ) → kept_pools ks key ≡ None → Changed key None ks ks
+pub changed_nothing : (ks : List Entry) (key : ℕ) → kept_pools ks key ≡ None → Changed key None ks ks
 changed_nothing ks key none a = go (eqb key a) refl
   where
     go : (b : Bool) → eqb key a ≡ b → kept_pools ks a ≡ (if eqb key a then None else kept_pools ks a)
@@ -176,14 +176,14 @@ changed_nothing ks key none a = go (eqb key a) refl
 
 -- ---- a write through a slice
 
-abbrev pub nothing : Known
+abbrev pub nothing : Entry
 nothing = record { key = 0; pools = 0 }
 
 -- place i of the index with other pools
-abbrev pub with_pools : List Known → ℕ → ℕ → Known
+abbrev pub with_pools : List Entry → ℕ → ℕ → Entry
 with_pools ks i pools = record { key = (slice_index_or ks i nothing).key; pools = pools }
 
-pub refilled : (ks slice : List Known) → slice ≡ ks → (i pools : ℕ) → refill (length ks) ks (slice_set slice i (with_pools slice i pools)) ≡ slice_set ks i (with_pools ks i pools)
+pub refilled : (ks slice : List Entry) → slice ≡ ks → (i pools : ℕ) → refill (length ks) ks (slice_set slice i (with_pools slice i pools)) ≡ slice_set ks i (with_pools ks i pools)
 refilled ks slice is i pools =
     let new = slice_set ks i (with_pools ks i pools) in
     let same : length ks ≡ length new = sym (length-set ks i (with_pools ks i pools)) in

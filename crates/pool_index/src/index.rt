@@ -5,9 +5,9 @@ ghost use Rattle.pool_index.specs.Index.{kept_pools, pools_in, Rises, IsPlace, I
 use arrayvec::ArrayVec;
 use std::marker::Model;
 
-/// A key that is kept, and its pools.
+/// An entry of the index: a key that is kept, and its pools.
 #[derive(Clone, Copy, Debug, Default)]
-pub struct Known {
+pub struct Entry {
     /// The key.
     pub key: u64,
     /// The set of its pools, as a mask with bit p for pool p.
@@ -17,19 +17,19 @@ pub struct Known {
 /// At most `N` keys that strictly rise, each with its pools.
 #[derive(Drop)]
 pub struct PoolIndex<const N: usize> {
-    known: ArrayVec<Known, N>,
+    kept: ArrayVec<Entry, N>,
 }
 
 impl<const N: usize> Model for PoolIndex<N> {
     ghost use Rattle.std.specs.Prelude.{List};
-    ghost use Rattle.pool_index.specs.declared.index.Known.{Known};
+    ghost use Rattle.pool_index.specs.declared.index.Entry.{Entry};
     ghost use Rattle.pool_index.specs.Index.{Rises};
 
-    ghost Value = { List Known };
+    ghost Value = { List Entry };
 
-    ghost view = { λ x. x.known.items };
+    ghost view = { λ x. x.kept.items };
 
-    ghost invariant = { λ x. Rises 0 x.known.items };
+    ghost invariant = { λ x. Rises 0 x.kept.items };
 }
 
 impl<const N: usize> PoolIndex<N> {
@@ -38,7 +38,7 @@ impl<const N: usize> PoolIndex<N> {
         ensures { result ≡ [] }
     {
         PoolIndex {
-            known: ArrayVec::new(),
+            kept: ArrayVec::new(),
         }
     }
 
@@ -49,9 +49,9 @@ impl<const N: usize> PoolIndex<N> {
         ensures pools { result.0 ≡ pools_in self.now key }
         ensures few { (digits : ℕ) → N < 2 ^ digits → result.1 ≤ digits }
     {
-        let known = self.known.as_slice();
-        match find(known, key) {
-            (Ok(place), compared) => (known[place].pools, compared),
+        let kept = self.kept.as_slice();
+        match find(kept, key) {
+            (Ok(place), compared) => (kept[place].pools, compared),
             (Err(_), compared) => (0, compared),
         }
     }
@@ -65,9 +65,9 @@ impl<const N: usize> PoolIndex<N> {
         ensures rises { Rises 0 self.new }
         ensures more { length self.new ≤ length self.old + 1 }
     {
-        match find(self.known.as_slice(), key).0 {
-            Ok(place) => self.known[place].pools = pools,
-            Err(place) => self.known.insert(place, Known { key, pools }),
+        match find(self.kept.as_slice(), key).0 {
+            Ok(place) => self.kept[place].pools = pools,
+            Err(place) => self.kept.insert(place, Entry { key, pools }),
         }
     }
 
@@ -78,8 +78,8 @@ impl<const N: usize> PoolIndex<N> {
         ensures rises { Rises 0 self.new }
         ensures fewer { length self.new ≤ length self.old }
     {
-        if let Ok(place) = find(self.known.as_slice(), key).0 {
-            self.known.remove(place);
+        if let Ok(place) = find(self.kept.as_slice(), key).0 {
+            self.kept.remove(place);
         }
     }
 
@@ -100,18 +100,18 @@ impl<const N: usize> PoolIndex<N> {
 
 // The place of the key, or else the place where it would stand, and how many keys were compared with it.
 #[inline]
-fn find(known: &[Known], key: u64) -> (Result<usize, usize>, u8)
-    requires rises { Rises 0 known.now }
-    requires fits { length known.now < 2 ^ 64 }
-    ensures place { MatchResult result.0 (IsPlace known.now key) (IsGap known.now key) }
-    ensures few { (digits : ℕ) → length known.now < 2 ^ digits → result.1 ≤ digits }
+fn find(kept: &[Entry], key: u64) -> (Result<usize, usize>, u8)
+    requires rises { Rises 0 kept.now }
+    requires fits { length kept.now < 2 ^ 64 }
+    ensures place { MatchResult result.0 (IsPlace kept.now key) (IsGap kept.now key) }
+    ensures few { (digits : ℕ) → length kept.now < 2 ^ digits → result.1 ≤ digits }
 {
     let mut low = 0;
-    let mut high = known.len();
+    let mut high = kept.len();
     let mut compared = 0u8;
     while low < high {
         let middle = (low + high) / 2;
-        let here = known[middle].key;
+        let here = kept[middle].key;
         compared += 1;
         if here == key {
             return (Ok(middle), compared);

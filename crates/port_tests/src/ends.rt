@@ -1,18 +1,28 @@
 //! A port over a line by itself: the messages that it takes, and who finds its end.
 use guest_port::{GuestPort, IrqPort};
+use irq_causes::Vectors;
+use irq_line::DeviceSeat;
 use lock_support::line_of;
 use std::test::Fail;
 use std::thread;
+use wire_frame::PoolId;
+
+// Raises the vectors of a mask for the pool of that number.
+fn raise(device: &mut DeviceSeat, pool: u8, mask: u8) {
+    if let (Some(pool), Some(vectors)) = (PoolId::new(pool), Vectors::new(mask)) {
+        device.raise(pool, vectors);
+    }
+}
 
 // A message that was raised before the port was made belongs to an earlier guest, and one of another pool to its guest.
 #[test]
 fn a_port_takes_its_own_messages(rt: HostRuntime) -> Result<(), Fail> {
     let (mut device, seat) = line_of(rt.alloc(), 3)?;
-    device.raise(3, 5);
+    raise(&mut device, 3, 5);
     let (mut port, _note) = IrqPort::new(rt.alloc(), 3, seat)?;
     let before = [port.peek_irqs(), port.take_irqs()];
-    device.raise(3, 4);
-    device.raise(2, 1);
+    raise(&mut device, 3, 4);
+    raise(&mut device, 2, 1);
     let seen = [
         port.peek_irqs(),
         port.peek_irqs(),
@@ -28,7 +38,7 @@ fn a_port_takes_its_own_messages(rt: HostRuntime) -> Result<(), Fail> {
 fn a_note_finds_the_end(rt: HostRuntime) -> Result<(), Fail> {
     let (mut device, seat) = line_of(rt.alloc(), 3)?;
     let (mut port, mut note) = IrqPort::new(rt.alloc(), 3, seat)?;
-    device.raise(3, 1);
+    raise(&mut device, 3, 1);
     let before = (port.is_open(), note.ended());
     port.end();
     let after = (port.is_open(), note.ended(), note.ended());
@@ -44,7 +54,7 @@ fn a_note_finds_the_end(rt: HostRuntime) -> Result<(), Fail> {
 fn a_port_closes_once(rt: HostRuntime) -> Result<(), Fail> {
     let (mut device, seat) = line_of(rt.alloc(), 3)?;
     let (mut port, mut note) = IrqPort::new(rt.alloc(), 3, seat)?;
-    device.raise(3, 2);
+    raise(&mut device, 3, 2);
     let before = note.ended();
     let mut tokens = port.close().ok_or("no tokens")?;
     let again = (port.close().is_some(), port.is_open());
@@ -62,7 +72,7 @@ fn a_port_closes_once(rt: HostRuntime) -> Result<(), Fail> {
 fn a_port_is_dropped_by_another_thread(rt: HostRuntime) -> Result<(), Fail> {
     let (mut device, seat) = line_of(rt.alloc(), 3)?;
     let (mut port, mut note) = IrqPort::new(rt.alloc(), 3, seat)?;
-    device.raise(3, 4);
+    raise(&mut device, 3, 4);
     let before = note.ended();
     let worker = thread::spawn(&rt, move || port.take_irqs())?;
     let taken = worker.join(&rt);

@@ -219,7 +219,7 @@ static CASES: [BadCase; 32] = [
 ];
 
 #[test]
-fn bad_lines(rt: HostRuntime) -> Result<(), Fail> {
+fn bad_lines_are_refused(rt: HostRuntime) -> Result<(), Fail> {
     for case in &CASES {
         let script = long_script(rt.alloc(), case.script)?;
         let (result, written) = run(rt.alloc(), script.as_bytes());

@@ -40,7 +40,7 @@ fn check_reader(rt: &(impl Abort + AllocGlobal), mode: Mode, script: &[u8]) {
 }
 
 #[test]
-fn reader_that_fails(rt: HostRuntime) -> Result<(), Fail> {
+fn a_reader_that_fails_is_told(rt: HostRuntime) -> Result<(), Fail> {
     let script = long_script(rt.alloc(), SCRIPT)?;
     for mode in MODES {
         check_reader(&rt, mode, script.as_bytes());
@@ -51,7 +51,7 @@ fn reader_that_fails(rt: HostRuntime) -> Result<(), Fail> {
 // Readers that do less than they are asked, and what came of them: byte by byte with each call broken off first, and one whose
 // second call would fail, had the first not brought a bad line.
 #[test]
-fn readers_in_parts(rt: HostRuntime) -> Result<(), Fail> {
+fn a_reader_in_parts_is_read_whole(rt: HostRuntime) -> Result<(), Fail> {
     let script = long_script(rt.alloc(), SCRIPT)?;
     let (_, output) = run_in(rt.alloc(), Mode::Run, script.as_bytes());
     let interrupted = Parts {
@@ -100,7 +100,7 @@ fn check_writer(rt: &(impl Abort + AllocGlobal), mode: Mode, script: &[u8]) {
 }
 
 #[test]
-fn writer_that_fails(rt: HostRuntime) -> Result<(), Fail> {
+fn a_writer_that_fails_has_a_beginning(rt: HostRuntime) -> Result<(), Fail> {
     let script = long_script(rt.alloc(), SCRIPT)?;
     for mode in MODES {
         check_writer(&rt, mode, script.as_bytes());

@@ -39,7 +39,7 @@ fn check_beginning(
 }
 
 #[test]
-fn every_beginning(rt: HostRuntime) -> Result<(), Fail> {
+fn a_beginning_is_done_or_refused(rt: HostRuntime) -> Result<(), Fail> {
     let script = long_script(rt.alloc(), SCRIPT)?;
     let script = script.as_bytes();
     let (result, output) = run(rt.alloc(), script);

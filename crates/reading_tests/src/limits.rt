@@ -58,7 +58,7 @@ fn is_between(written: &[u8], begins: &str, ends: &str) -> bool {
 }
 
 #[test]
-fn limits(rt: HostRuntime) -> Result<(), Fail> {
+fn lines_and_events_are_limited(rt: HostRuntime) -> Result<(), Fail> {
     for (at, (script, told, begins, ends)) in LIMITS.iter().enumerate() {
         let script = long_script(rt.alloc(), *script)?;
         let (result, written) = run(rt.alloc(), script.as_bytes());
@@ -69,7 +69,7 @@ fn limits(rt: HostRuntime) -> Result<(), Fail> {
 }
 
 #[test]
-fn long_lines_across_reads(rt: HostRuntime) -> Result<(), Fail> {
+fn long_lines_lie_across_reads(rt: HostRuntime) -> Result<(), Fail> {
     // each line has 4,107 bytes, which divides no block
     let line = long_script(rt.alloc(), "mw 0 2048 {5a*2048}\n")?;
     let mut script = String::from_str(rt.alloc(), "vfs 1 4096\nopen 0\n")?;

@@ -10,6 +10,7 @@ use Rattle.std.proofs.lemmas.List.Elements.{All-append, All-cons, All-nil}
 use Rattle.device.specs.declared.event.Event.{Event}
 use Rattle.device.specs.World.{World, step, fresh, sizes_of, world_after}
 use Rattle.device.proofs.Shape.{step_shape}
+use Rattle.history.specs.declared.caller.Caller.{Caller}
 use Rattle.history.specs.Entries.{Entry, entry, events}
 use Rattle.recorder.specs.Callers.{may}
 use Rattle.history.proofs.ReplayLemmas.{fresh_again, leads_more}
@@ -22,7 +23,7 @@ use Rattle.recorder.specs.Made.{IsFresh}
 pub legal_none : (w : World) → Legal w [] w
 legal_none w = record { answers = refl; world = refl; allowed = All-nil (λ (call : Entry). may call.caller call.event ≡ true) }
 
-pub legal_more : (base : World) (calls : List Entry) (live : World) (c : ℕ) (e : Event) → Legal base calls live → may c e ≡ true
+pub legal_more : (base : World) (calls : List Entry) (live : World) (c : Caller) (e : Event) → Legal base calls live → may c e ≡ true
     → Legal base (calls ++ entry c e (step live e).answer ∷ []) (step live e).world
 legal_more base calls live c e l ok = let one = leads_more base calls live c e (record { answers = l.answers; world = l.world }) in record {
   answers = one.answers;

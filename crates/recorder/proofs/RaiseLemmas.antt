@@ -1,11 +1,12 @@
 -- The pools that are left to be raised, one by one.
-use Rattle.std.proofs.Common.{arith, ◌≡◌, ◌≢◌, ℕ, ◌+◌, ◌*◌, ◌%◌, ◌^◌, ◌<◌, Bool, true, false, nat_lt, eqb, eqb-true, List, refl, sym, ap, ◌∙◌, bit_and}
+use Rattle.std.proofs.Common.{arith, ◌≡◌, ◌≢◌, ℕ, ◌+◌, ◌<◌, Bool, true, false, nat_lt, eqb, eqb-true, List, refl, sym, ap, ◌∙◌}
 use Rattle.std.specs.Prelude.{slice_index}
-use Rattle.std.specs.Int.{bit_at, bit_not, w64}
+use Rattle.std.specs.Int.{bit_at}
 use Rattle.std.proofs.lemmas.Bool.{eqb-false}
 use Rattle.std.proofs.lemmas.Bool.Decides.{nat_tests}
-use Rattle.std.proofs.lemmas.Nat.Bits.{bit_at-zero, bit_at_clear_same, bit_at_clear_other}
+use Rattle.std.proofs.lemmas.Nat.Bits.{bit_at-zero}
 use Rattle.wire_frame.specs.Bits.{has_bit}
+use Rattle.wire_frame.specs.Pools.{IsLowestTaken}
 use Rattle.irq_line.specs.declared.views.Raise.{Raise}
 use Rattle.irq_line.specs.Line.{raised, bit_for}
 
@@ -29,35 +30,32 @@ done_first masks first pools is = record {
 }
 
 -- the lowest pool is raised
-pub done_more : (masks : List ℕ) (first : List Raise) (rest k : ℕ) (before after : List Raise) → k < 64 → bit_at rest k ≡ 1
-    → ((p v : ℕ) → raised p v after ≡ raised p v before + bit_for p v k (slice_index masks k))
-    → Done masks first rest before → Done masks first (bit_and rest (bit_not w64 (1 * 2 ^ k % 18446744073709551616))) after
-done_more masks first rest k before after within on more d = record {
+pub done_more : (masks : List ℕ) (first : List Raise) (rest k after : ℕ) (raises raises' : List Raise) → IsLowestTaken rest k after
+    → ((p v : ℕ) → raised p v raises' ≡ raised p v raises + bit_for p v k (slice_index masks k))
+    → Done masks first rest raises → Done masks first after raises'
+done_more masks first rest k after raises raises' t more d = record {
   left = λ p v below is. left_at p v below is (eqb k p) refl;
   done = λ p v below is. done_at p v below is (eqb k p) refl;
 }
   where
-    rest' : ℕ
-    rest' = bit_and rest (bit_not w64 (1 * 2 ^ k % 18446744073709551616))
-
-    left_at : (p v : ℕ) → p < 64 → bit_at rest' p ≡ 1 → (same : Bool) → eqb k p ≡ same → raised p v after ≡ raised p v first
+    left_at : (p v : ℕ) → p < 64 → bit_at after p ≡ 1 → (same : Bool) → eqb k p ≡ same → raised p v raises' ≡ raised p v first
     left_at p v below is true e =
         let there : k ≡ p = eqb-true k p e in
-        absurd (omega (arith, is, ap (bit_at rest') there, bit_at_clear_same w64 rest k within))
+        absurd (omega (arith, is, ap (bit_at after) there, t.gone))
     left_at p v below is false e =
         let elsewhere : k ≢ p = eqb-false k p e in
         let none : bit_for p v k (slice_index masks k) ≡ 0 = rw e refl in
-        let other = bit_at_clear_other w64 rest k within p below (λ same. elsewhere (sym same)) in
+        let other = t.others p (λ same. elsewhere (sym same)) in
         omega (arith, more p v, none, d.left p v below (sym other ∙ is))
 
-    done_at : (p v : ℕ) → p < 64 → bit_at rest' p ≡ 0 → (same : Bool) → eqb k p ≡ same → raised p v after ≡ raised p v first + bit_at (slice_index masks p) v
+    done_at : (p v : ℕ) → p < 64 → bit_at after p ≡ 0 → (same : Bool) → eqb k p ≡ same → raised p v raises' ≡ raised p v first + bit_at (slice_index masks p) v
     done_at p v below is true e =
         let there : k ≡ p = eqb-true k p e in
         let one : bit_for p v k (slice_index masks k) ≡ bit_at (slice_index masks k) v = rw e refl in
         let same : bit_at (slice_index masks k) v ≡ bit_at (slice_index masks p) v = ap (λ q. bit_at (slice_index masks q) v) there in
-        omega (arith, more p v, one, same, d.left p v below (ap (bit_at rest) (sym there) ∙ on))
+        omega (arith, more p v, one, same, d.left p v below (ap (bit_at rest) (sym there) ∙ t.there))
     done_at p v below is false e =
         let elsewhere : k ≢ p = eqb-false k p e in
         let none : bit_for p v k (slice_index masks k) ≡ 0 = rw e refl in
-        let other = bit_at_clear_other w64 rest k within p below (λ same. elsewhere (sym same)) in
+        let other = t.others p (λ same. elsewhere (sym same)) in
         omega (arith, more p v, none, d.done p v below (sym other ∙ is))

@@ -1,33 +1,34 @@
 -- Which caller may make which event.
-use Rattle.std.specs.Prelude.{ℕ, Bool, ◌||◌, ◌&&◌, ◌==◌, nat_lt}
+use Rattle.std.specs.Prelude.{ℕ, Bool, true, false, ◌==◌}
 use Rattle.device.specs.declared.event.Event.{Event}
-use Rattle.device.specs.declared.event.Event.TheVariants.{Open, End, VfRead, VfWrite, MemRead, MemWrite, Serve, Flr, PfRead, PfWrite, PfReset, Wire}
+use Rattle.device.specs.declared.event.Event.TheVariants.{VfRead, VfWrite, MemRead, MemWrite, Flr, PfRead, PfWrite, PfReset, Wire}
+use Rattle.history.specs.declared.caller.Caller.{Caller}
+use Rattle.history.specs.declared.caller.Caller.TheVariants.{Port, Driver, Pump, Service}
 
--- the callers 0 to 63 are the ports, each of its own pool
-abbrev pub is_port : ℕ → ℕ → Bool
-is_port c p = nat_lt c 64 && (c == p)
+-- a port may read and write the registers and the memory of its own pool's function, and reset it
+abbrev pub is_own : ℕ → Event → Bool
+is_own p (VfRead q offset) = p == q
+is_own p (VfWrite q offset x) = p == q
+is_own p (MemRead q at count) = p == q
+is_own p (MemWrite q at bytes) = p == q
+is_own p (Flr q) = p == q
+is_own p _ = false
 
--- caller 64 is the physical function's driver, 65 the pump of frames from the wire
-abbrev pub is_pf : ℕ → Bool
-is_pf c = c == 64
+-- the driver may read, write and reset the physical function
+abbrev pub is_of_driver : Event → Bool
+is_of_driver (PfRead offset) = true
+is_of_driver (PfWrite offset x) = true
+is_of_driver PfReset = true
+is_of_driver _ = false
 
-abbrev pub is_pump : ℕ → Bool
-is_pump c = c == 65
+-- the pump may bring frames from the wire
+abbrev pub is_frame : Event → Bool
+is_frame (Wire frame) = true
+is_frame _ = false
 
--- caller 66 is the service, which may make any event
-abbrev pub is_service : ℕ → Bool
-is_service c = c == 66
-
-abbrev pub may : ℕ → Event → Bool
-may c (Open p) = is_service c
-may c (End p) = is_service c
-may c (VfRead p offset) = is_port c p || is_service c
-may c (VfWrite p offset x) = is_port c p || is_service c
-may c (MemRead p at count) = is_port c p || is_service c
-may c (MemWrite p at bytes) = is_port c p || is_service c
-may c (Serve p q) = is_service c
-may c (Flr p) = is_port c p || is_service c
-may c (PfRead offset) = is_pf c || is_service c
-may c (PfWrite offset x) = is_pf c || is_service c
-may c PfReset = is_pf c || is_service c
-may c (Wire frame) = is_pump c || is_service c
+-- and the service may make any event
+abbrev pub may : Caller → Event → Bool
+may (Port p) e = is_own p e
+may Driver e = is_of_driver e
+may Pump e = is_frame e
+may Service e = true

@@ -4,6 +4,8 @@ use Rattle.device.specs.declared.event.Event.{Event}
 use Rattle.device.specs.declared.event.Answer.{Answer}
 use Rattle.device.specs.World.{World, step}
 use Rattle.irq_line.specs.Line.{DeviceEnd, raised}
+use Rattle.history.specs.declared.caller.Caller.{Caller}
+use Rattle.history.specs.declared.caller.Caller.TheVariants.{Port}
 use Rattle.history.specs.Entries.{Entry, entry, events}
 use Rattle.recorder.specs.Legal.{calls_of, kept_raises}
 
@@ -33,19 +35,19 @@ folded_raises p v h = raised p v h.line.raises - kept_raises p v h.kept
 
 -- a caller, and its calls, the oldest first: those that were kept, each with its event and its answer
 pub record Mine : Type 0 where
-  pub caller : ℕ
+  pub caller : Caller
   pub asked : List Entry
 
 -- how many calls it made
 abbrev pub count_of : Mine → ℕ
 count_of m = length m.asked
 
-abbrev pub unused : ℕ → Mine
+abbrev pub unused : Caller → Mine
 unused c = record { caller = c; asked = [] }
 
 -- what is left of the ports' shares stands at the places of their pools
 abbrev pub AreOfPools : List (Option Mine) → Type 0
-AreOfPools ports = (p : ℕ) (m : Mine) → slice_get ports p ≡ Some (Some m) → m.caller ≡ p
+AreOfPools ports = (p : ℕ) (m : Mine) → slice_get ports p ≡ Some (Some m) → m.caller ≡ Port p
 
 -- what is left of them, in the order of the pools
 abbrev pub left_of : List (Option Mine) → List Mine
@@ -73,7 +75,7 @@ pub record HasAsked (asked : List Event) (old new : Mine) : Type 0 where
 -- ---- what changes
 
 -- the device takes the event, and the call is kept with the answer that this gives. Its messages are raised, and no others
-pub record Keeps (old : Held) (caller : ℕ) (event : Event) (new : Held) : Type 0 where
+pub record Keeps (old : Held) (caller : Caller) (event : Event) (new : Held) : Type 0 where
   pub kept : new.kept ≡ old.kept ++ entry caller event (step old.live event).answer ∷ []
   pub live : new.live ≡ (step old.live event).world
   pub base : new.base ≡ old.base

@@ -2,6 +2,7 @@
 use Rattle.std.specs.Prelude.{◌≡◌, ℕ, ◌<◌, Bool, [], replicate, Some, slice_get, List, ◌∷◌}
 use Rattle.device.specs.World.{World, fresh, sizes_of}
 use Rattle.irq_line.specs.Line.{DeviceEnd}
+use Rattle.history.specs.declared.caller.Caller.TheVariants.{Port, Driver, Pump, Service}
 use Rattle.recorder.specs.declared.shares.Shares.{Shares}
 use Rattle.recorder.specs.Held.{Held, Mine, unused, left_of}
 
@@ -27,10 +28,10 @@ begun w cap twin line = record {
 
 -- the share of each caller, unused; those of the ports by their pools
 pub record AreUnused {L : Type 0} (shares : Shares L) : Type 0 where
-  pub pf : shares.pf ≡ unused 64
-  pub pump : shares.pump ≡ unused 65
-  pub service : shares.service ≡ unused 66
-  pub ports : (p : ℕ) → p < 64 → slice_get shares.ports.items p ≡ Some (Some (unused p))
+  pub pf : shares.pf ≡ unused Driver
+  pub pump : shares.pump ≡ unused Pump
+  pub service : shares.service ≡ unused Service
+  pub ports : (p : ℕ) → p < 64 → slice_get shares.ports.items p ≡ Some (Some (unused (Port p)))
 
 -- the shares that were not handed out
 abbrev pub left_in : {L : Type 0} → Shares L → List Mine

@@ -1,14 +1,13 @@
 //! A device, the line that its messages go to, and the calls that it took since a base.
 ghost use Rattle.std.specs.Prelude.{◌≡◌, ℕ, ◌+◌, ◌<◌, ◌≤◌, ◌^◌, [], ◌∷◌, ◌++◌, true, false, IsTrue, ◌↔◌, IfSome, IfNone, is_some, length, replicate, slice_index, sum, option_copied, ◌⊎◌};
 ghost use Rattle.std.specs.Int.{bit_at};
-ghost use Rattle.std.specs.List.{All};
 ghost use Rattle.vf_unit.specs.Unit.{bytes_at};
 ghost use Rattle.device.specs.World.{step, sent_by, world_after, answers, function_of, fresh, sizes_of};
 ghost use Rattle.device.specs.Outcome.{answer_in, left_by};
 ghost use Rattle.device.specs.Lone.{keep, lone_of, lone_seen, lone_after, seen_by};
 ghost use Rattle.device.specs.Request.{event_of};
-ghost use Rattle.irq_line.specs.Line.{raised, bit_for};
-ghost use Rattle.history.specs.Entries.{Entry, events, given};
+ghost use Rattle.irq_line.specs.Line.{raised};
+ghost use Rattle.history.specs.Entries.{events, given};
 ghost use Rattle.recorder.specs.Callers.{may};
 ghost use Rattle.recorder.specs.Legal.{Legal, calls_of, kept_raises};
 ghost use Rattle.recorder.specs.Held.{Keeps, Rebased, folded, folded_raises};
@@ -20,11 +19,11 @@ use crate::share::CALLERS;
 use device::laws::isolation;
 use device::{Answer, Device, Request, Span, Taken};
 use guest_memory::GuestMem;
-use history::History;
+use history::{Caller, History};
 use irq_causes::Messages;
 use irq_line::DeviceSeat;
 use std::marker::Model;
-use wire_frame::{FrameBuf, PoolId};
+use wire_frame::FrameBuf;
 
 // How many calls may be folded away.
 const MOST_FOLDED: u64 = 1 << 62;
@@ -85,7 +84,7 @@ impl<M: GuestMem> Journal<M> {
     #[inline]
     pub fn keep<'f>(
         &mut self,
-        caller: u8,
+        caller: Caller,
         request: Request<'_>,
         frame: &'f mut FrameBuf,
     ) -> Option<Taken<'f>>
@@ -137,7 +136,6 @@ impl<M: GuestMem> Journal<M> {
 
     /// Steps the twin through the kept calls, which are then folded away, and tells how many they are. None where there is no
     /// twin or they would be more than 2^62 with those before.
-    #[tactic(auto, using(crate::proofs::CallerLemmas::callers_below))]
     pub fn rebase(&mut self) -> Option<usize>
         ensures count { IfSome result (λ count. count ≡ length self.old.kept) }
         ensures few { IfSome result (λ count. count ≤ 65536) }
@@ -164,7 +162,6 @@ impl<M: GuestMem> Journal<M> {
     }
 
     /// How many calls each caller made, with those that were folded away.
-    #[tactic(auto, using(crate::proofs::CallerLemmas::callers_below))]
     pub fn tally(&self) -> [u64; CALLERS]
         ensures each { (c : ℕ) → c < 67
             → slice_index result c ≡ slice_index self.now.tallies c + calls_of c self.now.kept }
@@ -233,25 +230,8 @@ fn raise_all(line: &mut DeviceSeat, messages: &Messages)
         ≡ raised p v line.old.raises + bit_at (slice_index messages.now p) v }
     ensures line { line.new.line ≡ line.old.line }
 {
-    let mut rest = messages.pools();
-    while rest != 0 {
-        let pool = rest.trailing_zeros();
-        raise(line, pool as u8, messages);
-        rest &= !(1 << pool);
-    }
-}
-
-// Raises the messages that one pool got.
-#[inline]
-fn raise(line: &mut DeviceSeat, pool: u8, messages: &Messages)
-    requires { pool < 64 }
-    ensures raised { (p v : ℕ) →
-        raised p v line.new.raises
-        ≡ raised p v line.old.raises + bit_for p v pool (slice_index messages.now pool) }
-    ensures line { line.new.line ≡ line.old.line }
-{
-    if let Some(pool) = PoolId::new(pool) {
-        line.raise(pool.get(), messages.to(pool).bits());
+    for pool in messages.pools() {
+        line.raise(pool, messages.to(pool));
     }
 }
 
@@ -266,7 +246,6 @@ fn no_calls() -> [u64; CALLERS]
 
 // Adds to each caller's number the calls that it made.
 fn with_calls(tallies: &[u64; CALLERS], history: &History) -> [u64; CALLERS]
-    requires callers { All (λ (call : Entry). call.caller < 67) history.now.entries }
     requires long { length tallies.now ≡ 67 }
     requires few { history.now.cap ≤ 65536 }
     requires room { sum tallies.now ≤ 2 ^ 62 }
@@ -277,7 +256,7 @@ fn with_calls(tallies: &[u64; CALLERS], history: &History) -> [u64; CALLERS]
 {
     let mut tallies = *tallies;
     for index in 0..history.len() {
-        tallies[usize::from(history.caller(index))] += 1;
+        tallies[usize::from(history.caller(index).number())] += 1;
     }
     tallies
 }

@@ -24,6 +24,7 @@ mod recorded;
 mod share;
 mod shares;
 
+pub use history::Caller;
 pub use recorded::{Full, Recorded, Tally};
-pub use share::{CALLERS, PF, PUMP, SERVICE, Share};
+pub use share::{CALLERS, Share};
 pub use shares::Shares;

@@ -1,23 +1,16 @@
 //! A caller's right to ask a device, with its calls.
 ghost use Rattle.std.specs.Prelude.{◌≡◌, ◌%◌, ◌^◌};
 ghost use Rattle.device.specs.Request.{event_of};
-ghost use Rattle.recorder.specs.Callers.{may, is_port};
+ghost use Rattle.history.specs.Callers.{caller_number};
+ghost use Rattle.recorder.specs.Callers.{may, is_own, is_of_driver, is_frame};
 ghost use Rattle.recorder.specs.Held.{count_of};
 
 use crate::asked::Asked;
 use device::Request;
+use history::Caller;
 use std::marker::Model;
 use std::sync::ledger::{Ledger, Share as Part};
 use wire_frame::PoolId;
-
-/// The number of the caller that drives the physical function. The callers 0 to 63 are the ports of the pools.
-pub const PF: u8 = 64;
-
-/// The number of the caller that brings the frames from the wire.
-pub const PUMP: u8 = 65;
-
-/// The number of the caller that may make any event.
-pub const SERVICE: u8 = 66;
 
 /// How many callers there are.
 pub const CALLERS: usize = 67;
@@ -29,7 +22,7 @@ pub const CALLERS: usize = 67;
 /// physical function may read, write and reset that function; the pump may bring frames; the service may make any event.
 #[derive(Drop)]
 pub struct Share<L: Ledger> {
-    pub(crate) caller: u8,
+    pub(crate) caller: Caller,
     pub(crate) count: u64,
     pub(crate) part: Part<L>,
     pub(crate) asked: Asked,
@@ -49,12 +42,13 @@ impl<L: Ledger> Model for Share<L> {
 }
 
 impl<L: Ledger> Share<L> {
-    /// The number of the caller: 0 to 63 for the port of that pool, [`PF`], [`PUMP`] or [`SERVICE`].
+    /// The number of the caller: 0 to 63 for the port of that pool, 64 for the driver of the physical function, 65 for the pump,
+    /// 66 for the service.
     #[inline]
     pub fn caller(&self) -> u8
-        ensures { result ≡ self.now.caller }
+        ensures { result ≡ caller_number self.now.caller }
     {
-        self.caller
+        self.caller.number()
     }
 
     /// How many calls the caller made, modulo 2^64.
@@ -70,26 +64,48 @@ impl<L: Ledger> Share<L> {
     pub fn may(&self, request: Request<'_>) -> bool
         ensures { result ≡ may self.now.caller (event_of request.entry) }
     {
-        let caller = self.caller;
-        let is_service = caller == SERVICE;
-        match request {
-            Request::Open(_) | Request::End(_) | Request::Serve(_, _) => is_service,
-            Request::VfRead(pool, _) => is_port(caller, pool) || is_service,
-            Request::VfWrite(pool, _, _) => is_port(caller, pool) || is_service,
-            Request::MemRead(pool, _, _) => is_port(caller, pool) || is_service,
-            Request::MemWrite(pool, _, _) => is_port(caller, pool) || is_service,
-            Request::Flr(pool) => is_port(caller, pool) || is_service,
-            Request::PfRead(_) | Request::PfWrite(_, _) | Request::PfReset => caller == PF
-                || is_service,
-            Request::Wire(_) => caller == PUMP || is_service,
+        match self.caller {
+            Caller::Port(pool) => is_own(pool, request),
+            Caller::Driver => is_of_driver(request),
+            Caller::Pump => is_frame(request),
+            Caller::Service => true,
         }
     }
 }
 
-// Whether the caller is the port of the pool.
+// Whether it is an event of a pool's own function, which its port may make.
 #[inline]
-fn is_port(caller: u8, pool: u8) -> bool
-    ensures { result ≡ is_port caller pool }
+fn is_own(own: PoolId, request: Request<'_>) -> bool
+    ensures { result ≡ is_own own (event_of request.entry) }
 {
-    caller < PoolId::COUNT && caller == pool
+    match request {
+        Request::VfRead(pool, _) => own.get() == pool,
+        Request::VfWrite(pool, _, _) => own.get() == pool,
+        Request::MemRead(pool, _, _) => own.get() == pool,
+        Request::MemWrite(pool, _, _) => own.get() == pool,
+        Request::Flr(pool) => own.get() == pool,
+        _ => false,
+    }
+}
+
+// Whether it is an event of the physical function, which its driver may make.
+#[inline]
+fn is_of_driver(request: Request<'_>) -> bool
+    ensures { result ≡ is_of_driver (event_of request.entry) }
+{
+    match request {
+        Request::PfRead(_) | Request::PfWrite(_, _) | Request::PfReset => true,
+        _ => false,
+    }
+}
+
+// Whether it brings a frame from the wire.
+#[inline]
+fn is_frame(request: Request<'_>) -> bool
+    ensures { result ≡ is_frame (event_of request.entry) }
+{
+    match request {
+        Request::Wire(_) => true,
+        _ => false,
+    }
 }

@@ -1,9 +1,11 @@
 //! The shares of all callers.
 ghost use Rattle.std.specs.Prelude.{◌≡◌, ℕ, ◌+◌, ◌<◌, ◌≤◌, ◌++◌, IfSome, IfNone, IfOk, OnOk, length, Some, None, slice_get, slice_set, ◌⊎◌};
+ghost use Rattle.history.specs.declared.caller.Caller.TheVariants.{Port};
 ghost use Rattle.recorder.specs.Held.{AreOfPools, left_of, unused};
 
 use crate::asked::Asked;
-use crate::share::{PF, PUMP, SERVICE, Share};
+use crate::share::Share;
+use history::Caller;
 use std::alloc::{AllocError, Global};
 use std::sync::ledger::{Ledger, Share as Part};
 use wire_frame::PoolId;
@@ -32,11 +34,11 @@ impl<L: Ledger> Shares<L> {
     {
         let mut ports = Vec::with_capacity(alloc, usize::from(PoolId::COUNT))?;
         for pool in 0..PoolId::COUNT {
-            ports.push(Some(cut(&mut all, pool)))?;
+            ports.push(Some(cut(&mut all, port_of(pool))))?;
         }
-        let pf = cut(&mut all, PF);
-        let pump = cut(&mut all, PUMP);
-        let service = cut(&mut all, SERVICE);
+        let pf = cut(&mut all, Caller::Driver);
+        let pump = cut(&mut all, Caller::Pump);
+        let service = cut(&mut all, Caller::Service);
         Ok(together(pf, pump, service, ports))
     }
 
@@ -44,7 +46,7 @@ impl<L: Ledger> Shares<L> {
     pub fn port(&mut self, pool: u8) -> Option<Share<L>>
         ensures share { IfSome result
             (λ share. slice_get self.old.ports.items pool ≡ Some (Some share)) }
-        ensures caller { IfSome result (λ share. share.caller ≡ pool) }
+        ensures caller { IfSome result (λ share. share.caller ≡ Port pool) }
         ensures gone { IfNone result ((slice_get self.old.ports.items pool ≡ None)
             ⊎ (slice_get self.old.ports.items pool ≡ Some None)) }
         ensures ports { self.new.ports.items ≡ slice_set self.old.ports.items pool None }
@@ -91,8 +93,19 @@ fn push_left<L: Ledger>(
     Ok(())
 }
 
+// The caller that is the port of a pool.
+fn port_of(pool: u8) -> Caller
+    requires { pool < 64 }
+    ensures { result ≡ Port pool }
+{
+    match PoolId::new(pool) {
+        Some(pool) => Caller::Port(pool),
+        None => unreachable!(),
+    }
+}
+
 // A share of one part, of a caller that made no call.
-fn cut<L: Ledger>(all: &mut Part<L>, caller: u8) -> Share<L>
+fn cut<L: Ledger>(all: &mut Part<L>, caller: Caller) -> Share<L>
     requires parts { 1 ≤ all.old.parts }
     requires amount { all.old.amount ≡ 0 }
     ensures share { result ≡ unused caller }

@@ -1,4 +1,5 @@
 //! A device and a port by themselves, without memory.
+use crate::makers::raise;
 use crate::sheet::{Came, Sheet};
 use device::{Device, Event, Reply};
 use guest_memory::FlatMem;
@@ -51,7 +52,7 @@ pub fn work(made: Option<Ending>, sheet: &mut Sheet) {
     let is_open = device.step(&Event::Open(0)).reply == Reply::Done;
     let is_read = device.step(&Event::VfRead(0, 0x10)).reply == Reply::Value(0x7000_0000);
     sheet.tell("step", Came::whole(is_open && is_read));
-    line.raise(3, 6);
+    raise(&mut line, 3, 6);
     let taken = (port.peek_irqs(), port.take_irqs(), port.take_irqs());
     sheet.tell("raise and take", Came::whole(taken == (6, 6, 0)));
     let before = note.ended();

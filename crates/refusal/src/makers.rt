@@ -7,7 +7,8 @@ use device::{Answer, Device, Event, Reply};
 use device_lock::{LockedDevice, Recorded, Share};
 use guest_memory::{FlatMem, GuestMem};
 use guest_port::{GuestPort, IrqPort, Refused};
-use irq_line::make;
+use irq_causes::Vectors;
+use irq_line::{DeviceSeat, make};
 use lock_support::{answer, frame_to_3, is_scripted, line_of, locked, recorded};
 use modes::Mode;
 use modes::drive::drive;
@@ -15,8 +16,15 @@ use std::alloc::Global;
 use std::sync::Wait;
 use std::sync::ledger::{Blank, Ledger};
 use test_support::memories;
-use wire_frame::Fault;
+use wire_frame::{Fault, PoolId};
 use wire_pump::channel;
+
+/// Raises the vectors of a mask for the pool of that number.
+pub fn raise(device: &mut DeviceSeat, pool: u8, mask: u8) {
+    if let (Some(pool), Some(vectors)) = (PoolId::new(pool), Vectors::new(mask)) {
+        device.raise(pool, vectors);
+    }
+}
 
 pub fn flat_mem(alloc: Global) -> Came {
     match FlatMem::new(alloc, 4096) {
@@ -72,7 +80,7 @@ pub fn device_run(alloc: Global) -> Came {
 pub fn line(alloc: Global) -> Came {
     match make(alloc) {
         Ok((mut device, mut guests)) => {
-            device.raise(3, 5);
+            raise(&mut device, 3, 5);
             match guests.get_mut(3) {
                 Some(guest) => Came::whole((guest.peek(), guest.take(), guest.take()) == (5, 5, 0)),
                 None => Came::Wrong,
@@ -87,11 +95,11 @@ pub fn port(alloc: Global) -> Came {
     let Ok((mut device, seat)) = line_of(alloc, 3) else {
         return Came::NotTried;
     };
-    device.raise(3, 4);
+    raise(&mut device, 3, 4);
     match IrqPort::try_new(alloc, 3, seat) {
         Ok((mut port, mut note)) => {
             let before = port.take_irqs();
-            device.raise(3, 1);
+            raise(&mut device, 3, 1);
             let after = port.take_irqs();
             let is_open = !note.ended();
             drop(port);

@@ -257,6 +257,6 @@ static CASES: [Case; 15] = [
 ];
 
 #[test]
-fn accesses(rt: HostRuntime) -> Result<(), Fail> {
+fn accesses_are_answered(rt: HostRuntime) -> Result<(), Fail> {
     check(&rt, &CASES)
 }

@@ -13,6 +13,17 @@ pub fn run_in(alloc: Global, mode: Mode, script: &str) -> (Result<(), Fault>, Ve
     (result, written)
 }
 
+/// A run in a mode was done to its end, and wrote this.
+pub fn assert_written(
+    rt: &impl Abort,
+    (told, written): (Result<(), Fault>, Vec<u8>),
+    due: &str,
+    (mode, name): (Mode, &str),
+) {
+    let is_due = written.as_slice() == due.as_bytes();
+    assert_eq!(rt; (told, is_due), (Ok(()), true), "{mode:?}: {name}");
+}
+
 /// Runs each case, which has to have its output.
 pub fn check(rt: &(impl Abort + AllocGlobal), cases: &[Case]) -> Result<(), Fail> {
     for case in cases {
@@ -25,8 +36,7 @@ pub fn check(rt: &(impl Abort + AllocGlobal), cases: &[Case]) -> Result<(), Fail
 pub fn check_in(rt: &(impl Abort + AllocGlobal), mode: Mode, case: Case) -> Result<(), Fail> {
     let script = long_script(rt.alloc(), case.script)?;
     let output = long_output(rt.alloc(), case.output)?;
-    let (result, written) = run_in(rt.alloc(), mode, script.as_str());
-    let is_due = written.as_slice() == output.as_bytes();
-    assert_eq!(rt; (result, is_due), (Ok(()), true), "{mode:?}: {}", case.name);
+    let run = run_in(rt.alloc(), mode, script.as_str());
+    assert_written(rt, run, output.as_str(), (mode, case.name));
     Ok(())
 }

@@ -130,6 +130,6 @@ static CASES: [Case; 17] = [
 ];
 
 #[test]
-fn grammar(rt: HostRuntime) -> Result<(), Fail> {
+fn unusual_scripts_are_done(rt: HostRuntime) -> Result<(), Fail> {
     check(&rt, &CASES)
 }

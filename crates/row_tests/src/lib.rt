@@ -10,7 +10,7 @@ mod check;
 #[cfg(test)]
 mod grammar;
 #[cfg(test)]
-mod kinds;
+mod kinds_of_memory;
 #[cfg(test)]
 mod one_function;
 #[cfg(test)]

@@ -233,7 +233,7 @@ static CASES: [(Mode, Case); 14] = [
 ];
 
 #[test]
-fn one_function(rt: HostRuntime) -> Result<(), Fail> {
+fn a_function_is_given_its_own_alone(rt: HostRuntime) -> Result<(), Fail> {
     for (mode, case) in &CASES {
         check_in(&rt, *mode, *case)?;
     }
@@ -255,7 +255,7 @@ static REFUSED: [(Mode, &str, Fault); 8] = [
 const LAST: &str = "vfs 8 65536\nopen 7\n";
 
 #[test]
-fn no_such_function(rt: HostRuntime) {
+fn a_function_that_is_not_there_is_refused(rt: HostRuntime) {
     for (mode, script, fault) in &REFUSED {
         let (result, written) = run_in(rt.alloc(), *mode, *script);
         assert_eq!(rt; (result, written.len()), (Err(*fault), 0), "{mode:?}");

@@ -407,6 +407,6 @@ static CASES: [Case; 26] = [
 ];
 
 #[test]
-fn receiving(rt: HostRuntime) -> Result<(), Fail> {
+fn frames_from_the_wire_are_received(rt: HostRuntime) -> Result<(), Fail> {
     check(&rt, &CASES)
 }

@@ -401,6 +401,6 @@ static CASES: [Case; 28] = [
 ];
 
 #[test]
-fn sending(rt: HostRuntime) -> Result<(), Fail> {
+fn frames_of_functions_are_sent(rt: HostRuntime) -> Result<(), Fail> {
     check(&rt, &CASES)
 }

@@ -1,6 +1,8 @@
 //! The frames that went to the wire.
-use super::check::run_in;
+use super::check::{assert_written, run_in};
 use modes::Mode;
+use script_support::registers::{ENABLE, TDBAL0, TDLEN0, TDT0, TXDCTL0};
+use script_support::short::{long_script, push_writes};
 use std::alloc::Global;
 use std::test::Fail;
 
@@ -11,16 +13,18 @@ const REST: &str =
 // How many frames the script sends, one more than are kept.
 const FRAMES: u32 = 1025;
 
-// The script: function 5 is opened and sends frames of these numbers. Its ring has eight descriptors, which are written anew
-// for each eight frames.
+// A ring of eight descriptors, which stands where it says.
+const RING: u32 = 0x2000;
+
+const SENDER: [(u32, u32); 3] = [(TDBAL0, RING), (TDLEN0, 8 * 16), (TXDCTL0, ENABLE)];
+
+// The script: function 5 is opened and sends frames of these numbers. Its descriptors are written anew for each eight frames.
 fn script(alloc: Global) -> Result<String, Fail> {
-    let mut script = String::from_str(
-        alloc,
-        "vfs 8 65536\npw 0x51e0 0xff\npw 0x8110 0xff\nopen 5\nw 5 0x2000 0x2000\nw 5 0x2008 128\nw 5 0x2028 0x02000000\n",
-    )?;
+    let mut script = long_script(alloc, "vfs 8 65536\n@pools\nopen 5\n")?;
+    push_writes(&mut script, 5, &SENDER)?;
     for number in 0..FRAMES {
         if number % 8 == 0 {
-            script.push_str("mw 5 0x2000 ")?;
+            write!(script, "mw 5 0x{RING:x} ")?;
             for _ in 0..7 {
                 script.push_str("0060000000000000.3c00302900000000.")?;
             }
@@ -29,8 +33,10 @@ fn script(alloc: Global) -> Result<String, Fail> {
         let (kind, tail) = (0x1000 + number, (number + 1) % 8);
         writeln!(
             script,
-            "mw 5 0x6000 020000000004020000000099{kind:04x}.00*46\nw 5 0x2018 {tail}\nserve 5 0"
+            "mw 5 0x6000 020000000004020000000099{kind:04x}.00*46"
         )?;
+        push_writes(&mut script, 5, &[(TDT0, tail)])?;
+        writeln!(script, "serve 5 0")?;
     }
     Ok(script)
 }
@@ -56,10 +62,9 @@ fn output(alloc: Global) -> Result<String, Fail> {
 }
 
 #[test]
-fn the_last_1024_are_kept(rt: HostRuntime) -> Result<(), Fail> {
+fn the_last_1024_frames_are_written(rt: HostRuntime) -> Result<(), Fail> {
     let (script, output) = (script(rt.alloc())?, output(rt.alloc())?);
-    let (result, written) = run_in(rt.alloc(), Mode::Run, script.as_str());
-    let is_due = written.as_slice() == output.as_bytes();
-    assert_eq!(rt; (result, is_due), (Ok(()), true));
+    let run = run_in(rt.alloc(), Mode::Run, script.as_str());
+    assert_written(&rt, run, output.as_str(), (Mode::Run, "many frames"));
     Ok(())
 }

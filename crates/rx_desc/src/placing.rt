@@ -102,16 +102,75 @@ pub fn place_within<M: GuestMem>(
     if !ring.is_enabled() {
         return Placed::NoRoom;
     }
-    let (source, tag) = without_tag(config.strip_tag, frame);
-    place_data(
-        memory,
-        memory_size,
-        ring,
-        config.buffer_size,
-        source,
-        loopback,
-        tag,
-    )
+    let size = config.buffer_size;
+    let strip_tag = config.strip_tag;
+    if strip_tag {
+        return place_stripped(memory, memory_size, ring, size, strip_tag, frame, loopback);
+    }
+    place_frame(memory, memory_size, ring, size, strip_tag, frame, loopback)
+}
+
+// Places a frame where tags are stripped. It stands apart, so that other frames are placed in few instructions.
+#[inline(never)]
+fn place_stripped<M: GuestMem>(
+    memory: &mut M,
+    memory_size: u64,
+    ring: &mut Ring,
+    size: usize,
+    strip_tag: bool,
+    frame: &FrameBuf,
+    loopback: bool,
+) -> Placed
+    requires known { memory_size ≡ length (M.bytes memory.old) }
+    requires least { 1024 ≤ size }
+    requires most { size ≤ 16384 }
+    requires inside { LiesInside (length (M.bytes memory.old)) ring.old }
+    ensures placed { result
+        ≡ (deliver_pieces loopback (tag_taken strip_tag frame.now)
+        (pieces size (data_of strip_tag frame.now)) (M.bytes memory.old) ring.old).placed }
+    ensures written { M.bytes memory.new
+        ≡ (deliver_pieces loopback (tag_taken strip_tag frame.now)
+        (pieces size (data_of strip_tag frame.now)) (M.bytes memory.old) ring.old).memory }
+    ensures ring { ring.new
+        ≡ (deliver_pieces loopback (tag_taken strip_tag frame.now)
+        (pieces size (data_of strip_tag frame.now)) (M.bytes memory.old) ring.old).ring }
+    ensures size { length (M.bytes memory.new) ≡ length (M.bytes memory.old) }
+    ensures inside { LiesInside (length (M.bytes memory.new)) ring.new }
+    ensures on { IsTrue ring.new.enabled → IsTrue ring.old.enabled }
+{
+    place_frame(memory, memory_size, ring, size, strip_tag, frame, loopback)
+}
+
+// Places a frame, without its tag where tags are stripped.
+#[inline]
+fn place_frame<M: GuestMem>(
+    memory: &mut M,
+    memory_size: u64,
+    ring: &mut Ring,
+    size: usize,
+    strip_tag: bool,
+    frame: &FrameBuf,
+    loopback: bool,
+) -> Placed
+    requires known { memory_size ≡ length (M.bytes memory.old) }
+    requires least { 1024 ≤ size }
+    requires most { size ≤ 16384 }
+    requires inside { LiesInside (length (M.bytes memory.old)) ring.old }
+    ensures placed { result
+        ≡ (deliver_pieces loopback (tag_taken strip_tag frame.now)
+        (pieces size (data_of strip_tag frame.now)) (M.bytes memory.old) ring.old).placed }
+    ensures written { M.bytes memory.new
+        ≡ (deliver_pieces loopback (tag_taken strip_tag frame.now)
+        (pieces size (data_of strip_tag frame.now)) (M.bytes memory.old) ring.old).memory }
+    ensures ring { ring.new
+        ≡ (deliver_pieces loopback (tag_taken strip_tag frame.now)
+        (pieces size (data_of strip_tag frame.now)) (M.bytes memory.old) ring.old).ring }
+    ensures size { length (M.bytes memory.new) ≡ length (M.bytes memory.old) }
+    ensures inside { LiesInside (length (M.bytes memory.new)) ring.new }
+    ensures on { IsTrue ring.new.enabled → IsTrue ring.old.enabled }
+{
+    let (source, tag) = without_tag(strip_tag, frame);
+    place_data(memory, memory_size, ring, size, source, loopback, tag)
 }
 
 // The bytes of a frame that are placed, and the tag that was taken off it, where it is to be stripped and has one.

@@ -18,7 +18,7 @@ use std::io::{ErrorKind, Read};
 use std::marker::Model;
 
 // How many bytes of a script are held at a time. The longest line leaves room for more.
-const BLOCK: usize = 131_072;
+const BLOCK: usize = 65_536;
 
 /// A script that keeps to the grammar and the limits, seen as the device that it asks for, the list of its events, and how
 /// many of them come before `go`.
@@ -100,7 +100,7 @@ fn read_all<R: Read>(
     block: &mut [u8],
     room: &mut Room,
 ) -> Result<(Shape, Option<usize>, Events), Fault>
-    requires { length block.old ≡ 131072 }
+    requires { length block.old ≡ 65536 }
     ensures ok { IfOk result (λ read. IfSome (R.remaining reader.old)
         (λ text. script_of text ≡ Ok (meant read.1 read.2 (asked_by read.0)))) }
     ensures go { IfOk result (λ read. IfSome read.1 (λ before. before ≤ length read.2)) }

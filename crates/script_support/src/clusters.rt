@@ -1,7 +1,8 @@
 //! What scripts by chance are made of: blocks of lines, and clusters of blocks.
 //!
 //! A cluster is about two functions P and O and a transmit queue Q, drawn anew for each. In a line a word that begins with
-//! `$` stands for what is drawn for it, and `0xBASE+Np` for the number BASE plus N times P, and with q times Q.
+//! `$` stands for what is drawn for it, and the name of a register for its offset; `BASE+Np` stands for the number or the
+//! offset BASE plus N times P, `BASE+Nq` for that plus N times Q, and `BASE+N` for that plus N.
 //!
 //! | Word | What is drawn |
 //! |---|---|
@@ -14,6 +15,10 @@
 //! | `$pf` | a register of the physical function |
 //! | `$word` | a number of 32 bits |
 //! | any other | one of the words of its row in [`WORDS`] |
+use crate::registers::{
+    MCSTCTRL, MPSAR, MTA, PF_VT_CTL, PFDTXGSWC, PFVFLRE0, PFVFLRE1, PFVFLREC, PFVFRE, PFVFSPOOF,
+    PFVFTE, RAH, RAL, VFTA, VLNCTRL, VLVF, VLVFB, VMOLR, VMVIR,
+};
 
 /// The clusters, as the names of their blocks, each with its weight. By `swap` P and O change places; by `next` P becomes O,
 /// and O the function after it.
@@ -94,51 +99,51 @@ pub static BLOCKS: [(&str, &str); 34] = [
     // P holds an address, and functions may receive and transmit.
     (
         "address",
-        "pw 0xa200+8p 0x2\n\
-            pw 0xa204+8p 0x80000000+256p\n\
-            pw 0xa600+8p $bit\n\
-            pw 0xf000+4p $accepts\n\
-            pw 0x51e0 $pools\n\
-            pw 0x8110 $pools",
+        "pw RAL+8p 0x2\n\
+            pw RAH+8p 0x80000000+256p\n\
+            pw MPSAR+8p $bit\n\
+            pw VMOLR+4p $accepts\n\
+            pw PFVFRE $pools\n\
+            pw PFVFTE $pools",
     ),
     // The receive ring of P begins anew.
     (
         "receive_ring",
-        "w $p 0x1028 0\n\
+        "w $p RXDCTL0 0\n\
             mw $p 0x1000 $buffers\n\
-            w $p 0x1000 0x1000\n\
-            w $p 0x1008 128\n\
-            w $p 0x1010 0\n\
-            w $p 0x1014 $buffer_size\n\
-            w $p 0x1018 $tail\n\
-            w $p 0x1028 $receive_on",
+            w $p RDBAL0 0x1000\n\
+            w $p RDLEN0 128\n\
+            w $p RDH0 0\n\
+            w $p SRRCTL0 $buffer_size\n\
+            w $p RDT0 $tail\n\
+            w $p RXDCTL0 $receive_on",
     ),
     // Receive 0 and the transmit queues of P raise vectors, which are on.
     (
         "interrupts",
-        "w $p 0x120 $routes\n\
-            w $p 0x110 $vectors\n\
-            w $p 0x108 $vectors",
+        "w $p VTIVAR $routes\n\
+            w $p VTEIAC $vectors\n\
+            w $p VTEIMS $vectors",
     ),
     // P accepts frames to several, and shows each with a message.
     (
         "listens",
-        "pw 0xf000+4p 0x1b000000\n\
-            w $p 0x120 0x8180\n\
-            w $p 0x110 7\n\
-            w $p 0x108 7\n\
-            r $p 0x100",
+        "pw VMOLR+4p 0x1b000000\n\
+            w $p VTIVAR 0x8180\n\
+            w $p VTEIAC 7\n\
+            w $p VTEIMS 7\n\
+            r $p VTEICR",
     ),
     // The transmit ring Q of P begins anew.
     (
         "transmit_ring",
-        "w $p 0x2028+64q 0\n\
+        "w $p TXDCTL0+64q 0\n\
             mw $p 0x2000+2048q $sends\n\
-            w $p 0x2000+64q 0x2000+2048q\n\
-            w $p 0x2008+64q 128\n\
-            w $p 0x2010+64q 0\n\
-            w $p 0x2018+64q $tail\n\
-            w $p 0x2028+64q 0x02000000",
+            w $p TDBAL0+64q 0x2000+2048q\n\
+            w $p TDLEN0+64q 128\n\
+            w $p TDH0+64q 0\n\
+            w $p TDT0+64q $tail\n\
+            w $p TXDCTL0+64q 0x02000000",
     ),
     ("serve", "serve $p $q"),
     // P sends a frame to O, to several, or to anyone, as soon as it is served.
@@ -153,82 +158,82 @@ pub static BLOCKS: [(&str, &str); 34] = [
         "look",
         "mr $p 0x1000 $short\n\
             mr $p $buffer $short\n\
-            r $p 0x1010\n\
-            r $p 0x101c\n\
-            r $p 0x100",
+            r $p RDH0\n\
+            r $p VFGPRC\n\
+            r $p VTEICR",
     ),
-    ("loopback", "pw 0x8220 1"),
-    ("one_or_no_loopback", "pw 0x8220 $one_or_none"),
-    ("may_transmit", "pw 0x8110 0xf"),
+    ("loopback", "pw PFDTXGSWC 1"),
+    ("one_or_no_loopback", "pw PFDTXGSWC $one_or_none"),
+    ("may_transmit", "pw PFVFTE 0xf"),
     (
         "all_permitted",
-        "pw 0x51e0 0xf\n\
-            pw 0x8110 0xf",
+        "pw PFVFRE 0xf\n\
+            pw PFVFTE 0xf",
     ),
-    ("accepts", "pw 0xf000+4p $accepts"),
+    ("accepts", "pw VMOLR+4p $accepts"),
     // Two VLANs, and the pools that are in them.
     (
         "vlans",
-        "pw 0xa000 $mostly\n\
-            pw 0xf100 $first_vlan\n\
-            pw 0xf200 $pools\n\
-            pw 0xa004 $mostly\n\
-            pw 0xf104 $second_vlan\n\
-            pw 0xf208 $pools\n\
-            pw 0x5088 $vlans_filtered",
+        "pw VFTA $mostly\n\
+            pw VLVF $first_vlan\n\
+            pw VLVFB $pools\n\
+            pw VFTA+4 $mostly\n\
+            pw VLVF+4 $second_vlan\n\
+            pw VLVFB+8 $pools\n\
+            pw VLNCTRL $vlans_filtered",
     ),
-    ("no_vlans", "pw 0x5088 0"),
+    ("no_vlans", "pw VLNCTRL 0"),
     (
         "groups",
-        "pw 0x5090 $hash\n\
+        "pw MCSTCTRL $hash\n\
             pw $multicast_table $mostly",
     ),
     // A frame that nobody accepts falls to the default pool, if there is one.
     (
         "default_pool",
-        "pw 0x51b0 $default_pool\n\
+        "pw PF_VT_CTL $default_pool\n\
             wire $to_nobody\n\
             wire $to_nobody",
     ),
     // P is the default pool.
     (
         "default_is_p",
-        "pw 0x51b0 0x0+128p\n\
+        "pw PF_VT_CTL 0x0+128p\n\
             wire $to_nobody",
     ),
     (
         "no_default_pool",
-        "pw 0x51b0 0x20000000\n\
+        "pw PF_VT_CTL 0x20000000\n\
             wire $to_nobody",
     ),
     // P falls out of the pools that may receive, and comes back.
     (
         "no_receiving",
-        "pw 0x51e0 $others\n\
+        "pw PFVFRE $others\n\
             wire $to_p\n\
             mr $p 0x1000 $short\n\
-            r $p 0x101c\n\
-            pw 0x51e0 0xf\n\
+            r $p VFGPRC\n\
+            pw PFVFRE 0xf\n\
             wire $to_p",
     ),
     // P falls out of the pools that may transmit, and comes back.
     (
         "no_sending",
-        "pw 0x8110 $others\n\
+        "pw PFVFTE $others\n\
             serve $p $q\n\
             serve $p $q\n\
-            pw 0x8110 0xf\n\
+            pw PFVFTE 0xf\n\
             serve $p $q",
     ),
     ("reset", "preset"),
-    ("checks", "pw 0x8200 $checks"),
-    ("port_vlan", "pw 0x8000+4p $port_vlan"),
+    ("checks", "pw PFVFSPOOF $checks"),
+    ("port_vlan", "pw VMVIR+4p $port_vlan"),
     ("life", "$life $p"),
     (
         "causes",
-        "w $p 0x104 $vectors\n\
+        "w $p VTEICS $vectors\n\
             w $p $interrupt $vectors\n\
-            r $p 0x100",
+            r $p VTEICR",
     ),
     // Anything.
     (
@@ -290,7 +295,7 @@ pub static WORDS: [(&str, &str); 30] = [
     ),
     ("vlans_filtered", "0 0 0 0x40000000 0x40000000"),
     ("hash", "4 4 5 6 7 0 3"),
-    ("multicast_table", "0x5200 0x5200 0x5204 0x5220"),
+    ("multicast_table", "MTA MTA MTA+4 MTA+32"),
     ("default_pool", "0 0x80 0x100 0x180 0x200 0x1f80 0x20000080"),
     ("checks", "0 0xf 0xf 0xf00 0xf0f 0x203 0xffffffff"),
     ("port_vlan", "0 0x40000001 0x4000a021 0x80000000 0xc0000001"),
@@ -298,7 +303,7 @@ pub static WORDS: [(&str, &str); 30] = [
     ("short", "16 32 48 128"),
     ("buffer", "0x3000 0x3000 0x3000 0x3400 0x3800 0x3c00"),
     ("life", "open flr flr end end"),
-    ("interrupt", "0x104 0x104 0x108 0x10c 0x110 0x100"),
+    ("interrupt", "VTEICS VTEICS VTEIMS VTEIMC VTEIAC VTEICR"),
     ("one_or_none", "1 1 0"),
     ("any", "0 0 0 1 1 1 2 2 2 3 3 3 4 63 64 255"),
     ("any_queue", "0 1"),
@@ -314,35 +319,35 @@ pub static WORDS: [(&str, &str); 30] = [
     ),
     (
         "vf",
-        "0x0 0x10 0x100 0x104 0x108 0x10c 0x110 0x120 0x140 0x1000 0x1004 0x1008 0x1010 0x1014 0x1018 0x101c \
-            0x1028 0x1040 0x1044 0x1048 0x1050 0x1054 0x1058 0x1068 0x2000 0x2004 0x2008 0x2010 0x2018 \
-            0x201c 0x2028 0x2040 0x2044 0x2048 0x2050 0x2058 0x2068 0x14 0x105c 0x3ffc 0x4000 0x102 \
+        "VFCTRL VFLINKS VTEICR VTEICS VTEIMS VTEIMC VTEIAC VTIVAR VTIVAR_MISC RDBAL0 RDBAH0 RDLEN0 RDH0 \
+            SRRCTL0 RDT0 VFGPRC RXDCTL0 RDBAL1 RDBAH1 RDLEN1 RDH1 SRRCTL1 RDT1 RXDCTL1 TDBAL0 TDBAH0 \
+            TDLEN0 TDH0 TDT0 VFGPTC TXDCTL0 TDBAL1 TDBAH1 TDLEN1 TDH1 TDT1 TXDCTL1 0x14 0x105c 0x3ffc 0x4000 0x102 \
             0x20000000 0xffffffff",
     ),
 ];
 
 /// The registers of the physical function, as rows: the first offset, the step to the next one, and how many there are. The
 /// last rows are offsets that no register stands at.
-pub static PF_REGISTERS: [(u64, u64, u64); 22] = [
-    (0x600, 4, 1),
-    (0x1c0, 4, 1),
-    (0x700, 4, 2),
-    (0x5088, 4, 1),
-    (0x5090, 4, 1),
-    (0x51b0, 4, 1),
-    (0x51e0, 4, 2),
-    (0x5200, 4, 128),
-    (0x8000, 4, 64),
-    (0x8110, 4, 2),
-    (0x8200, 4, 8),
-    (0x8220, 4, 1),
-    (0xa000, 4, 128),
-    (0xa200, 8, 128),
-    (0xa204, 8, 128),
-    (0xa600, 4, 256),
-    (0xf000, 4, 64),
-    (0xf100, 4, 64),
-    (0xf200, 4, 128),
+pub static PF_REGISTERS: [(u32, u64, u64); 22] = [
+    (PFVFLRE0, 4, 1),
+    (PFVFLRE1, 4, 1),
+    (PFVFLREC, 4, 2),
+    (VLNCTRL, 4, 1),
+    (MCSTCTRL, 4, 1),
+    (PF_VT_CTL, 4, 1),
+    (PFVFRE, 4, 2),
+    (MTA, 4, 128),
+    (VMVIR, 4, 64),
+    (PFVFTE, 4, 2),
+    (PFVFSPOOF, 4, 8),
+    (PFDTXGSWC, 4, 1),
+    (VFTA, 4, 128),
+    (RAL, 8, 128),
+    (RAH, 8, 128),
+    (MPSAR, 4, 256),
+    (VMOLR, 4, 64),
+    (VLVF, 4, 64),
+    (VLVFB, 4, 128),
     (0x0, 4, 0x8000),
     (0x51b1, 1, 3),
     (0x20000, 4, 64),

@@ -1,4 +1,5 @@
-//! What tests of whole scripts share: scripts in a short form and by chance, and readers and writers that break.
+//! What tests of whole scripts share: scripts in a short form and by chance, registers by name, and readers and writers that
+//! break.
 //!
 //! It stands on the standard library alone, and asks nobody to end a process: what compares stands in the tests.
 #![tactic(auto)]
@@ -6,5 +7,6 @@
 pub mod broken;
 mod chance;
 mod clusters;
+pub mod registers;
 pub mod seeded;
 pub mod short;

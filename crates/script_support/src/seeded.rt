@@ -1,6 +1,7 @@
 //! Scripts by chance.
 use crate::chance::Chance;
 use crate::clusters::{BEGINNING, BLOCKS, CLUSTERS, PF_REGISTERS, WORDS};
+use crate::registers::offset_of;
 use std::alloc::{AllocError, Global};
 use std::test::Fail;
 
@@ -137,6 +138,15 @@ fn row(rows: &[(&'static str, &'static str)], name: &str) -> Result<&'static str
     Err(Fail::from("no such row"))
 }
 
+// The offset of a register by its name, or a number in hexadecimal digits.
+fn number_of(word: &str) -> Result<u64, Fail> {
+    if let Some(offset) = offset_of(word) {
+        return Ok(u64::from(offset));
+    }
+    let digits = word.strip_prefix("0x").ok_or("a base without 0x")?;
+    Ok(u64::from_str_radix(digits, 16)?)
+}
+
 // One of the clusters, by their weights.
 fn drawn_cluster(chance: &mut Chance) -> &'static str {
     let mut weights = 0u64;
@@ -200,22 +210,35 @@ impl Seeded {
 
     // Adds what a word stands for.
     fn word(&mut self, word: &str) -> Result<(), Fail> {
-        if let Some(name) = word.strip_prefix('$') {
-            self.drawn(name)?;
-        } else if let Some((base, term)) = word.split_once('+') {
-            let base = base.strip_prefix("0x").ok_or("a base without 0x")?;
-            let base = u64::from_str_radix(base, 16)?;
-            let (step, times) = if let Some(step) = term.strip_suffix('q') {
-                (step, self.queue)
-            } else {
-                (term.trim_end_matches('p'), self.pool)
-            };
-            let number = base.wrapping_add(step.parse::<u64>()?.wrapping_mul(times));
+        match word.strip_prefix('$') {
+            Some(name) => self.drawn(name),
+            None => self.plain(word),
+        }
+    }
+
+    // Adds a word for which nothing is drawn: the number that its terms add up to, the offset of a register, or itself.
+    fn plain(&mut self, word: &str) -> Result<(), Fail> {
+        if let Some((base, term)) = word.split_once('+') {
+            let number = number_of(base)?.wrapping_add(self.product(term)?);
             write!(self.text, "0x{number:x}")?;
+        } else if let Some(offset) = offset_of(word) {
+            write!(self.text, "0x{offset:x}")?;
         } else {
             self.text.push_str(word)?;
         }
         Ok(())
+    }
+
+    // A number, alone or times P or Q.
+    fn product(&self, term: &str) -> Result<u64, Fail> {
+        let (factor, times) = if let Some(factor) = term.strip_suffix('p') {
+            (factor, self.pool)
+        } else if let Some(factor) = term.strip_suffix('q') {
+            (factor, self.queue)
+        } else {
+            (term, 1)
+        };
+        Ok(factor.parse::<u64>()?.wrapping_mul(times))
     }
 
     // Adds what is drawn for a name.
@@ -245,9 +268,7 @@ impl Seeded {
     fn one_word(&mut self, name: &str) -> Result<(), Fail> {
         let words = row(&WORDS, name)?;
         let place = self.chance.place(words.split(' ').count());
-        let word = words.split(' ').nth(place).ok_or("an empty row")?;
-        self.text.push_str(word)?;
-        Ok(())
+        self.plain(words.split(' ').nth(place).ok_or("an empty row")?)
     }
 
     // Adds a frame to whom its name says.
@@ -336,6 +357,6 @@ impl Seeded {
     fn pf_register(&mut self) -> u64 {
         let place = self.chance.place(PF_REGISTERS.len());
         let (first, step, count) = *PF_REGISTERS.get(place).unwrap_or(&(0, 4, 1));
-        first.wrapping_add((self.chance.next() % u64::max(count, 1)).wrapping_mul(step))
+        u64::from(first).wrapping_add((self.chance.next() % u64::max(count, 1)).wrapping_mul(step))
     }
 }

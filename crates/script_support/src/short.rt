@@ -11,8 +11,39 @@
 //! | `@wrap T BUFFER` | the ring of function 3 begins anew with head 7 of 8 and tail T; the second buffer has that address |
 //!
 //! `{X*N}` stands for X, N times. An output line `A..B REPLY` stands for a line with that reply for each number.
+use crate::registers::{
+    ADVANCED, ENABLE, MPSAR, PFVFRE, PFVFTE, RAH, RAL, RDBAL0, RDH0, RDLEN0, RDT0, ROUTES, RXDCTL0,
+    SRRCTL0, TDBAL0, TDLEN0, TDT0, TXDCTL0, VALID, VTEIMS, VTIVAR,
+};
 use std::alloc::{AllocError, Global};
 use std::test::Fail;
+
+// Where the rings of a function stand.
+const RECEIVE_RING: u32 = 0x1000;
+
+const TRANSMIT_RING: u32 = 0x2000;
+
+// Pools 0 to 7 may receive and transmit.
+const POOLS: [(u32, u32); 2] = [(PFVFRE, 0xFF), (PFVFTE, 0xFF)];
+
+// A receive queue of eight descriptors, one of which is to be filled, and both messages of queue 0.
+const RECEIVER: [(u32, u32); 7] = [
+    (RDBAL0, RECEIVE_RING),
+    (RDLEN0, 8 * 16),
+    (SRRCTL0, ADVANCED | 2),
+    (RXDCTL0, ENABLE),
+    (RDT0, 1),
+    (VTIVAR, ROUTES),
+    (VTEIMS, 7),
+];
+
+// A transmit queue of eight descriptors, one of which is to be sent.
+const SENDER: [(u32, u32); 4] = [
+    (TDBAL0, TRANSMIT_RING),
+    (TDLEN0, 8 * 16),
+    (TXDCTL0, ENABLE),
+    (TDT0, 1),
+];
 
 /// A script that is done to its end, and its output.
 #[derive(Clone, Copy)]
@@ -75,15 +106,37 @@ fn push_block(script: &mut String, block: &str) -> Result<(), Fail> {
     let name = words.next().ok_or("no name")?;
     let (first, second, third) = (words.next(), words.next(), words.next());
     match (name, first, second, third) {
-        ("pools", _, _, _) => script.push_str("pw 0x51e0 0xff\npw 0x8110 0xff\n")?,
-        ("receiver", Some(pool), _, _) => push_receiver(script, pool.parse::<u32>()? % 8)?,
-        ("sender", Some(pool), Some(frame), Some(word)) => push_sender(script, pool, frame, word)?,
+        ("pools", _, _, _) => push_settings(script, &POOLS)?,
+        ("receiver", Some(pool), _, _) => push_receiver(script, pool.parse()?)?,
+        ("sender", Some(pool), Some(frame), Some(word)) => {
+            push_sender(script, pool.parse()?, frame, word)?;
+        }
         ("send", Some(pool), Some(frame), Some(word)) => {
-            push_sender(script, pool, frame, word)?;
+            push_sender(script, pool.parse()?, frame, word)?;
             writeln!(script, "serve {pool} 0")?;
         }
-        ("wrap", Some(tail), Some(buffer), _) => push_wrap(script, tail, buffer)?,
+        ("wrap", Some(tail), Some(buffer), _) => push_wrap(script, tail.parse()?, buffer)?,
         _ => return Err(Fail::from("no such block")),
+    }
+    Ok(())
+}
+
+/// Writes of registers of the physical function.
+pub fn push_settings(script: &mut String, settings: &[(u32, u32)]) -> Result<(), AllocError> {
+    for (offset, value) in settings {
+        writeln!(script, "pw 0x{offset:x} 0x{value:x}")?;
+    }
+    Ok(())
+}
+
+/// Writes of registers of a function.
+pub fn push_writes(
+    script: &mut String,
+    function: u32,
+    registers: &[(u32, u32)],
+) -> Result<(), AllocError> {
+    for (offset, value) in registers {
+        writeln!(script, "w {function} 0x{offset:x} 0x{value:x}")?;
     }
     Ok(())
 }
@@ -91,39 +144,37 @@ fn push_block(script: &mut String, block: &str) -> Result<(), Fail> {
 // Opens a function, gives it its address and one receive buffer.
 fn push_receiver(script: &mut String, pool: u32) -> Result<(), AllocError> {
     let pool = pool % 8;
-    let (low, high) = (0xA200 + 8 * pool, 0xA204 + 8 * pool);
-    let (pools, end, mask) = (0xA600 + 8 * pool, 0x8000_0000 + 256 * pool, 1u32 << pool);
+    let address = [
+        (RAL + 8 * pool, 0x2),
+        (RAH + 8 * pool, VALID | pool << 8),
+        (MPSAR + 8 * pool, 1 << pool),
+    ];
     writeln!(script, "open {pool}")?;
-    writeln!(script, "pw 0x{low:x} 0x2")?;
-    writeln!(script, "pw 0x{high:x} 0x{end:x}")?;
-    writeln!(script, "pw 0x{pools:x} 0x{mask:x}")?;
-    writeln!(script, "mw {pool} 0x1000 0040000000000000")?;
-    writeln!(script, "w {pool} 0x1000 0x1000")?;
-    writeln!(script, "w {pool} 0x1008 128")?;
-    writeln!(script, "w {pool} 0x1014 0x02000002")?;
-    writeln!(script, "w {pool} 0x1028 0x02000000")?;
-    writeln!(script, "w {pool} 0x1018 1")?;
-    writeln!(script, "w {pool} 0x120 0x8180")?;
-    writeln!(script, "w {pool} 0x108 7")
+    push_settings(script, &address)?;
+    writeln!(script, "mw {pool} 0x{RECEIVE_RING:x} 0040000000000000")?;
+    push_writes(script, pool, &RECEIVER)
 }
 
 // Gives a function a frame and one transmit descriptor.
-fn push_sender(script: &mut String, pool: &str, frame: &str, word: &str) -> Result<(), AllocError> {
+fn push_sender(script: &mut String, pool: u32, frame: &str, word: &str) -> Result<(), AllocError> {
     writeln!(script, "mw {pool} 0x6000 {frame}")?;
-    writeln!(script, "mw {pool} 0x2000 0060000000000000.{word}")?;
-    writeln!(script, "w {pool} 0x2000 0x2000")?;
-    writeln!(script, "w {pool} 0x2008 128")?;
-    writeln!(script, "w {pool} 0x2028 0x02000000")?;
-    writeln!(script, "w {pool} 0x2018 1")
+    writeln!(
+        script,
+        "mw {pool} 0x{TRANSMIT_RING:x} 0060000000000000.{word}"
+    )?;
+    push_writes(script, pool, &SENDER)
 }
 
 // Lets the ring of function 3 wrap after its next descriptor, with buffers of 1 KiB.
-fn push_wrap(script: &mut String, tail: &str, buffer: &str) -> Result<(), AllocError> {
-    writeln!(script, "w 3 0x1028 0")?;
-    writeln!(script, "w 3 0x1010 7")?;
-    writeln!(script, "w 3 0x1018 {tail}")?;
-    writeln!(script, "w 3 0x1014 0x02000001")?;
+fn push_wrap(script: &mut String, tail: u32, buffer: &str) -> Result<(), AllocError> {
+    let begins_anew = [
+        (RXDCTL0, 0),
+        (RDH0, 7),
+        (RDT0, tail),
+        (SRRCTL0, ADVANCED | 1),
+    ];
+    push_writes(script, 3, &begins_anew)?;
     writeln!(script, "mw 3 0x1070 0040000000000000")?;
-    writeln!(script, "mw 3 0x1000 {buffer}")?;
-    writeln!(script, "w 3 0x1028 0x02000000")
+    writeln!(script, "mw 3 0x{RECEIVE_RING:x} {buffer}")?;
+    push_writes(script, 3, &[(RXDCTL0, ENABLE)])
 }

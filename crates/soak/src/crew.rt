@@ -1,5 +1,6 @@
 //! The threads of a round.
 ghost use Rattle.std.specs.Prelude.{◌≡◌};
+ghost use Rattle.history.specs.declared.caller.Caller.TheVariants.{Pump};
 
 use crate::guest::{Life, live};
 use crate::round::{Figures, Kind, Plan};
@@ -22,7 +23,9 @@ pub fn seat_all<M: GuestMem, L: Ledger, P: GuestPort>(
     device: &Arc<LockedDevice<M, L>>,
     shares: &mut Shares<L>,
     ports: Vec<P>,
-) -> Result<Vec<LockedPort<M, L, P>>> {
+) -> Result<Vec<LockedPort<M, L, P>>>
+    ensures { shares.new.pump ≡ shares.old.pump }
+{
     let mut seated = Vec::with_capacity(alloc, ports.len())?;
     for port in ports {
         if port.is_open() {
@@ -74,7 +77,7 @@ impl<L: Ledger + Send + Sync + 'static> Crew<L> {
         pump: Share<L>,
         plan: Plan,
     ) -> Result<Crew<L>>
-        requires { pump.caller ≡ 65 }
+        requires { pump.caller ≡ Pump }
     {
         let is_folded = plan.kind == Kind::Fold;
         let (mut sender, receiver) = channel(alloc)?;

@@ -1,5 +1,6 @@
 //! A round: a device as it is made, all its callers in threads of their own, and what came of it.
 ghost use Rattle.std.specs.Prelude.{◌≡◌, []};
+ghost use Rattle.history.specs.declared.caller.Caller.TheVariants.{Pump};
 
 use crate::crew::{Crew, seat_all};
 use crate::driver::{drive, set_up};
@@ -7,7 +8,7 @@ use crate::guest::Life;
 use crate::until::Until;
 use anyhow::{Result, anyhow};
 use device::Device;
-use device_lock::{LockedDevice, PUMP, Recorded, Share, Shares};
+use device_lock::{LockedDevice, Recorded, Share, Shares};
 use guest_memory::GuestMem;
 use guest_port::GuestPort;
 use irq_line::DeviceSeat;
@@ -73,6 +74,7 @@ struct Made<M: GuestMem, L: Ledger> {
     device: Arc<LockedDevice<M, L>>,
     shares: Shares<L>,
     fresh: Option<Device<M>>,
+    ghost pump: { shares.pump.caller ≡ Pump },
 }
 
 // Makes the devices.
@@ -128,7 +130,7 @@ pub fn round<
     let guests = seat_all(alloc, &device, &mut shares, ports)?;
     let mut back = Vec::with_capacity(alloc, 67)?;
     shares.put_back(&mut back)?;
-    if back.len() != 3 || back[1].caller() != PUMP {
+    if back.len() != 3 {
         return Err(anyhow!("a pool has no port"));
     }
     let (mut service, pump, mut pf) = (back.remove(2), back.remove(1), back.remove(0));

@@ -2,6 +2,9 @@
 use Rattle.std.specs.Prelude.{◌≡◌, ℕ, ◌+◌, ◌<◌, ◌==◌, Bool, IsTrue, ◌↔◌, List, [], ◌++◌, length, slice_index, Option, codes, decimal, if◌then◌else◌}
 use Rattle.std.specs.Io.KnownBytes.{Appends}
 use Rattle.device.specs.World.{World, answers}
+use Rattle.history.specs.Callers.{caller_of}
+use Rattle.history.specs.declared.caller.Caller.{Caller}
+use Rattle.history.specs.declared.caller.Caller.TheVariants.{Port, Driver, Pump, Service}
 use Rattle.history.specs.Entries.{events, given}
 use Rattle.recorder.specs.Legal.{calls_of}
 use Rattle.recorder.specs.Held.{Held}
@@ -26,19 +29,26 @@ unfoldable pub number_end : ℕ → List ℕ
 number_end n = codes " " ++ (decimal n ++ codes "\n")
 
 -- the name of a caller: a port has its pool's number
-unfoldable pub caller_name : ℕ → List ℕ
-caller_name c = if c == 64 then codes "pf" else if c == 65 then codes "pump" else if c == 66 then codes "service" else codes "port" ++ decimal c
+unfoldable pub caller_name : Caller → List ℕ
+caller_name (Port p) = codes "port" ++ decimal p
+caller_name Driver = codes "pf"
+caller_name Pump = codes "pump"
+caller_name Service = codes "service"
 
 -- the line of a caller with the number of its calls; none where it made no call
-unfoldable pub caller_line : ℕ → ℕ → List ℕ
+unfoldable pub caller_line : Caller → ℕ → List ℕ
 caller_line c count = if count == 0 then [] else codes "caller " ++ (caller_name c ++ number_end count)
+
+-- that of the caller of a number
+abbrev pub line_of : ℕ → ℕ → List ℕ
+line_of n count = caller_line (caller_of n) count
 
 unfoldable pub replay_line : Bool → List ℕ
 replay_line replays = if replays then codes "replay ok\n" else codes "replay differs\n"
 
 -- the line of the history, those of the callers by their numbers, from 0 on, and the line of the replay
 unfoldable pub report_text : Report → List ℕ
-report_text r = codes "history" ++ (number_end r.kept ++ (numbered caller_line 0 r.calls ++ replay_line r.replays))
+report_text r = codes "history" ++ (number_end r.kept ++ (numbered line_of 0 r.calls ++ replay_line r.replays))
 
 -- ---- what is written
 

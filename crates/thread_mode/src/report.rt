@@ -5,10 +5,10 @@ ghost use Rattle.std.specs.String.{string_bytes};
 ghost use Rattle.transcript.specs.Known.{Began};
 ghost use Rattle.transcript.specs.Lines.{numbered};
 ghost use Rattle.modes.specs.Faults.{is_late};
-ghost use Rattle.thread_mode.specs.Report.{caller_line, caller_name, number_end, replay_line, report_text, BeganToReport, Reported, Tells};
+ghost use Rattle.thread_mode.specs.Report.{caller_line, caller_name, line_of, number_end, replay_line, report_text, BeganToReport, Reported, Tells};
 
 use device::Device;
-use device_lock::{CALLERS, PF, PUMP, Recorded, SERVICE, Share};
+use device_lock::{CALLERS, Caller, Recorded, Share};
 use guest_memory::GuestMem;
 use modes::Fault;
 use std::alloc::{AllocError, Global};
@@ -103,17 +103,20 @@ fn push_number(text: &mut String, number: u64) -> Result<(), AllocError>
 // The lines of the callers.
 fn push_callers(text: &mut String, calls: &[u64; CALLERS]) -> Result<(), AllocError>
     ensures { OnOk result
-        (string_bytes text.new ≡ string_bytes text.old ++ numbered caller_line 0 calls.now) }
+        (string_bytes text.new ≡ string_bytes text.old ++ numbered line_of 0 calls.now) }
 {
-    for caller in 0..CALLERS {
-        push_caller(text, caller as u8, calls[caller])?;
+    for number in 0..CALLERS {
+        let Some(caller) = Caller::from_number(number as u8) else {
+            unreachable!()
+        };
+        push_caller(text, caller, calls[number])?;
     }
     Ok(())
 }
 
 // The line of a caller, where it made calls.
 #[tactic(auto, unfolding(crate::specs::Report::caller_line))]
-fn push_caller(text: &mut String, caller: u8, count: u64) -> Result<(), AllocError>
+fn push_caller(text: &mut String, caller: Caller, count: u64) -> Result<(), AllocError>
     ensures { OnOk result
         (string_bytes text.new ≡ string_bytes text.old ++ caller_line caller count) }
 {
@@ -127,14 +130,14 @@ fn push_caller(text: &mut String, caller: u8, count: u64) -> Result<(), AllocErr
 
 // The name of a caller.
 #[tactic(auto, unfolding(crate::specs::Report::caller_name))]
-fn push_name(text: &mut String, caller: u8) -> Result<(), AllocError>
+fn push_name(text: &mut String, caller: Caller) -> Result<(), AllocError>
     ensures { OnOk result (string_bytes text.new ≡ string_bytes text.old ++ caller_name caller) }
 {
     match caller {
-        PF => text.push_str("pf"),
-        PUMP => text.push_str("pump"),
-        SERVICE => text.push_str("service"),
-        port => write!(text, "port{port}"),
+        Caller::Port(pool) => write!(text, "port{}", pool.get()),
+        Caller::Driver => text.push_str("pf"),
+        Caller::Pump => text.push_str("pump"),
+        Caller::Service => text.push_str("service"),
     }
 }
 

@@ -15,7 +15,7 @@ use log::sink::Discard;
 use modes::drive::read;
 use modes::{Fault, make_device, put_away};
 use script::Script;
-use std::alloc::Global;
+use std::alloc::{AllocError, Global};
 use std::io::{Read, Write};
 use std::marker::Brand;
 use std::sync::ledger::{Blank, Ledger};
@@ -87,8 +87,9 @@ fn with_ports<M: GuestMem + Send + 'static, R: Threads + Wait + Copy + Send + 's
     for seat in seats {
         let pool = seat.pool();
         if pool < count {
-            let Ok((port, note)) = IrqPort::try_new(alloc, pool, seat) else {
-                return Err(Fault::NoMemory);
+            let (port, note) = match IrqPort::try_new(alloc, pool, seat) {
+                Ok(made) => made,
+                Err(refused) => return Err(Fault::from(refused.fault)),
             };
             let port: Box<dyn GuestPort + Send> = Box::new(alloc, port)?;
             ports.push((port, note))?;
@@ -207,7 +208,7 @@ fn lock<M: GuestMem, L: Ledger>(
     Ok(LockedDevice::new(alloc, recorded)?)
 }
 
-// The ports of these pools, with their device and their shares.
+// The ports of these pools, with their device and their shares: of those that can make calls.
 #[inline(never)]
 fn seat_all<M: GuestMem, L: Ledger, P: GuestPort>(
     alloc: Global,
@@ -223,29 +224,32 @@ fn seat_all<M: GuestMem, L: Ledger, P: GuestPort>(
     let mut ports = Vec::with_capacity(alloc, pools.len())?;
     for (port, note) in all {
         if pools.contains(&port.pool()) {
-            ports.push((seat(device, shares, port)?, note))?;
+            if let Some(port) = seat(device, shares, port)? {
+                ports.push((port, note))?;
+            }
         }
     }
     Ok(ports)
 }
 
-// A port with its device and its share. What was raised for its pool before is taken and discarded: a port begins here.
-// [`Fault::NoMemory`] where the port has ended or its share was handed out before.
+// A port with its device and its share. What was raised for its pool before is taken and discarded: a port begins here. None where
+// the port has ended or its share was handed out before, so that it could make no call: the service does its pool's events then.
 fn seat<M: GuestMem, L: Ledger, P: GuestPort>(
     device: &Arc<LockedDevice<M, L>>,
     shares: &mut Shares<L>,
     mut port: P,
-) -> Result<LockedPort<M, L, P>, Fault>
+) -> Result<Option<LockedPort<M, L, P>>, AllocError>
     ensures pf { shares.new.pf ≡ shares.old.pf }
     ensures pump { shares.new.pump ≡ shares.old.pump }
     ensures service { shares.new.service ≡ shares.old.service }
 {
     let _ = port.take_irqs();
     if !port.is_open() {
-        return Err(Fault::NoMemory);
+        return Ok(None);
     }
     let Some(share) = shares.port(port.pool()) else {
-        return Err(Fault::NoMemory);
+        return Ok(None);
     };
-    Ok(LockedPort::new(Arc::try_clone(device)?, share, port))
+    let device = Arc::try_clone(device)?;
+    Ok(Some(LockedPort::new(device, share, port)))
 }

@@ -1,12 +1,13 @@
 -- Marks of the pools that a word has, from the lowest on, and how long they are.
-use Rattle.std.proofs.Common.{arith, ◌≡◌, ◌≢◌, ℕ, zero, suc, ◌+◌, ◌*◌, ◌%◌, ◌^◌, ◌<◌, ◌≤◌, Bool, true, false, eqb, ltb, List, [], ◌∷◌, ◌++◌, length, length-append, length-take-le, take, get_or, bit_and, append_assoc, refl, sym, ap, ◌∙◌}
-use Rattle.std.specs.Int.{bit_at, bit_not, trailing_zeros, w64}
+use Rattle.std.proofs.Common.{arith, ◌≡◌, ◌≢◌, ℕ, zero, suc, ◌+◌, ◌*◌, ◌<◌, ◌≤◌, Bool, true, false, eqb, ltb, List, [], ◌∷◌, ◌++◌, length, length-append, length-take-le, take, get_or, append_assoc, refl, sym, ap, ◌∙◌}
+use Rattle.std.specs.Int.{bit_at}
 use Rattle.std.specs.Prelude.{codes, decimal}
 use Rattle.std.proofs.lemmas.Bool.Decides.{nat_tests}
 use Rattle.std.proofs.lemmas.Fmt.{decimal_digit, length-decimal-le}
-use Rattle.std.proofs.lemmas.Nat.Bits.{bit_at-lt, bit_at-zero, bit_at_clear_same, bit_at_clear_other, bit_at-trailing_zeros}
+use Rattle.std.proofs.lemmas.Nat.Bits.{bit_at-lt, bit_at-zero}
 use Rattle.itoa.proofs.Decimal.{length_one}
 use Rattle.wire_frame.specs.Bits.{has_bit}
+use Rattle.wire_frame.specs.Pools.{IsLowestTaken}
 use Rattle.transcript.specs.Text.{mark_text, marks_text}
 
 -- a text where a bit is set
@@ -85,15 +86,11 @@ lowest_from a b p pool (suc k) (mask ∷ masks) there below none some gone other
     (λ i. where_set (not_a i) (mark_text pool mask) ++ rest i)
     ∙ (λ i. mark_text p (get_or masks k 0) ++ (where_set (sym not_b i) (mark_text pool mask) ++ marks_of b (suc pool) masks))
 
-pub marks_lowest : (rest : ℕ) (masks : List ℕ) → length masks ≡ 64 → 0 < rest → rest < 2 ^ 64
-    → marks_of rest 0 masks
-    ≡ mark_text (trailing_zeros w64 rest) (get_or masks (trailing_zeros w64 rest) 0)
-    ++ marks_of (bit_and rest (bit_not w64 (1 * 2 ^ trailing_zeros w64 rest % 18446744073709551616))) 0 masks
-marks_lowest rest masks all some fits =
-    let p = trailing_zeros w64 rest in
-    let lowest = bit_at-trailing_zeros w64 rest some fits in
-    lowest_from rest _ p 0 p masks (omega arith) (omega (arith, lowest.0)) lowest.2 lowest.1 (bit_at_clear_same w64 rest p lowest.0)
-    (λ q below other. bit_at_clear_other w64 rest p lowest.0 q (omega arith) other)
+pub marks_lowest : (rest pool after : ℕ) (masks : List ℕ) → length masks ≡ 64 → IsLowestTaken rest pool after
+    → marks_of rest 0 masks ≡ mark_text pool (get_or masks pool 0) ++ marks_of after 0 masks
+marks_lowest rest pool after masks all taken =
+    lowest_from rest after pool 0 pool masks (omega arith) (omega (arith, all, taken.below)) taken.lowest taken.there taken.gone
+    (λ q below other. taken.others q other)
 
 -- ---- the parts of a mark
 

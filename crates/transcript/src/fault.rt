@@ -1,4 +1,7 @@
 //! Why the output stopped.
+ghost use Rattle.std.specs.Prelude.{◌≡◌};
+
+use std::alloc::AllocError;
 use thiserror::Error;
 
 /// Why the output stopped.
@@ -10,4 +13,14 @@ pub enum Fault {
     /// The host refused the room for what is held.
     #[error("no memory")]
     NoMemory,
+}
+
+impl From<AllocError> for Fault {
+    ghost use Rattle.transcript.specs.declared.fault.Fault.{Fault};
+
+    ghost from_gives = { λ _ e. e ≡ Fault.NoMemory };
+
+    fn from(_error: AllocError) -> Fault {
+        Fault::NoMemory
+    }
 }

@@ -58,11 +58,8 @@ impl Output {
     pub fn new(alloc: Global) -> Result<Output, Fault>
         ensures { IfOk result (λ o. o ≡ []) }
     {
-        let Ok(room) = vec![in alloc; 0; ROOM] else {
-            return Err(Fault::NoMemory);
-        };
         Ok(Output {
-            room,
+            room: vec![in alloc; 0; ROOM]?,
             end: 0,
             read: [0; MOST_READ],
             count: Count::new(),

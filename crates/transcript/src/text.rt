@@ -161,14 +161,8 @@ pub fn put_marks(room: &mut [u8], at: usize, messages: &Messages) -> usize
 {
     messages.masks_are_small();
     let mut end = at;
-    let mut rest = messages.pools();
-    while rest != 0 {
-        let lowest = rest.trailing_zeros();
-        let Some(pool) = PoolId::new(lowest as u8) else {
-            unreachable!()
-        };
+    for pool in messages.pools() {
         end = put_mark(room, end, pool, messages.to(pool));
-        rest &= !(1 << lowest);
     }
     end
 }

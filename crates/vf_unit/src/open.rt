@@ -14,7 +14,7 @@ use crate::offsets::{
 use crate::queues::{ReceiveQueue, TransmitQueue};
 use crate::registers::{Queue, Register, register_of};
 use guest_memory::{GuestMem, read_bytes, write_bytes};
-use irq_causes::Causes;
+use irq_causes::{Causes, Vectors};
 use rings::RingRegister;
 use rx_desc::{Placed, RxConfig, place_within};
 use std::alloc::{AllocError, Global};
@@ -30,8 +30,8 @@ const DROPS: u32 = 1 << DROP_EN;
 pub struct Service {
     /// What came of it.
     pub outcome: Progress,
-    /// The messages that were issued: bit v for vector v, 0 to 2.
-    pub messages: u8,
+    /// The vectors whose messages were issued.
+    pub messages: Vectors,
 }
 
 /// A virtual function that is open, over its memory.
@@ -144,10 +144,9 @@ impl<M: GuestMem> OpenVf<M> {
     }
 
     /// Writes the register at an offset; the messages that this issues.
-    pub fn reg_write(&mut self, offset: u32, x: u32) -> u8
+    pub fn reg_write(&mut self, offset: u32, x: u32) -> Vectors
         ensures state { self.new ≡ (written_at self.old offset x).state }
         ensures messages { result ≡ (written_at self.old offset x).messages }
-        ensures below { result < 8 }
         ensures size { length self.new.memory ≡ length self.old.memory }
     {
         self.write(register_of(offset), x)
@@ -162,9 +161,9 @@ impl<M: GuestMem> OpenVf<M> {
     {
         match register {
             Register::Links => LINK_UP,
-            Register::CauseRead => u32::from(self.causes.read_icr()),
-            Register::MaskSet => u32::from(self.causes.mask()),
-            Register::AutoClear => u32::from(self.causes.auto_clear()),
+            Register::CauseRead => u32::from(self.causes.read_icr().bits()),
+            Register::MaskSet => u32::from(self.causes.mask().bits()),
+            Register::AutoClear => u32::from(self.causes.auto_clear().bits()),
             Register::QueueVectors => self.queue_vectors,
             Register::OtherVector => self.other_vector,
             Register::Receive(Queue::Q0, register) => self.receive_0.ring.read(register),
@@ -185,10 +184,9 @@ impl<M: GuestMem> OpenVf<M> {
 
     // Writes a register; the messages that this issues.
     #[tactic(auto, unfolding(crate::specs::Access::register_written))]
-    fn write(&mut self, register: Register, x: u32) -> u8
+    fn write(&mut self, register: Register, x: u32) -> Vectors
         ensures state { self.new ≡ (register_written self.old register x).state }
         ensures messages { result ≡ (register_written self.old register x).messages }
-        ensures below { result < 8 }
         ensures size { length self.new.memory ≡ length self.old.memory }
     {
         match register {
@@ -212,7 +210,7 @@ impl<M: GuestMem> OpenVf<M> {
             Register::Nowhere | Register::Links | Register::FramesReceived | Register::FramesSent =>
                 {}
         }
-        0
+        Vectors::none()
     }
 
     // Writes a register of a receive ring.
@@ -292,10 +290,9 @@ impl<M: GuestMem> OpenVf<M> {
     /// Places a frame in receive queue 0; the messages that this issues. `loopback` says that another pool sent it.
     #[inline]
     #[tactic(auto, unfolding(crate::specs::Function::delivered))]
-    pub fn deliver(&mut self, frame: &FrameBuf, loopback: bool) -> u8
+    pub fn deliver(&mut self, frame: &FrameBuf, loopback: bool) -> Vectors
         ensures state { self.new ≡ (delivered loopback frame.now self.old).state }
         ensures messages { result ≡ (delivered loopback frame.now self.old).messages }
-        ensures below { result < 8 }
         ensures size { length self.new.memory ≡ length self.old.memory }
     {
         let config = RxConfig {
@@ -311,7 +308,7 @@ impl<M: GuestMem> OpenVf<M> {
             loopback,
         );
         if placed != Placed::Put {
-            return 0;
+            return Vectors::none();
         }
         self.frames_received = self.frames_received.wrapping_add(1);
         self.causes
@@ -334,7 +331,6 @@ impl<M: GuestMem> OpenVf<M> {
             ≡ (fetched_from limit rule self.old queue).outcome }
         ensures frame { frame.new
             ≡ lent_after (fetched_from limit rule self.old queue).outcome frame.old }
-        ensures below { result.messages < 8 }
         ensures size { length self.new.memory ≡ length self.old.memory }
     {
         let served = self.fetch_from(queue, frame, rule, limit);
@@ -345,7 +341,7 @@ impl<M: GuestMem> OpenVf<M> {
             };
             self.causes.raise_by(vector)
         } else {
-            0
+            Vectors::none()
         };
         Service {
             outcome: served.outcome,

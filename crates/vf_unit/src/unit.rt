@@ -1,5 +1,5 @@
 //! A virtual function, closed or open.
-ghost use Rattle.std.specs.Prelude.{◌≡◌, ℕ, ◌<◌, length, Some, None, IfOk, IfSome, if◌then◌else◌};
+ghost use Rattle.std.specs.Prelude.{◌≡◌, ℕ, length, Some, None, IfOk, if◌then◌else◌};
 ghost use Rattle.std.specs.Option.{option_map};
 ghost use Rattle.tx_desc.specs.Lent.{fetched_in};
 ghost use Rattle.vf_unit.specs.Unit.{Function, Closed, Open, size_of, is_open, opened, ended, reset, read_of, after_read_of, written, given, serviced, service_outcome, lent_to, one_more_sent, has_range, bytes_at, memory_written};
@@ -7,6 +7,7 @@ ghost use Rattle.vf_unit.specs.Unit.{Function, Closed, Open, size_of, is_open, o
 use crate::open::{OpenVf, Service};
 use crate::registers::Queue;
 use guest_memory::GuestMem;
+use irq_causes::Vectors;
 use std::alloc::{AllocError, Global};
 use std::marker::Model;
 use wire_frame::{FrameBuf, FrameLimit, PortVlan};
@@ -97,11 +98,10 @@ impl<M: GuestMem> VfUnit<M> {
     }
 
     /// Writes the register at an offset; the messages that this issues. A write to an offset outside the map is ignored.
-    pub fn reg_write(&mut self, offset: u32, x: u32) -> Option<u8>
+    pub fn reg_write(&mut self, offset: u32, x: u32) -> Option<Vectors>
         ensures function { self.new ≡ (written self.old offset x).state }
         ensures messages { result
             ≡ (if is_open self.old then Some (written self.old offset x).messages else None) }
-        ensures below { IfSome result (λ messages. messages < 8) }
         ensures size { size_of self.new ≡ size_of self.old }
     {
         if self.is_open {
@@ -113,16 +113,15 @@ impl<M: GuestMem> VfUnit<M> {
 
     /// Places a frame in receive queue 0; the messages that this issues. `loopback` says that another pool sent it.
     #[inline]
-    pub fn deliver(&mut self, frame: &FrameBuf, loopback: bool) -> u8
+    pub fn deliver(&mut self, frame: &FrameBuf, loopback: bool) -> Vectors
         ensures function { self.new ≡ (given loopback frame.now self.old).state }
         ensures messages { result ≡ (given loopback frame.now self.old).messages }
-        ensures below { result < 8 }
         ensures size { size_of self.new ≡ size_of self.old }
     {
         if self.is_open {
             self.inner.deliver(frame, loopback)
         } else {
-            0
+            Vectors::none()
         }
     }
 
@@ -142,7 +141,6 @@ impl<M: GuestMem> VfUnit<M> {
         ensures messages { option_map (λ s. s.messages) result
             ≡ (if is_open self.old then Some (serviced limit rule self.old queue).messages
             else None) }
-        ensures below { IfSome result (λ s. s.messages < 8) }
         ensures size { size_of self.new ≡ size_of self.old }
     {
         if self.is_open {

@@ -10,6 +10,7 @@ use Rattle.device.specs.declared.event.Event.TheVariants.{Open, End, VfRead, VfW
 use Rattle.device.specs.Act.{act, refusal}
 use Rattle.device.specs.World.{World, Stepped, step, fresh, sizes_of, function_of, acted, refused}
 use Rattle.device.proofs.Shape.{step_shape}
+use Rattle.history.specs.declared.caller.Caller.TheVariants.{Driver}
 use Rattle.history.specs.Entries.{Entry, entry, Leads}
 use Rattle.history.proofs.ReplayLemmas.{leads_more}
 use Rattle.vfdev_c.specs.Recorded.{Recorded, recorded, is_full, kept_as, keeping, made_like}
@@ -18,15 +19,15 @@ use Rattle.vfdev_c.specs.Recorded.{Recorded, recorded, is_full, kept_as, keeping
 
 -- what is so of the calls and the device after one call more, by whatever names
 pub leads_on : (live new : World) (calls more : List Entry) (e : Event) → Leads (made_like live) calls live
-    → new ≡ (step live e).world → sizes_of new ≡ sizes_of live → more ≡ calls ++ entry 0 e (step live e).answer ∷ []
+    → new ≡ (step live e).world → sizes_of new ≡ sizes_of live → more ≡ calls ++ entry Driver e (step live e).answer ∷ []
     → Leads (made_like new) more new
 leads_on live new calls more e l world sizes entries =
     let limit : new.limit ≡ live.limit = ap (λ (w : World). w.limit) world ∙ (step_shape live e).limit in
     let same : made_like new ≡ made_like live = λ i. fresh (limit i) (sizes i) in
-    let one = leads_more (made_like live) calls live 0 e l in
+    let one = leads_more (made_like live) calls live Driver e l in
     subst (λ (b : World). Leads b more new) (sym same)
     (subst (λ (xs : List Entry). Leads (made_like live) xs new) (sym entries)
-    (subst (λ (w : World). Leads (made_like live) (calls ++ entry 0 e (step live e).answer ∷ []) w) (sym world) one))
+    (subst (λ (w : World). Leads (made_like live) (calls ++ entry Driver e (step live e).answer ∷ []) w) (sym world) one))
 
 -- ---- reads of more bytes than an entry names
 
@@ -67,10 +68,10 @@ has_room false n m is off = let other : n ≢ m = λ same. true≢false (sym (is
 
 -- what is kept of a call by that event, by whatever names
 pub kept_on : (r : Recorded) (new : World) (more : List Entry) (cap : ℕ) (e : Event) → is_full r ≡ false → new ≡ (step r.live (kept_as e)).world
-    → more ≡ r.calls ++ entry 0 (kept_as e) (step r.live (kept_as e)).answer ∷ [] → cap ≡ r.cap
+    → more ≡ r.calls ++ entry Driver (kept_as e) (step r.live (kept_as e)).answer ∷ [] → cap ≡ r.cap
     → recorded new more cap ≡ (if is_full r then r else keeping r e)
 kept_on r new more cap e room world entries same =
     let live : new ≡ (step r.live e).world = world ∙ ap (λ (s : Stepped). s.world) (step_alike r.live e) in
-    let calls : more ≡ r.calls ++ entry 0 (kept_as e) (step r.live e).answer ∷ [] =
-    entries ∙ ap (λ (s : Stepped). r.calls ++ entry 0 (kept_as e) s.answer ∷ []) (step_alike r.live e) in
+    let calls : more ≡ r.calls ++ entry Driver (kept_as e) (step r.live e).answer ∷ [] =
+    entries ∙ ap (λ (s : Stepped). r.calls ++ entry Driver (kept_as e) s.answer ∷ []) (step_alike r.live e) in
     rw room (λ i. recorded (live i) (calls i) (same i))

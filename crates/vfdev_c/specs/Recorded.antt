@@ -3,6 +3,7 @@ use Rattle.std.specs.Prelude.{ℕ, Bool, nat_le, nat_eq, List, [], ◌∷◌, �
 use Rattle.device.specs.declared.event.Event.{Event}
 use Rattle.device.specs.declared.event.Event.TheVariants.{MemRead}
 use Rattle.device.specs.World.{World, fresh, sizes_of, step}
+use Rattle.history.specs.declared.caller.Caller.TheVariants.{Driver}
 use Rattle.history.specs.Entries.{Entry, entry}
 
 -- the device, the calls that were made on it, the oldest first, and how many may be kept
@@ -27,7 +28,7 @@ kept_as e = e
 -- the device takes an event, and the call is kept with its answer
 abbrev pub keeping : Recorded → Event → Recorded
 keeping r e =
-    recorded (step r.live e).world (r.calls ++ entry 0 (kept_as e) (step r.live e).answer ∷ []) r.cap
+    recorded (step r.live e).world (r.calls ++ entry Driver (kept_as e) (step r.live e).answer ∷ []) r.cap
 
 -- where one more call can be kept; else the device is not asked
 abbrev pub taking : Recorded → Event → Recorded

@@ -3,7 +3,7 @@ ghost use Rattle.std.specs.Prelude.{◌≡◌, ◌≤◌, ◌<◌, [], ◌∷◌
 ghost use Rattle.vfdev_c.specs.Memory.{bytes_of};
 
 use crate::memory::HostMem;
-use lent_memory::LentMem;
+use guest_memory::LentMem;
 use std::alloc::{AllocError, Global};
 use std::marker::Model;
 

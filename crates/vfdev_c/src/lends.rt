@@ -12,7 +12,7 @@ use crate::memory::HostMem;
 use crate::stage::{Running, Stage};
 use device::Device;
 use guest_memory::is_memory_size;
-use std::alloc::{AllocError, Global};
+use std::alloc::Global;
 use wire_frame::{Fault, FrameLimit};
 
 /// Lends a block as the memory of the next function of a device, which [`vfdev_make_lent`] makes of all that were lent: 0,
@@ -49,18 +49,27 @@ fn lend_first(alloc: Global, handle: &mut Vfdev, cells: &'static mut [u8]) -> u3
     ensures bad_make { can_lend None cells.old ≡ false → result ≡ 10 }
     ensures no_memory { can_lend None cells.old ≡ true → nat_eq result 0 ≡ false → result ≡ 9 }
 {
-    if !is_memory_size(cells.len() as u64) {
-        return u32::from(Fault::BadMake.number());
+    match lending(alloc, cells) {
+        Ok(stage) => {
+            handle.put(stage);
+            MADE
+        }
+        Err(fault) => u32::from(fault.number()),
     }
-    let Ok(mut blocks) = LentBlocks::new(alloc) else {
-        return u32::from(Fault::NoMemory.number());
-    };
+}
+
+// One block that is lent, in a box.
+fn lending(alloc: Global, cells: &'static mut [u8]) -> Result<Box<Stage>, Fault>
+    ensures ok { IfOk result (λ b. b.value ≡ Stage.Lending (cells.old ∷ [])) }
+    ensures bad_make { can_lend None cells.old ≡ false → result ≡ Err Fault.BadMake }
+    ensures no_memory { IfErr result (λ e. can_lend None cells.old ≡ true → e ≡ Fault.NoMemory) }
+{
+    if !is_memory_size(cells.len() as u64) {
+        return Err(Fault::BadMake);
+    }
+    let mut blocks = LentBlocks::new(alloc)?;
     blocks.push(cells);
-    let Ok(stage) = Box::new(alloc, Stage::Lending(blocks)) else {
-        return u32::from(Fault::NoMemory.number());
-    };
-    handle.put(stage);
-    MADE
+    Ok(Box::new(alloc, Stage::Lending(blocks))?)
 }
 
 // Lends one more block.
@@ -142,12 +151,6 @@ pub(crate) fn boxed_over(
         (is_frame_limit limit && is_makeable (map (λ m. length (bytes_of m)) memories.entry.items))
         ≡ true → e ≡ Fault.NoMemory) }
 {
-    let device = match Device::with_limit(alloc, memories, limit) {
-        Ok(device) => device,
-        Err(fault) => return Err(fault),
-    };
-    match Box::new(alloc, Stage::Made(Running::of(device))) {
-        Ok(stage) => Ok(stage),
-        Err(_) => Err(Fault::NoMemory),
-    }
+    let device = Device::with_limit(alloc, memories, limit)?;
+    Ok(Box::new(alloc, Stage::Made(Running::of(device)))?)
 }

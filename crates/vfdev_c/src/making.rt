@@ -69,11 +69,7 @@ fn boxed(alloc: Global, functions: u32, size: u64, limit: u16) -> Result<Box<Sta
     if !can_make(functions, size, limit) {
         return Err(Fault::BadMake);
     }
-    let memories = match memories(alloc, functions, size) {
-        Ok(memories) => memories,
-        Err(fault) => return Err(fault),
-    };
-    boxed_over(alloc, memories, limit)
+    boxed_over(alloc, memories(alloc, functions, size)?, limit)
 }
 
 // Whether a device can be made of so many memories of the size.
@@ -96,13 +92,8 @@ pub(crate) fn memories(
 {
     let mut all = Vec::new(alloc);
     for _ in 0..functions {
-        let memory = match FlatMem::new(alloc, size) {
-            Ok(memory) => memory,
-            Err(fault) => return Err(fault),
-        };
-        if all.push(HostMem::Own(memory)).is_err() {
-            return Err(Fault::NoMemory);
-        }
+        let memory = FlatMem::new(alloc, size)?;
+        all.push(HostMem::Own(memory))?;
     }
     Ok(all)
 }

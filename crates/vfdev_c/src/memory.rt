@@ -3,8 +3,7 @@ ghost use Rattle.std.specs.Prelude.{◌≡◌, ◌≤◌, ◌+◌, length, slice
 ghost use Rattle.guest_memory.specs.Memory.{overwrite};
 ghost use Rattle.vfdev_c.specs.Memory.{bytes_of};
 
-use guest_memory::{FlatMem, GuestMem};
-use lent_memory::LentMem;
+use guest_memory::{FlatMem, GuestMem, LentMem};
 
 /// A guest's memory.
 #[derive(Drop)]

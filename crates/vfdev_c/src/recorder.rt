@@ -6,6 +6,7 @@ ghost use Rattle.device.specs.declared.event.Event.{Event};
 ghost use Rattle.device.specs.World.{step, answers, world_after, sizes_of};
 ghost use Rattle.device.specs.Request.{event_of};
 ghost use Rattle.device.specs.Outcome.{left_by};
+ghost use Rattle.history.specs.declared.caller.Caller.{Caller};
 ghost use Rattle.history.specs.Entries.{entry, events, given, is_cap};
 ghost use Rattle.vfdev_c.specs.Handle.{shown, history_full, bytes_shown, frame_in, length_in, IsolatedStep};
 ghost use Rattle.vfdev_c.specs.Recorded.{recorded, is_full, taking, kept_as, made_like};
@@ -14,14 +15,14 @@ use crate::memory::HostMem;
 use crate::reply::VfdevReply;
 use crate::stage::{Running, isolates, lay, put_frame};
 use device::{Device, Outcome, Queue, Request, Taken};
-use history::History;
+use history::{Caller, History};
 use irq_causes::Messages;
 use std::alloc::Global;
 use std::marker::Model;
 use wire_frame::{Fault, FrameBuf};
 
-// Who makes the calls: all are the same caller's.
-const CALLER: u8 = 0;
+// Who makes the calls: whoever holds the handle, for all functions, as a driver of the physical function does.
+const CALLER: Caller = Caller::Driver;
 // How many bytes an entry names at most.
 const MOST_NAMED: usize = 65_535;
 
@@ -55,13 +56,9 @@ impl Recorder {
         ensures bad_make { is_cap cap ≡ false → result ≡ Err Fault.BadMake }
         ensures no_memory { IfErr result (λ e. is_cap cap ≡ true → e ≡ Fault.NoMemory) }
     {
-        let history = match History::new(alloc, cap) {
-            Ok(history) => history,
-            Err(fault) => return Err(fault),
-        };
         Ok(Recorder {
             live,
-            history,
+            history: History::new(alloc, cap)?,
             frame: FrameBuf::blank(),
         })
     }
@@ -212,7 +209,7 @@ fn came(
     ensures messages { result.1 ≡ (step live.old (Event.Wire frame.now)).answer.raised }
     ensures sizes { sizes_of live.new ≡ sizes_of live.old }
     ensures entries { history.new.entries ≡ history.old.entries
-        ++ entry 0 (Event.Wire frame.now) (step live.old (Event.Wire frame.now)).answer ∷ [] }
+        ++ entry Caller.Driver (Event.Wire frame.now) (step live.old (Event.Wire frame.now)).answer ∷ [] }
     ensures cap { history.new.cap ≡ history.old.cap }
 {
     let (outcome, messages) = match live.wire(frame) {

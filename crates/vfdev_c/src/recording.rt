@@ -152,20 +152,8 @@ fn boxed(
     if !can_make(functions, size, limit) || cap < 1 || cap > MOST_CALLS {
         return Err(Fault::BadMake);
     }
-    let memories = match memories(alloc, functions, size) {
-        Ok(memories) => memories,
-        Err(fault) => return Err(fault),
-    };
-    let device = match Device::with_limit(alloc, memories, limit) {
-        Ok(device) => device,
-        Err(fault) => return Err(fault),
-    };
-    let recorder = match Recorder::new(alloc, device, cap) {
-        Ok(recorder) => recorder,
-        Err(fault) => return Err(fault),
-    };
-    match Box::new(alloc, Stage::Kept(recorder)) {
-        Ok(stage) => Ok(stage),
-        Err(_) => Err(Fault::NoMemory),
-    }
+    let memories = memories(alloc, functions, size)?;
+    let device = Device::with_limit(alloc, memories, limit)?;
+    let recorder = Recorder::new(alloc, device, cap)?;
+    Ok(Box::new(alloc, Stage::Kept(recorder))?)
 }

@@ -1,12 +1,11 @@
--- What a write leaves of the entries, and words that are 0.
-use Rattle.std.proofs.Common.{◌≡◌, ◌≢◌, ℕ, ◌/◌, ◌%◌, true, ◌&&◌, [], Option, Some, replicate, slice_index, ap}
+-- What a write leaves of the entries.
+use Rattle.std.proofs.Common.{◌≡◌, ◌≢◌, ℕ, ◌/◌, ◌%◌, true, Option, Some, slice_index, ap}
 use Rattle.wire_frame.specs.Row.{is_in, place, words_after}
 use Rattle.wire_frame.specs.Bits.{has_bit, has_bit_in, two_words}
-use Rattle.pool_index.specs.Entries.{IsIndexOf}
-use Rattle.pool_index.proofs.EntryLemmas.{SaySame, nothing_held}
-use Rattle.pool_index.proofs.WordLemmas.{one_word_stays, two_words_stay, no_bit_at}
+use Rattle.pool_index.specs.Entries.{SaySame}
+use Rattle.pool_index.proofs.WordLemmas.{one_word_stays, two_words_stay}
 use Rattle.vlan_table.specs.Registers.{VLVF, VLVFB}
-use Rattle.vlan_table.specs.Vlans.{Vlans, initial_vlans, vlans_after, vlan_entries}
+use Rattle.vlan_table.specs.Vlans.{Vlans, vlans_after, vlan_entries}
 
 -- no word of another entry than this stands at the offset
 abbrev pub NamesEntry : ℕ → Option ℕ → Type 0
@@ -23,11 +22,5 @@ entry_stays v offset x named names e other =
     record {
       valid = ap (λ w. has_bit w 31) word;
       keys = ap (λ w. w % 4096) word;
-      pools = λ p i. has_bit (word i) 31 && has_bit_in (pools i) p;
+      pools = λ p i. has_bit_in (pools i) p;
     }
-
-pub nothing_said : IsIndexOf [] 64 (vlan_entries initial_vlans)
-unfolding initial_vlans
-nothing_said =
-    nothing_held 64 (vlan_entries initial_vlans) (λ e. no_bit_at 64 e 31)
-    (λ p e. ap (λ b. b && has_bit_in (two_words (replicate 128 0) e) p) (no_bit_at 64 e 31))

@@ -62,4 +62,4 @@ has_vlan v pool id = has_bit_in v.table id && is_in_entries v pool id
 
 -- the entries as they are kept in an index: by their ids
 abbrev pub vlan_entries : Vlans → Entries
-vlan_entries v = record { is_valid = λ e. has_bit (slice_index v.entries e) VALID; key = entry_id v; has_pool = entry_has_pool v }
+vlan_entries v = record { is_valid = λ e. has_bit (slice_index v.entries e) VALID; key = entry_id v; has_pool = λ pool e. has_bit_in (two_words v.pools e) pool }

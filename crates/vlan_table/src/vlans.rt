@@ -3,8 +3,8 @@ ghost use Rattle.std.specs.Prelude.{◌≡◌, ℕ, ◌<◌, ◌≤◌, ◌&&◌
 ghost use Rattle.wire_frame.specs.Bits.{has_bit, has_bit_in};
 ghost use Rattle.vlan_table.specs.Vlans.{initial_vlans, vlans_at, vlans_after, is_filtering, entry_id, entry_has_pool, has_vlan};
 
-use crate::words::{Words, entry_of};
-use pool_index::PoolIndex;
+use crate::words::Words;
+use pool_index::KeyedTable;
 use std::marker::Model;
 use wire_frame::{PoolId, Vid, has_bit};
 
@@ -12,19 +12,15 @@ use wire_frame::{PoolId, Vid, has_bit};
 /// Filtering; IEEE 802.1Q).
 #[derive(Drop)]
 pub struct VlanTable {
-    words: Words,
-    index: PoolIndex<64>,
+    table: KeyedTable<Words, 64>,
 }
 
 impl Model for VlanTable {
-    ghost use Rattle.pool_index.specs.Entries.{IsIndexOf};
-    ghost use Rattle.vlan_table.specs.Vlans.{Vlans, vlan_entries};
+    ghost use Rattle.vlan_table.specs.Vlans.{Vlans};
 
     ghost Value = { Vlans };
 
-    ghost view = { λ t. t.words };
-
-    ghost invariant = { λ t. IsIndexOf t.index 64 (vlan_entries t.words) };
+    ghost view = { λ t. t.table };
 }
 
 impl Default for VlanTable {
@@ -43,8 +39,7 @@ impl VlanTable {
         ensures { result ≡ initial_vlans }
     {
         VlanTable {
-            words: Words::new(),
-            index: PoolIndex::new(),
+            table: KeyedTable::new(Words::new()),
         }
     }
 
@@ -52,7 +47,7 @@ impl VlanTable {
     pub fn read(&self, offset: u32) -> Option<u32>
         ensures { result ≡ vlans_at self.now offset }
     {
-        self.words.read(offset)
+        self.table.words().read(offset)
     }
 
     /// Writes the word at an offset, of which it keeps the register's bits. Where the offset names no register of these
@@ -60,17 +55,7 @@ impl VlanTable {
     pub fn write(&mut self, offset: u32, value: u32)
         ensures { self.new ≡ vlans_after self.old offset value }
     {
-        let Some(e) = entry_of(offset) else {
-            self.words.write(offset, value);
-            return;
-        };
-        let former = self.words.entry_id(e);
-        self.words.write(offset, value);
-        let id = self.words.entry_id(e);
-        self.index.set(former, self.words.found(former));
-        if id != former {
-            self.index.set(id, self.words.found(id));
-        }
+        self.table.write(offset, value);
     }
 }
 
@@ -81,7 +66,7 @@ impl VlanTable {
     pub fn filtering(&self) -> bool
         ensures { result ≡ is_filtering self.now }
     {
-        self.words.filtering()
+        self.table.words().filtering()
     }
 
     /// The VLAN id that entry `e` gives the pool: `None` where the entry is not valid, does not have the pool's bit, or holds
@@ -93,7 +78,7 @@ impl VlanTable {
             ≡ (if entry_has_pool self.now pool e && has_bit_in self.now.table (entry_id self.now e)
             then Some (entry_id self.now e) else None) }
     {
-        self.words.id_for(pool, e)
+        self.table.words().id_for(pool, e)
     }
 
     /// The pools of an id, as [`VlanTable::pools_of`] gives them, and how many of the kept ids were compared with it, at
@@ -103,8 +88,8 @@ impl VlanTable {
         ensures pools { (p : ℕ) → p < 64 → has_bit result.0 p ≡ has_vlan self.now p id }
         ensures few { result.1 ≤ 7 }
     {
-        if self.words.in_table(id.get()) {
-            self.index.probe(u64::from(id.get()))
+        if self.table.words().in_table(id.get()) {
+            self.table.probe(u64::from(id.get()))
         } else {
             (0, 0)
         }

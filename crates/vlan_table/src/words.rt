@@ -1,12 +1,12 @@
 //! The words of the registers, and what they say.
-ghost use Rattle.std.specs.Prelude.{◌≡◌, ℕ, ◌/◌, ◌<◌, ◌==◌, ◌&&◌, true, Some, None, IfSome, slice_index, if◌then◌else◌};
-ghost use Rattle.wire_frame.specs.Bits.{has_bit, has_bit_in, two_words};
+ghost use Rattle.std.specs.Prelude.{◌≡◌, ◌/◌, ◌<◌, ◌&&◌, true, Some, None, IfSome, if◌then◌else◌};
+ghost use Rattle.wire_frame.specs.Bits.{has_bit_in};
 ghost use Rattle.wire_frame.specs.Row.{is_in, place};
-ghost use Rattle.pool_index.specs.Entries.{IsAnswer};
 ghost use Rattle.vlan_table.specs.Registers.{VLVF, VLVFB};
 ghost use Rattle.vlan_table.specs.Vlans.{initial_vlans, vlans_at, vlans_after, is_filtering, entry_id, entry_has_pool, vlan_entries};
 
 use crate::registers::{VALID, VFE, VFTA, VLNCTRL, VLNCTRL_KEPT, VLVF, VLVFB};
+use pool_index::KeyedWords;
 use std::marker::Model;
 use wire_frame::{PoolId, Vid, has_bit, pool_words, read_one, read_word, write_one, write_word};
 
@@ -58,18 +58,6 @@ impl Words {
             .or(read_word(&self.entries, VLVF, offset))
             .or(read_word(&self.pools, VLVFB, offset))
     }
-
-    /// Writes the word at an offset, of which it keeps the register's bits. Where the offset names no register of these
-    /// tables, nothing changes.
-    #[tactic(auto, unfolding(crate::specs::Vlans::vlans_after))]
-    pub(crate) fn write(&mut self, offset: u32, value: u32)
-        ensures { self.new ≡ vlans_after self.old offset value }
-    {
-        write_one(&mut self.control, VLNCTRL, VLNCTRL_KEPT, offset, value);
-        write_word(&mut self.table, VFTA, offset, value);
-        write_word(&mut self.entries, VLVF, offset, value);
-        write_word(&mut self.pools, VLVFB, offset, value);
-    }
 }
 
 /// VLAN control and the VLAN table.
@@ -94,86 +82,45 @@ impl Words {
     }
 }
 
-/// One entry.
-impl Words {
-    /// Whether an entry is valid.
+/// The entries, by their ids.
+impl KeyedWords<64> for Words {
+    ghost entries = { vlan_entries };
+
+    ghost after = { vlans_after };
+
     #[inline]
-    pub(crate) fn is_valid(&self, e: usize) -> bool
-        requires { e < 64 }
-        ensures { result ≡ has_bit (slice_index self.now.entries e) 31 }
-    {
+    fn is_valid(&self, e: usize) -> bool {
         has_bit(u64::from(self.entries[e]), VALID)
     }
 
-    /// The id of an entry.
     #[inline]
-    pub(crate) fn entry_id(&self, e: usize) -> u64
-        requires { e < 64 }
-        ensures { result ≡ entry_id self.now e }
-    {
+    fn key(&self, e: usize) -> u64 {
         u64::from(self.entries[e] % 4096)
     }
 
-    /// Whether an entry is valid and holds the id.
     #[inline]
-    pub(crate) fn holds(&self, e: usize, id: u64) -> bool
-        requires { e < 64 }
-        ensures { result
-            ≡ (has_bit (slice_index self.now.entries e) 31 && (entry_id self.now e == id)) }
-    {
-        self.is_valid(e) && self.entry_id(e) == id
-    }
-
-    /// The pools of an entry, as a mask with bit p for pool p.
-    #[inline]
-    pub(crate) fn entry_pools(&self, e: usize) -> u64
-        requires { e < 64 }
-        ensures { (p : ℕ) → p < 64 → has_bit result p ≡ has_bit_in (two_words self.now.pools e) p }
-    {
+    fn pools(&self, e: usize) -> u64 {
         pool_words(&self.pools, e)
     }
 
-    /// The id that the entry gives the pool: `None` where the entry is not valid, does not have the pool's bit, or holds an
-    /// id that the VLAN table does not have.
+    #[tactic(auto, unfolding(crate::specs::Vlans::vlans_after))]
+    fn write(&mut self, offset: u32, value: u32) {
+        write_one(&mut self.control, VLNCTRL, VLNCTRL_KEPT, offset, value);
+        write_word(&mut self.table, VFTA, offset, value);
+        write_word(&mut self.entries, VLVF, offset, value);
+        write_word(&mut self.pools, VLVFB, offset, value);
+    }
+
     #[inline]
-    pub(crate) fn id_for(&self, pool: PoolId, e: usize) -> Option<Vid>
-        requires { e < 64 }
-        ensures { result
-            ≡ (if entry_has_pool self.now pool e && has_bit_in self.now.table (entry_id self.now e)
-            then Some (entry_id self.now e) else None) }
-    {
-        let id = Vid::of_tag((self.entries[e] % 4096) as u16);
-        if self.is_valid(e)
-            && has_bit(self.entry_pools(e), u32::from(pool.get()))
-            && self.in_table(id.get())
-        {
-            Some(id)
-        } else {
-            None
-        }
+    fn entry_of(offset: u32) -> Option<usize> {
+        entry_at(offset)
     }
 }
 
-/// All entries.
-impl Words {
-    /// The pools of all valid entries that hold the id; `None` where no valid entry does. It looks at every entry.
-    pub(crate) fn found(&self, id: u64) -> Option<u64>
-        ensures { IsAnswer result 64 (vlan_entries self.now) id }
-    {
-        let mut found = None;
-        for e in 0..64 {
-            if self.holds(e, id) {
-                found = Some(found.unwrap_or(0) | self.entry_pools(e));
-            }
-        }
-        found
-    }
-}
-
-/// The entry of which the offset names a word, one of VLVF or VLVFB. An entry's word of VLVF stands in 4 bytes, and its two
-/// of VLVFB in 8.
+// The entry of which the offset names a word, one of VLVF or VLVFB. An entry's word of VLVF stands in 4 bytes, and its two
+// of VLVFB in 8.
 #[inline]
-pub(crate) fn entry_of(offset: u32) -> Option<usize>
+fn entry_at(offset: u32) -> Option<usize>
     ensures entries { is_in VLVF offset ≡ true → result ≡ Some (place VLVF offset) }
     ensures pools { is_in VLVFB offset ≡ true → result ≡ Some (place VLVFB offset / 2) }
     ensures below { IfSome result (λ e. e < 64) }
@@ -185,5 +132,28 @@ pub(crate) fn entry_of(offset: u32) -> Option<usize>
         Some(((offset - VLVF.first) / 4) as usize)
     } else {
         Some(((offset - VLVFB.first) / 8) as usize)
+    }
+}
+
+/// What an entry gives a pool.
+impl Words {
+    /// The id that the entry gives the pool: `None` where the entry is not valid, does not have the pool's bit, or holds an
+    /// id that the VLAN table does not have.
+    #[inline]
+    pub(crate) fn id_for(&self, pool: PoolId, e: usize) -> Option<Vid>
+        requires { e < 64 }
+        ensures { result
+            ≡ (if entry_has_pool self.now pool e && has_bit_in self.now.table (entry_id self.now e)
+            then Some (entry_id self.now e) else None) }
+    {
+        let id = Vid::of_tag((self.entries[e] % 4096) as u16);
+        if self.is_valid(e)
+            && has_bit(self.pools(e), u32::from(pool.get()))
+            && self.in_table(id.get())
+        {
+            Some(id)
+        } else {
+            None
+        }
     }
 }

@@ -6,9 +6,10 @@ use Rattle.std.proofs.lemmas.Bool.Decides.{nat_tests}
 use Rattle.std.proofs.lemmas.Bool.{eqb-false, cases_lt}
 use Rattle.std.proofs.Math.Bool.{or-true, or-false, or_assoc}
 use Rattle.std.proofs.lemmas.Nat.{or_shifted, or_comm, and_le_l}
-use Rattle.std.proofs.lemmas.Nat.Bits.{bit_at_or, bit_at_and, bit_at-lt, bit_at-zero, bit_at_ones, bit_at_set_same, bit_at_set_other, bit_at_clear_same, bit_at_clear_other, bit_at-trailing_zeros, bit_at_cat_low, bit_at_cat_high, shr_and_one}
+use Rattle.std.proofs.lemmas.Nat.Bits.{bit_at_or, bit_at_and, bit_at-lt, bit_at-zero, bit_at_above, bit_at_ones, bit_at_set_same, bit_at_set_other, bit_at_clear_same, bit_at_clear_other, bit_at-trailing_zeros, bit_at_cat_low, bit_at_cat_high, shr_and_one}
 use Rattle.std.proofs.lemmas.List.{get_or-set_same, get_or-set_other}
 use Rattle.wire_frame.specs.Bits.{has_bit, has_bit_in}
+use Rattle.wire_frame.specs.Pools.{IsLowestTaken}
 
 max-one : (x y : ℕ) → x < 2 → y < 2 → eqb (max x y) 1 ≡ (eqb x 1 || eqb y 1)
 max-one zero zero h k = refl
@@ -102,18 +103,18 @@ pub joined_more : (t : ℕ → Bool) (pools mask p n : ℕ) → has_bit pools p 
 joined_more t pools mask p n so_far entry =
     has_bit_or pools mask p ∙ ap (λ b. b || has_bit mask p) so_far ∙ ap (λ b. list_any t (range_with_len 0 n) || b) entry ∙ sym (list_any-range_more t n)
 
--- ---- a loop over the bits of a word, which takes the lowest from it at each turn
+-- ---- the lowest pool is taken from a set
 
--- a bit that is left after one was taken is another one, and was there before
-pub still_left : (rest p k : ℕ) → p < 64 → bit_at (bit_and rest (bit_not w64 (1 * 2 ^ p % 18446744073709551616))) k ≡ 1 → (k ≢ p) × (bit_at rest k ≡ 1)
-still_left rest p k within left =
-    let before : bit_at rest k ≡ 1 = omega (arith, left, bit_at_and rest (bit_not w64 (1 * 2 ^ p % 18446744073709551616)) k, bit_at-lt rest k) in
-    let other : k ≢ p = λ same. absurd (omega (arith, left, ap (bit_at (bit_and rest (bit_not w64 (1 * 2 ^ p % 18446744073709551616)))) same, bit_at_clear_same w64 rest p within)) in
-    (other, before)
-
--- once the lowest is taken, the word is smaller
-pub fewer_left : (rest : ℕ) → 0 < rest → rest < 2 ^ 64 → bit_and rest (bit_not w64 (1 * 2 ^ trailing_zeros w64 rest % 18446744073709551616)) < rest
-fewer_left rest some fits = smaller (eqb less rest) refl
+pub lowest_taken : (rest : ℕ) → 0 < rest → rest < 2 ^ 64
+    → IsLowestTaken rest (trailing_zeros w64 rest) (bit_and rest (bit_not w64 (1 * 2 ^ trailing_zeros w64 rest % 18446744073709551616)))
+lowest_taken rest some fits = record {
+  below = found.0;
+  there = found.1;
+  lowest = found.2;
+  gone = gone;
+  others = λ k other. others k other (ltb k 64) refl;
+  fewer = fewer (eqb less rest) refl;
+}
   where
     lowest : ℕ
     lowest = trailing_zeros w64 rest
@@ -121,21 +122,36 @@ fewer_left rest some fits = smaller (eqb less rest) refl
     less : ℕ
     less = bit_and rest (bit_not w64 (1 * 2 ^ lowest % 18446744073709551616))
 
-    smaller : (same : Bool) → eqb less rest ≡ same → less < rest
-    smaller true is =
-        let there = bit_at-trailing_zeros w64 rest some fits in
-        let cleared = bit_at_clear_same w64 rest lowest there.0 in
-        absurd (omega (arith, ap (λ n. bit_at n lowest) (eqb-true less rest is), there.1, cleared))
-    smaller false is = omega (arith, and_le_l rest (bit_not w64 (1 * 2 ^ lowest % 18446744073709551616)), eqb-false less rest is)
+    found : (lowest < 64) × (bit_at rest lowest ≡ 1) × ((k : ℕ) → k < lowest → bit_at rest k ≡ 0)
+    found = bit_at-trailing_zeros w64 rest some fits
 
--- what is done at the bit that is taken is done at one place more
-pub done_more : {X : Type 0} (f : ℕ → X) (xs : List X) (n rest p : ℕ) (x d : X) → p < 64 → n ≤ 64 → p < length xs → x ≡ f p
+    gone : bit_at less lowest ≡ 0
+    gone = bit_at_clear_same w64 rest lowest found.0
+
+    others : (k : ℕ) → k ≢ lowest → (inside : Bool) → ltb k 64 ≡ inside → bit_at less k ≡ bit_at rest k
+    others k other true is = bit_at_clear_other w64 rest lowest found.0 k (grind (arith, nat_tests)) other
+    others k other false is =
+        let none : bit_at rest k ≡ 0 = bit_at_above rest 64 k fits (grind (arith, nat_tests)) in
+        omega (arith, none, bit_at_and rest (bit_not w64 (1 * 2 ^ lowest % 18446744073709551616)) k)
+
+    fewer : (same : Bool) → eqb less rest ≡ same → less < rest
+    fewer true is = absurd (omega (arith, ap (λ n. bit_at n lowest) (eqb-true less rest is), found.1, gone))
+    fewer false is = omega (arith, and_le_l rest (bit_not w64 (1 * 2 ^ lowest % 18446744073709551616)), eqb-false less rest is)
+
+-- a pool that is left after one was taken is another one, and was there before
+pub still_left : (rest p after k : ℕ) → IsLowestTaken rest p after → bit_at after k ≡ 1 → (k ≢ p) × (bit_at rest k ≡ 1)
+still_left rest p after k taken left =
+    let other : k ≢ p = λ same. absurd (omega (arith, left, ap (bit_at after) same, taken.gone)) in
+    (other, sym (taken.others k other) ∙ left)
+
+-- what is done at the pool that is taken is done at one place more
+pub done_more : {X : Type 0} (f : ℕ → X) (xs : List X) (n rest p after : ℕ) (x d : X) → IsLowestTaken rest p after → p < length xs → x ≡ f p
     → ((k : ℕ) → k < n → bit_at rest k ≡ 0 → get_or xs k d ≡ f k)
-    → (k : ℕ) → k < n → bit_at (bit_and rest (bit_not w64 (1 * 2 ^ p % 18446744073709551616))) k ≡ 0 → get_or (set xs p x) k d ≡ f k
-done_more f xs n rest p x d within few there is done k below left = at (eqb k p) refl
+    → (k : ℕ) → k < n → bit_at after k ≡ 0 → get_or (set xs p x) k d ≡ f k
+done_more f xs n rest p after x d taken there is done k below left = at (eqb k p) refl
   where
     at : (same : Bool) → eqb k p ≡ same → get_or (set xs p x) k d ≡ f k
     at true e = let here : k ≡ p = eqb-true k p e in rw here (get_or-set_same xs p x d there ∙ is)
     at false e =
         let elsewhere : k ≢ p = eqb-false k p e in
-        get_or-set_other xs p k x d elsewhere ∙ done k below (sym (bit_at_clear_other w64 rest p within k (omega arith) elsewhere) ∙ left)
+        get_or-set_other xs p k x d elsewhere ∙ done k below (sym (taken.others k elsewhere) ∙ left)

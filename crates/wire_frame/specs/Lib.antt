@@ -3,4 +3,5 @@ pub mod Apart
 pub mod Bits
 pub mod Fault
 pub mod Frame
+pub mod Pools
 pub mod Row

@@ -7,7 +7,8 @@ use lib.ListN.{get_elem?}
 use Rattle.atomic_table.proofs.Lists.{at_set}
 use Rattle.crossbeam_channel.specs.Fifo.{Pushes, Pops, Forks, Merges, Learns}
 use Rattle.device.specs.declared.event.Event.{Event}
-use Rattle.device.specs.declared.event.Event.TheVariants.{Open, End, VfRead, VfWrite, MemRead, MemWrite, Serve, Flr, PfRead, PfWrite, PfReset, Wire}
+use Rattle.history.specs.declared.caller.Caller.{Caller}
+use Rattle.history.specs.declared.caller.Caller.TheVariants.{Pump}
 use Rattle.recorder.specs.Callers.{may}
 use Rattle.wire_pump.specs.declared.message.WireMsg.{WireMsg}
 use Rattle.wire_pump.specs.declared.message.WireMsg.TheVariants.{Frame, Last}
@@ -194,16 +195,5 @@ pub all_once_ended : (sent received under_way : List WireMsg) → sent ≡ recei
 all_once_ended sent received more is p e = is ∙ ended_alone received more (subst (λ (xs : List WireMsg). is_proper xs ≡ true) is p) e
 
 -- the pump may ask for a frame from the wire
-pub pump_may : (c : ℕ) (e : Event) → c ≡ 65 → is_wire e ≡ true → may c e ≡ true
-pump_may c (Wire frame) is wire = ap (λ (n : ℕ). may n (Wire frame)) is
-pump_may c (Open p) is wire = absurd (off wire)
-pump_may c (End p) is wire = absurd (off wire)
-pump_may c (VfRead p offset) is wire = absurd (off wire)
-pump_may c (VfWrite p offset x) is wire = absurd (off wire)
-pump_may c (MemRead p at count) is wire = absurd (off wire)
-pump_may c (MemWrite p at bytes) is wire = absurd (off wire)
-pump_may c (Serve p q) is wire = absurd (off wire)
-pump_may c (Flr p) is wire = absurd (off wire)
-pump_may c (PfRead offset) is wire = absurd (off wire)
-pump_may c (PfWrite offset x) is wire = absurd (off wire)
-pump_may c PfReset is wire = absurd (off wire)
+pub pump_may : (c : Caller) (e : Event) → c ≡ Pump → is_wire e ≡ true → may c e ≡ true
+pump_may c e is wire = ap (λ (n : Caller). may n e) is ∙ wire

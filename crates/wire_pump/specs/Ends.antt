@@ -6,6 +6,7 @@ use Rattle.crossbeam_channel.specs.Claims.{Pass, view}
 use Rattle.crossbeam_channel.specs.declared.flavors.array.Key.{Key}
 use Rattle.device.specs.declared.event.Event.{Event}
 use Rattle.device.specs.declared.event.Event.TheVariants.{Wire}
+use Rattle.recorder.specs.Callers.{is_frame}
 use Rattle.wire_pump.specs.declared.message.WireMsg.{WireMsg}
 use Rattle.wire_pump.specs.declared.message.WireMsg.TheVariants.{Frame, Last as LastMsg}
 use Rattle.wire_pump.specs.declared.flow.Hand.{Hand}
@@ -42,8 +43,7 @@ pub record ReceiveEnd : Type 0 where
 
 -- whether an event is a frame that comes from the wire
 abbrev pub is_wire : Event → Bool
-is_wire (Wire frame) = true
-is_wire _ = false
+is_wire event = is_frame event
 
 -- the frame of such an event
 abbrev pub frame_in : Event → List ℕ

@@ -1,5 +1,6 @@
 //! The door to a device that threads share.
 ghost use Rattle.std.specs.Prelude.{◌≡◌};
+ghost use Rattle.history.specs.declared.caller.Caller.TheVariants.{Pump};
 
 use crate::pumping::Door;
 use device::{Answer, Event, Request};
@@ -26,16 +27,17 @@ impl<M: GuestMem, L: Ledger> Model for LockedDoor<M, L> {
     ghost Value = { Mine };
 
     ghost use Rattle.std.specs.Prelude.{◌≡◌};
+    ghost use Rattle.history.specs.declared.caller.Caller.TheVariants.{Pump};
 
     ghost view = { λ d. d.share };
 
-    ghost invariant = { λ d. d.share.caller ≡ 65 };
+    ghost invariant = { λ d. d.share.caller ≡ Pump };
 }
 
 impl<M: GuestMem, L: Ledger> LockedDoor<M, L> {
     /// A door with the share, which is the pump's.
     pub fn new(device: Arc<LockedDevice<M, L>>, share: Share<L>) -> LockedDoor<M, L>
-        requires pump { share.caller ≡ 65 }
+        requires pump { share.caller ≡ Pump }
         ensures { result ≡ share }
     {
         LockedDoor {
@@ -48,7 +50,7 @@ impl<M: GuestMem, L: Ledger> LockedDoor<M, L> {
     /// The share, after all that the door took.
     pub fn into_share(self) -> Share<L>
         ensures share { result ≡ self }
-        ensures pump { result.caller ≡ 65 }
+        ensures pump { result.caller ≡ Pump }
     {
         let LockedDoor { share, .. } = self;
         share

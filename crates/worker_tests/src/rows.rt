@@ -3,7 +3,7 @@ ghost use Rattle.std.specs.Prelude.{◌≡◌};
 
 use crate::stage::{Seen, Setting, done, ran, setting_of};
 use device::{Event, Reply};
-use device_lock::{LockedDevice, SERVICE, Share};
+use device_lock::{Caller, LockedDevice, Share};
 use guest_memory::FlatMem;
 use lock_support::answer;
 use log::sink::Discard;
@@ -118,7 +118,7 @@ fn open_after<L: Ledger + Send + Sync + 'static, R: Threads + Wait + Copy + Send
     )?;
     let mut open = [None; 3];
     for mut share in ended.shares {
-        if share.caller() == SERVICE {
+        if share.caller() == Caller::Service.number() {
             open = [
                 is_open(&rt, &*device, &mut share, 0),
                 is_open(&rt, &*device, &mut share, 1),

@@ -1,5 +1,6 @@
 //! A script that is done by workers, and what is seen of it; and a device whose function 3 is set up, with its port.
 ghost use Rattle.std.specs.Prelude.{◌≡◌, []};
+ghost use Rattle.history.specs.declared.caller.Caller.TheVariants.{Pump, Service};
 
 use device_lock::{LockedDevice, Shares};
 use guest_memory::FlatMem;
@@ -126,8 +127,8 @@ fn seated<L: Ledger>(
     Some(ports)
 }
 
-// A script that is whole.
-fn read(alloc: Global, text: &str) -> Result<Script, Fault> {
+/// A script that is whole.
+pub fn read(alloc: Global, text: &str) -> Result<Script, Fault> {
     match Script::read(alloc, &mut text.as_bytes()) {
         Ok(script) => Ok(script),
         Err(script::Fault::NoMemory) => Err(Fault::NoMemory),
@@ -194,7 +195,7 @@ pub fn done<
     let (device, ended) = ran::<L, G, R, O>(rt, log, alloc, blank, setting, text, gate)?;
     let count = ended.shares.len();
     let Some(tally) = device.tally(&rt, ended.shares) else {
-        return Err(Fault::NoMemory);
+        return Err(Fault::BadMake);
     };
     let entries = tally.entries;
     Ok(Seen {
@@ -220,7 +221,7 @@ pub struct Begun<L: Ledger> {
     pub shares: Shares<L>,
     pub port: Port<L>,
     pub note: EndNote,
-    pub ghost callers: { (shares.pump.caller ≡ 65) × (shares.service.caller ≡ 66) },
+    pub ghost callers: { (shares.pump.caller ≡ Pump) × (shares.service.caller ≡ Service) },
 }
 
 /// Does the set-up, of which 40 calls are kept at most, and gives the device the port of pool 3.

@@ -10,12 +10,12 @@ use Rattle.device.specs.declared.event.Answer.{Answer}
 use Rattle.device.specs.declared.taken.Taken.{Taken}
 use Rattle.device.specs.Outcome.{reply_by}
 use Rattle.device.specs.World.{World, step}
+use Rattle.history.specs.declared.caller.Caller.TheVariants.{Pump}
 use Rattle.history.specs.Entries.{Entry, entry, events}
 use Rattle.recorder.specs.Held.{HasAsked, Mine, having_asked}
 use Rattle.recorder.specs.Read.{answer_with}
 use Rattle.wire_pump.specs.Doors.{StandFirst}
 use Rattle.workers.specs.Asked.{HasLeft, HasTold}
-use Rattle.workers.specs.Callers.{pump}
 
 pub asked_none : (m : Mine) → HasAsked [] m m
 asked_none m = record { calls = []; events = refl; more = ap (λ (xs : List Entry). record { caller = m.caller; asked = xs }) (sym (append-nil m.asked)) }
@@ -42,6 +42,13 @@ pub told_more : (es : List Event) (k : ℕ) (e : Event) (reply : Reply) (m old n
     → HasAsked (take (k + 1) es) m new
 told_more es k e reply m old new less is before told = asked_more es k e m old new less is before (asked_one e reply old new told)
 
+-- the same of the event at a turn
+pub asked_turn : (es : List Event) (k : ℕ) (m old new : Mine) → k < length es → HasAsked (take k es) m old → HasAsked (slice_index_or es k PfReset ∷ []) old new → HasAsked (take (k + 1) es) m new
+asked_turn es k m old new less before more = asked_more es k (slice_index_or es k PfReset) m old new less refl before more
+
+pub told_one : (e at : Event) (reply : Reply) (old new : Mine) → e ≡ at → HasTold e reply old new → HasAsked (at ∷ []) old new
+told_one e at reply old new is told = subst (λ (x : Event). HasAsked (x ∷ []) old new) is (asked_one e reply old new told)
+
 -- the share is its caller's still
 pub same_caller : (es : List Event) (old new : Mine) → HasAsked es old new → new.caller ≡ old.caller
 same_caller es old new asked = ap (λ (m : Mine). m.caller) asked.more
@@ -67,7 +74,7 @@ pub first_same : (old new : List Entry) → new ≡ old → StandFirst old new
 first_same old new same = ap (take (length old)) same ∙ take-length old
 
 -- what the pump's door took, its share asked
-pub door_asked : (es : List Event) (before : List Entry) (new : Mine) → new.caller ≡ pump → events new.asked ≡ events before ++ es → StandFirst before new.asked → HasAsked es (record { caller = pump; asked = before }) new
+pub door_asked : (es : List Event) (before : List Entry) (new : Mine) → new.caller ≡ Pump → events new.asked ≡ events before ++ es → StandFirst before new.asked → HasAsked es (record { caller = Pump; asked = before }) new
 door_asked es before new is taken first =
     let calls : List Entry = drop (length before) new.asked in
     let more : new.asked ≡ before ++ calls = sym (take-append-drop (length before) new.asked) ∙ ap (λ (xs : List Entry). xs ++ calls) first in

@@ -1,17 +1,19 @@
 -- Events before `go`: what they add to the shares, and what they leave open.
-use Rattle.std.proofs.Common.{◌≡◌, ◌≢◌, ℕ, ◌+◌, ◌<◌, ◌==◌, Bool, List, [], ◌∷◌, ◌++◌, length, take, refl, sym, ap, ◌∙◌, subst, append_assoc}
+use Rattle.std.proofs.Common.{◌≡◌, ◌≢◌, ℕ, ◌+◌, ◌<◌, Bool, List, [], ◌∷◌, ◌++◌, length, take, refl, sym, ap, ◌∙◌, subst, append_assoc}
 use Rattle.std.specs.Prelude.{MatchOption, None, Option, Some, slice_index_or, unwrap_or}
 use Rattle.std.proofs.lemmas.List.{append-nil, map-append, take_more}
 use Rattle.std.proofs.lemmas.List.Elements.{All-append, All-nil, All-push, filter-append}
 use Rattle.device.specs.declared.event.Event.{Event}
 use Rattle.device.specs.declared.event.Event.TheVariants.{Open, End, VfRead, VfWrite, MemRead, MemWrite, Serve, Flr, PfRead, PfWrite, PfReset, Wire}
 use Rattle.device.specs.declared.event.Reply.{Reply}
+use Rattle.history.specs.declared.caller.Caller.{Caller}
+use Rattle.history.specs.declared.caller.Caller.TheVariants.{Driver, Service}
 use Rattle.history.specs.Entries.{Entry, entry}
 use Rattle.recorder.specs.declared.shares.Shares.{Shares}
 use Rattle.recorder.specs.Held.{Mine, having_calls}
 use Rattle.script.specs.Reading.{Meaning}
 use Rattle.workers.specs.Asked.{HasTold}
-use Rattle.workers.specs.Callers.{caller_before, pf, service}
+use Rattle.workers.specs.Callers.{caller_before, is_same}
 use Rattle.workers.specs.Counts.{HasRecorded, HaveKept, HaveRecorded, IsFirst, made_by}
 use Rattle.workers.specs.Opens.{HaveLeft, IsPrepared, all_closed, opened, opened_after, pools_from}
 
@@ -20,18 +22,18 @@ use Rattle.workers.specs.Opens.{HaveLeft, IsPrepared, all_closed, opened, opened
 made_none : (m : Mine) → having_calls [] m ≡ m
 made_none m = ap (λ (xs : List Entry). record { caller = m.caller; asked = xs }) (append-nil m.asked)
 
-made_more : (c : ℕ) (calls more : List Entry) (old mid new : Mine) → mid ≡ having_calls (made_by c calls) old → new ≡ having_calls (made_by c more) mid
+made_more : (c : Caller) (calls more : List Entry) (old mid new : Mine) → mid ≡ having_calls (made_by c calls) old → new ≡ having_calls (made_by c more) mid
     → new ≡ having_calls (made_by c (calls ++ more)) old
 made_more c calls more old mid new before after =
     after ∙ ap (having_calls (made_by c more)) before
     ∙ ap (λ (xs : List Entry). record { caller = old.caller; asked = xs })
-    (append_assoc old.asked (made_by c calls) (made_by c more) ∙ ap (λ (xs : List Entry). old.asked ++ xs) (sym (filter-append (λ (call : Entry). call.caller == c) calls more)))
+    (append_assoc old.asked (made_by c calls) (made_by c more) ∙ ap (λ (xs : List Entry). old.asked ++ xs) (sym (filter-append (λ (call : Entry). is_same call.caller c) calls more)))
 
 kept_more : {L : Type 0} (calls more : List Entry) (old mid new : Shares L) → HaveKept calls old mid → HaveKept more mid new → HaveKept (calls ++ more) old new
 kept_more calls more old mid new before after = record {
   first = All-append IsFirst calls more before.first after.first;
-  pf = made_more pf calls more old.pf mid.pf new.pf before.pf after.pf;
-  service = made_more service calls more old.service mid.service new.service before.service after.service;
+  pf = made_more Driver calls more old.pf mid.pf new.pf before.pf after.pf;
+  service = made_more Service calls more old.service mid.service new.service before.service after.service;
   pump = after.pump ∙ before.pump;
   ports = after.ports ∙ before.ports;
 }
@@ -106,13 +108,13 @@ prepared_go script go pools left old new is listed all = record {
 -- ---- one event
 
 -- the driver's call, or the service's
-pub recorded_pf : {L : Type 0} (e : Event) (reply : Reply) (old new : Shares L) → caller_before e ≡ pf → old.pf.caller ≡ pf → HasTold e reply old.pf new.pf → new.service ≡ old.service → new.pump ≡ old.pump → new.ports ≡ old.ports
+pub recorded_pf : {L : Type 0} (e : Event) (reply : Reply) (old new : Shares L) → caller_before e ≡ Driver → old.pf.caller ≡ Driver → HasTold e reply old.pf new.pf → new.service ≡ old.service → new.pump ≡ old.pump → new.ports ≡ old.ports
     → HasRecorded e reply old new
 recorded_pf e reply old new is own told service_same pump_same ports_same = record {
   answer = told.answer;
-  kept = subst (λ (c : ℕ). HaveKept (entry c e told.answer ∷ []) old new) (sym is) (record {
-    first = All-push IsFirst [] (entry pf e told.answer) (All-nil IsFirst) (sym is, told.given);
-    pf = told.kept ∙ ap (λ (c : ℕ). record { caller = old.pf.caller; asked = old.pf.asked ++ entry c e told.answer ∷ [] }) own;
+  kept = subst (λ (c : Caller). HaveKept (entry c e told.answer ∷ []) old new) (sym is) (record {
+    first = All-push IsFirst [] (entry Driver e told.answer) (All-nil IsFirst) (sym is, told.given);
+    pf = told.kept ∙ ap (λ (c : Caller). record { caller = old.pf.caller; asked = old.pf.asked ++ entry c e told.answer ∷ [] }) own;
     service = service_same ∙ sym (made_none old.service);
     pump = pump_same;
     ports = ports_same;
@@ -120,7 +122,7 @@ recorded_pf e reply old new is own told service_same pump_same ports_same = reco
   told = told.told;
 }
 
-is_pf_or_service : (e : Event) → caller_before e ≢ pf → caller_before e ≡ service
+is_pf_or_service : (e : Event) → caller_before e ≢ Driver → caller_before e ≡ Service
 is_pf_or_service (Open p) other = refl
 is_pf_or_service (End p) other = refl
 is_pf_or_service (VfRead p offset) other = refl
@@ -134,20 +136,20 @@ is_pf_or_service (PfWrite offset x) other = absurd (other refl)
 is_pf_or_service PfReset other = absurd (other refl)
 is_pf_or_service (Wire frame) other = refl
 
-by_service : {L : Type 0} (e : Event) (reply : Reply) (old new : Shares L) → caller_before e ≡ service → old.service.caller ≡ service → HasTold e reply old.service new.service → new.pf ≡ old.pf → new.pump ≡ old.pump
+by_service : {L : Type 0} (e : Event) (reply : Reply) (old new : Shares L) → caller_before e ≡ Service → old.service.caller ≡ Service → HasTold e reply old.service new.service → new.pf ≡ old.pf → new.pump ≡ old.pump
     → new.ports ≡ old.ports → HasRecorded e reply old new
 by_service e reply old new is own told pf_same pump_same ports_same = record {
   answer = told.answer;
-  kept = subst (λ (c : ℕ). HaveKept (entry c e told.answer ∷ []) old new) (sym is) (record {
-    first = All-push IsFirst [] (entry service e told.answer) (All-nil IsFirst) (sym is, told.given);
+  kept = subst (λ (c : Caller). HaveKept (entry c e told.answer ∷ []) old new) (sym is) (record {
+    first = All-push IsFirst [] (entry Service e told.answer) (All-nil IsFirst) (sym is, told.given);
     pf = pf_same ∙ sym (made_none old.pf);
-    service = told.kept ∙ ap (λ (c : ℕ). record { caller = old.service.caller; asked = old.service.asked ++ entry c e told.answer ∷ [] }) own;
+    service = told.kept ∙ ap (λ (c : Caller). record { caller = old.service.caller; asked = old.service.asked ++ entry c e told.answer ∷ [] }) own;
     pump = pump_same;
     ports = ports_same;
   });
   told = told.told;
 }
 
-pub recorded_service : {L : Type 0} (e : Event) (reply : Reply) (old new : Shares L) → caller_before e ≢ pf → old.service.caller ≡ service → HasTold e reply old.service new.service → new.pf ≡ old.pf → new.pump ≡ old.pump
+pub recorded_service : {L : Type 0} (e : Event) (reply : Reply) (old new : Shares L) → caller_before e ≢ Driver → old.service.caller ≡ Service → HasTold e reply old.service new.service → new.pf ≡ old.pf → new.pump ≡ old.pump
     → new.ports ≡ old.ports → HasRecorded e reply old new
 recorded_service e reply old new other own told pf_same pump_same ports_same = by_service e reply old new (is_pf_or_service e other) own told pf_same pump_same ports_same

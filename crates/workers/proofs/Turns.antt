@@ -1,18 +1,20 @@
 -- What a caller's own events are: those that it may make, and what comes of them all.
-use Rattle.std.proofs.Common.{◌≡◌, ℕ, ◌<◌, ◌≤◌, ◌==◌, ◌||◌, Bool, true, false, not, nat_lt, nat_le, List, [], ◌∷◌, ◌++◌, ◌+◌, length, take, drop, if◌then◌else◌, refl, sym, ap, ◌∙◌, subst, arith}
+use Rattle.std.proofs.Common.{◌≡◌, ◌≢◌, ℕ, ◌<◌, ◌≤◌, Bool, true, false, not, nat_le, List, [], ◌∷◌, ◌++◌, ◌+◌, length, take, drop, if◌then◌else◌, refl, sym, ap, ◌∙◌, subst, arith}
 use Rattle.std.specs.Prelude.{slice_index_or}
-use Rattle.std.proofs.lemmas.Bool.{eqb-true, false≢true}
+use Rattle.std.proofs.lemmas.Bool.{eq-eqb, eqb-true, false≢true}
 use Rattle.std.proofs.lemmas.Bool.Decides.{nat_tests}
 use Rattle.std.proofs.lemmas.List.{get_or_past, take_more}
 use Rattle.std.proofs.lemmas.List.Elements.{filter_passes}
 use Rattle.device.specs.declared.event.Event.{Event}
 use Rattle.device.specs.declared.event.Event.TheVariants.{Open, End, VfRead, VfWrite, MemRead, MemWrite, Serve, Flr, PfRead, PfWrite, PfReset, Wire}
-use Rattle.recorder.specs.Callers.{may, is_port, is_pf, is_pump, is_service}
+use Rattle.history.specs.declared.caller.Caller.{Caller}
+use Rattle.history.specs.declared.caller.Caller.TheVariants.{Port, Driver, Pump, Service}
+use Rattle.recorder.specs.Callers.{may}
 use Rattle.recorder.specs.Read.{bytes_asked}
-use Rattle.workers.specs.Callers.{caller_before, caller_of, port_or_service}
+use Rattle.workers.specs.Callers.{caller_before, caller_of, is_port, is_same, port_or_service}
 use Rattle.device.specs.declared.event.Reply.{Reply}
 use Rattle.guest_port.specs.Calls.{CallingPort, HasCalled}
-use Rattle.guest_port.specs.Port.{Port, closed}
+use Rattle.guest_port.specs.Port.{closed, Port as GuestsPort}
 use Rattle.workers.specs.Calls.{HasClosed, HasDone, HasDoneAll, HasMade, IsPortEvent}
 use Rattle.workers.specs.Plans.{Planned, own_events, start_of}
 
@@ -32,76 +34,111 @@ may_before (PfWrite offset x) = refl
 may_before PfReset = refl
 may_before (Wire frame) = refl
 
+-- ---- callers among each other
+
+pub same_refl : (c : Caller) → is_same c c ≡ true
+same_refl (Port p) = eq-eqb p p refl
+same_refl Driver = refl
+same_refl Pump = refl
+same_refl Service = refl
+
+pub same_is : (a b : Caller) → is_same a b ≡ true → a ≡ b
+same_is (Port p) (Port q) is = ap Port (eqb-true p q is)
+same_is (Port p) Driver is = absurd (false≢true is)
+same_is (Port p) Pump is = absurd (false≢true is)
+same_is (Port p) Service is = absurd (false≢true is)
+same_is Driver (Port q) is = absurd (false≢true is)
+same_is Driver Driver is = refl
+same_is Driver Pump is = absurd (false≢true is)
+same_is Driver Service is = absurd (false≢true is)
+same_is Pump (Port q) is = absurd (false≢true is)
+same_is Pump Driver is = absurd (false≢true is)
+same_is Pump Pump is = refl
+same_is Pump Service is = absurd (false≢true is)
+same_is Service (Port q) is = absurd (false≢true is)
+same_is Service Driver is = absurd (false≢true is)
+same_is Service Pump is = absurd (false≢true is)
+same_is Service Service is = refl
+
+pub apart : (a b : Caller) → is_same a b ≡ false → a ≢ b
+apart a b other is = false≢true (sym other ∙ (ap (is_same a) (sym is) ∙ same_refl a))
+
+pub differ : (a b : Caller) → a ≢ b → is_same a b ≡ false
+differ a b other = go (is_same a b) refl
+  where
+    go : (same : Bool) → is_same a b ≡ same → is_same a b ≡ false
+    go true is = absurd (other (same_is a b is))
+    go false is = is
+
 -- ---- events after `go`
 
+-- a pool of which none is a port is done by the service
+pub no_pool : (ports : List Bool) (p : ℕ) → length ports ≤ p → port_or_service ports p ≡ Service
+no_pool ports p past = ap (λ (has : Bool). if has then Port p else Service) (get_or_past ports p false past)
+
+-- the pool of a port
+abbrev pool_in : Caller → ℕ
+pool_in (Port p) = p
+pool_in _ = 0
+
 -- a pool whose caller is a port is that port's
-own_pool : (ports : List Bool) (q p : ℕ) → p < 64 → port_or_service ports q ≡ p → q ≡ p
-own_pool ports q p below is = go (slice_index_or ports q false) refl
+own_pool : (ports : List Bool) (q p : ℕ) → port_or_service ports q ≡ Port p → q ≡ p
+own_pool ports q p is = go (slice_index_or ports q false) refl
   where
     go : (has : Bool) → slice_index_or ports q false ≡ has → q ≡ p
-    go true is-true = rw is-true at is
-    go false is-false = let other : 66 ≡ p = rw is-false at is in absurd (omega (arith, other))
+    go true is-true = let same : Port q ≡ Port p = rw is-true at is in ap pool_in same
+    go false is-false = let same : Service ≡ Port p = rw is-false at is in absurd (apart Service (Port p) refl same)
 
-pub port_event : (ports : List Bool) (e : Event) (p : ℕ) → p < 64 → caller_of ports e ≡ p → IsPortEvent p e
-port_event ports (Open q) p below is = absurd (omega (arith, is))
-port_event ports (End q) p below is = own_pool ports q p below is
-port_event ports (VfRead q offset) p below is = own_pool ports q p below is
-port_event ports (VfWrite q offset x) p below is = own_pool ports q p below is
-port_event ports (MemRead q at count) p below is = own_pool ports q p below is
-port_event ports (MemWrite q at bytes) p below is = own_pool ports q p below is
-port_event ports (Serve q n) p below is = absurd (omega (arith, is))
-port_event ports (Flr q) p below is = own_pool ports q p below is
-port_event ports (PfRead offset) p below is = absurd (omega (arith, is))
-port_event ports (PfWrite offset x) p below is = absurd (omega (arith, is))
-port_event ports PfReset p below is = absurd (omega (arith, is))
-port_event ports (Wire frame) p below is = absurd (omega (arith, is))
+pub port_event : (ports : List Bool) (e : Event) (p : ℕ) → caller_of ports e ≡ Port p → IsPortEvent p e
+port_event ports (Open q) p is = absurd (apart Service (Port p) refl is)
+port_event ports (End q) p is = own_pool ports q p is
+port_event ports (VfRead q offset) p is = own_pool ports q p is
+port_event ports (VfWrite q offset x) p is = own_pool ports q p is
+port_event ports (MemRead q at count) p is = own_pool ports q p is
+port_event ports (MemWrite q at bytes) p is = own_pool ports q p is
+port_event ports (Serve q n) p is = absurd (apart Service (Port p) refl is)
+port_event ports (Flr q) p is = own_pool ports q p is
+port_event ports (PfRead offset) p is = absurd (apart Driver (Port p) refl is)
+port_event ports (PfWrite offset x) p is = absurd (apart Driver (Port p) refl is)
+port_event ports PfReset p is = absurd (apart Driver (Port p) refl is)
+port_event ports (Wire frame) p is = absurd (apart Pump (Port p) refl is)
 
 -- a caller's own event is the caller's
-pub own_at : (plan : Planned) (c k : ℕ) → k < length (own_events plan c) → caller_of plan.ports (slice_index_or (own_events plan c) k PfReset) ≡ c
+pub own_at : (plan : Planned) (c : Caller) (k : ℕ) → k < length (own_events plan c) → caller_of plan.ports (slice_index_or (own_events plan c) k PfReset) ≡ c
 unfolding own_events
 own_at plan c k inside =
-    eqb-true _ _ (filter_passes (λ e. caller_of plan.ports e == c) (drop (start_of plan) plan.events) k PfReset inside)
+    same_is (caller_of plan.ports (slice_index_or (own_events plan c) k PfReset)) c (filter_passes (λ e. is_same (caller_of plan.ports e) c) (drop (start_of plan) plan.events) k PfReset inside)
 
-pub own_port_event : (plan : Planned) (turn p : ℕ) (e : Event) → p < 64 → turn < length (own_events plan p) → e ≡ slice_index_or (own_events plan p) turn PfReset → IsPortEvent p e
-own_port_event plan turn p e below inside is = subst (IsPortEvent p) (sym is) (port_event plan.ports _ p below (own_at plan p turn inside))
+pub own_port_event : (plan : Planned) (turn p : ℕ) (c : Caller) (e : Event) → c ≡ Port p → turn < length (own_events plan c) → e ≡ slice_index_or (own_events plan c) turn PfReset → IsPortEvent p e
+own_port_event plan turn p c e port inside is = subst (IsPortEvent p) (sym is) (port_event plan.ports _ p (own_at plan c turn inside ∙ port))
 
--- a pool that has a port is one of 64
-port_below : (ports : List Bool) (q : ℕ) → length ports ≡ 64 → slice_index_or ports q false ≡ true → q < 64
-port_below ports q many has = go (nat_lt q 64) refl
+-- what a guest may do is another's only where it is the service's
+pub not_port : (ports : List Bool) (q : ℕ) (c : Caller) → is_port c ≡ false → port_or_service ports q ≡ c → c ≡ Service
+not_port ports q c other is = go (slice_index_or ports q false) refl
   where
-    go : (less : Bool) → nat_lt q 64 ≡ less → q < 64
-    go true is-true = grind (arith, nat_tests)
-    go false is-false = absurd (false≢true (sym (get_or_past ports q false (grind (arith, nat_tests, many))) ∙ has))
+    go : (has : Bool) → slice_index_or ports q false ≡ has → c ≡ Service
+    go true is-true = let same : Port q ≡ c = rw is-true at is in absurd (false≢true (sym other ∙ ap is_port (sym same)))
+    go false is-false = let same : Service ≡ c = rw is-false at is in sym same
 
-pub not_port : (ports : List Bool) (q c : ℕ) → length ports ≡ 64 → 64 ≤ c → port_or_service ports q ≡ c → c ≡ 66
-not_port ports q c many high is = go (slice_index_or ports q false) refl
-  where
-    go : (has : Bool) → slice_index_or ports q false ≡ has → c ≡ 66
-    go true is-true = let same : q ≡ c = rw is-true at is in let low = port_below ports q many is-true in absurd (omega (arith, same, low))
-    go false is-false = sym (rw is-false at is)
+driver_may : (ports : List Bool) (e : Event) (c : Caller) → is_port c ≡ false → caller_of ports e ≡ c → may c e ≡ true
+driver_may ports (Open q) c other is = ap (λ (n : Caller). may n (Open q)) (sym is)
+driver_may ports (End q) c other is = ap (λ (n : Caller). may n (End q)) (not_port ports q c other is)
+driver_may ports (VfRead q offset) c other is = ap (λ (n : Caller). may n (VfRead q offset)) (not_port ports q c other is)
+driver_may ports (VfWrite q offset x) c other is = ap (λ (n : Caller). may n (VfWrite q offset x)) (not_port ports q c other is)
+driver_may ports (MemRead q at count) c other is = ap (λ (n : Caller). may n (MemRead q at count)) (not_port ports q c other is)
+driver_may ports (MemWrite q at bytes) c other is = ap (λ (n : Caller). may n (MemWrite q at bytes)) (not_port ports q c other is)
+driver_may ports (Serve q n) c other is = ap (λ (x : Caller). may x (Serve q n)) (sym is)
+driver_may ports (Flr q) c other is = ap (λ (n : Caller). may n (Flr q)) (not_port ports q c other is)
+driver_may ports (PfRead offset) c other is = ap (λ (n : Caller). may n (PfRead offset)) (sym is)
+driver_may ports (PfWrite offset x) c other is = ap (λ (n : Caller). may n (PfWrite offset x)) (sym is)
+driver_may ports PfReset c other is = ap (λ (n : Caller). may n PfReset) (sym is)
+driver_may ports (Wire frame) c other is = ap (λ (n : Caller). may n (Wire frame)) (sym is)
 
-service_may_port : (c p : ℕ) → c ≡ 66 → (is_port c p || is_service c) ≡ true
-service_may_port c p is = grind (arith, nat_tests)
+pub own_may : (plan : Planned) (turn : ℕ) (c : Caller) (e : Event) → is_port c ≡ false → turn < length (own_events plan c) → e ≡ slice_index_or (own_events plan c) turn PfReset → may c e ≡ true
+own_may plan turn c e other inside is = subst (λ (x : Event). may c x ≡ true) (sym is) (driver_may plan.ports _ c other (own_at plan c turn inside))
 
-driver_may : (ports : List Bool) (e : Event) (c : ℕ) → length ports ≡ 64 → 64 ≤ c → caller_of ports e ≡ c → may c e ≡ true
-driver_may ports (Open q) c many high is = ap (λ (n : ℕ). is_service n) (sym is)
-driver_may ports (End q) c many high is = ap (λ (n : ℕ). is_service n) (not_port ports q c many high is)
-driver_may ports (VfRead q offset) c many high is = service_may_port c q (not_port ports q c many high is)
-driver_may ports (VfWrite q offset x) c many high is = service_may_port c q (not_port ports q c many high is)
-driver_may ports (MemRead q at count) c many high is = service_may_port c q (not_port ports q c many high is)
-driver_may ports (MemWrite q at bytes) c many high is = service_may_port c q (not_port ports q c many high is)
-driver_may ports (Serve q n) c many high is = ap (λ (n : ℕ). is_service n) (sym is)
-driver_may ports (Flr q) c many high is = service_may_port c q (not_port ports q c many high is)
-driver_may ports (PfRead offset) c many high is = ap (λ (n : ℕ). is_pf n || is_service n) (sym is)
-driver_may ports (PfWrite offset x) c many high is = ap (λ (n : ℕ). is_pf n || is_service n) (sym is)
-driver_may ports PfReset c many high is = ap (λ (n : ℕ). is_pf n || is_service n) (sym is)
-driver_may ports (Wire frame) c many high is = ap (λ (n : ℕ). is_pump n || is_service n) (sym is)
-
-pub own_may : (plan : Planned) (turn c : ℕ) (e : Event) → length plan.ports ≡ 64 → 64 ≤ c → turn < length (own_events plan c) → e ≡ slice_index_or (own_events plan c) turn PfReset → may c e ≡ true
-own_may plan turn c e many high inside is = subst (λ (x : Event). may c x ≡ true) (sym is) (driver_may plan.ports _ c many high (own_at plan c turn inside))
-
-pub may_first : (c : ℕ) (e : Event) → c ≡ caller_before e → may c e ≡ true
-may_first c e is = ap (λ (n : ℕ). may n e) is ∙ may_before e
+pub may_first : (c : Caller) (e : Event) → c ≡ caller_before e → may c e ≡ true
+may_first c e is = ap (λ (n : Caller). may n e) is ∙ may_before e
 
 -- ---- bytes that an event reads
 
@@ -144,7 +181,7 @@ made_port e old new made = go old.port.is_open refl
 
 made_seat : (e : Event) (old new : CallingPort) → HasMade e old new → seat_of new ≡ seat_of old
 unfolding seat_of
-made_seat e old new made = ap (λ (p : Port). (p.pool, p.is_closed)) (made_port e old new made)
+made_seat e old new made = ap (λ (p : GuestsPort). (p.pool, p.is_closed)) (made_port e old new made)
 
 done_seat : (e : Event) (old new : CallingPort) → HasDone e old new → seat_of new ≡ seat_of old
 unfolding seat_of
@@ -179,6 +216,10 @@ pub done_more : (es : List Event) (k : ℕ) (e : Event) (c old new : CallingPort
     → HasDoneAll (take (k + 1) es) c new
 done_more es k e c old new less is before done =
     subst (λ (xs : List Event). HasDoneAll xs c new) (ap (λ (x : Event). take k es ++ x ∷ []) is ∙ sym (take_more es k PfReset less)) (done_last (take k es) e c old new before done)
+
+-- the same of the event at a turn
+pub done_turn : (es : List Event) (k : ℕ) (c old new : CallingPort) → k < length es → HasDoneAll (take k es) c old → HasDone (slice_index_or es k PfReset) old new → HasDoneAll (take (k + 1) es) c new
+done_turn es k c old new less before done = done_more es k (slice_index_or es k PfReset) c old new less refl before done
 
 pub has_closed : (es : List Event) (old last new : CallingPort) → HasDoneAll es old last → new ≡ record last { port = closed last.port } → HasClosed es old new
 has_closed es old last new done is = (last, done, is)

@@ -9,6 +9,8 @@ use Rattle.device.specs.Request.{event_of}
 use Rattle.device.specs.declared.request.Request.{Request}
 use Rattle.device.specs.declared.event.Event.{Event}
 use Rattle.device.specs.declared.event.Event.TheVariants.{Open, End, VfRead, VfWrite, MemRead, MemWrite, Serve, Flr, PfRead, PfWrite, PfReset, Wire}
+use Rattle.history.specs.declared.caller.Caller.{Caller}
+use Rattle.history.specs.declared.caller.Caller.TheVariants.{Driver, Pump, Service}
 use Rattle.recorder.specs.Held.{HasAsked, Mine}
 use Rattle.wire_pump.specs.declared.feeding.FeedEnd.{FeedEnd}
 use Rattle.wire_pump.specs.declared.message.WireMsg.TheVariants.{Frame, Last}
@@ -16,64 +18,64 @@ use Rattle.wire_pump.specs.declared.message.WireMsg.{WireMsg}
 use Rattle.wire_pump.specs.declared.pumping.PumpEnd.{PumpEnd}
 use Rattle.wire_pump.specs.Ends.{ReceiveEnd, SendEnd, fed, frame_in, is_wire, pumped}
 use Rattle.wire_pump.specs.Pump.{is_ended}
-use Rattle.workers.specs.Callers.{caller_of, port_or_service, pump}
+use Rattle.workers.specs.Callers.{caller_of, port_or_service}
 use Rattle.workers.specs.declared.worker.Came.{Came}
 use Rattle.workers.specs.Duties.{Duty, HaveDone, OfShare}
 use Rattle.workers.specs.Frames.{came_by, frames_of}
 use Rattle.workers.specs.Pair.{AreNew, HasPumped, HasRead}
 use Rattle.workers.specs.Plans.{Planned, own_events}
-use Rattle.workers.proofs.Turns.{not_port, own_at}
+use Rattle.workers.proofs.Turns.{apart, not_port, own_at}
 use Rattle.workers.proofs.Worked.{one_done}
 
 abbrev pub IsWire : Event → Type 0
 IsWire e = e ≡ Wire (frame_in e)
 
 -- what a guest may do is not the pump's
-no_guest : (ports : List Bool) (q : ℕ) (e : Event) → length ports ≡ 64 → port_or_service ports q ≡ 65 → IsWire e
-no_guest ports q e many is = let other : 65 ≡ 66 = not_port ports q 65 many (omega arith) is in absurd (omega (arith, other))
+no_guest : (ports : List Bool) (q : ℕ) (e : Event) → port_or_service ports q ≡ Pump → IsWire e
+no_guest ports q e is = absurd (apart Pump Service refl (not_port ports q Pump refl is))
 
-from_wire : (ports : List Bool) (e : Event) → length ports ≡ 64 → caller_of ports e ≡ 65 → IsWire e
-from_wire ports (Open q) many is = absurd (omega (arith, is))
-from_wire ports (End q) many is = no_guest ports q (End q) many is
-from_wire ports (VfRead q offset) many is = no_guest ports q (VfRead q offset) many is
-from_wire ports (VfWrite q offset x) many is = no_guest ports q (VfWrite q offset x) many is
-from_wire ports (MemRead q at count) many is = no_guest ports q (MemRead q at count) many is
-from_wire ports (MemWrite q at bytes) many is = no_guest ports q (MemWrite q at bytes) many is
-from_wire ports (Serve q n) many is = absurd (omega (arith, is))
-from_wire ports (Flr q) many is = no_guest ports q (Flr q) many is
-from_wire ports (PfRead offset) many is = absurd (omega (arith, is))
-from_wire ports (PfWrite offset x) many is = absurd (omega (arith, is))
-from_wire ports PfReset many is = absurd (omega (arith, is))
-from_wire ports (Wire frame) many is = refl
+from_wire : (ports : List Bool) (e : Event) → caller_of ports e ≡ Pump → IsWire e
+from_wire ports (Open q) is = absurd (apart Service Pump refl is)
+from_wire ports (End q) is = no_guest ports q (End q) is
+from_wire ports (VfRead q offset) is = no_guest ports q (VfRead q offset) is
+from_wire ports (VfWrite q offset x) is = no_guest ports q (VfWrite q offset x) is
+from_wire ports (MemRead q at count) is = no_guest ports q (MemRead q at count) is
+from_wire ports (MemWrite q at bytes) is = no_guest ports q (MemWrite q at bytes) is
+from_wire ports (Serve q n) is = absurd (apart Service Pump refl is)
+from_wire ports (Flr q) is = no_guest ports q (Flr q) is
+from_wire ports (PfRead offset) is = absurd (apart Driver Pump refl is)
+from_wire ports (PfWrite offset x) is = absurd (apart Driver Pump refl is)
+from_wire ports PfReset is = absurd (apart Driver Pump refl is)
+from_wire ports (Wire frame) is = refl
 
 frames_all : (es : List Event) → AllByRecursion IsWire es → frames_of es ≡ map frame_in es
 frames_all [] all = refl
 frames_all (e ∷ es) all = ap (λ (x : Event). frames_of (x ∷ es)) all.0 ∙ ap (λ (fs : List (List ℕ)). frame_in e ∷ fs) (frames_all es all.1)
 
-own_all : (plan : Planned) → length plan.ports ≡ 64 → AllByRecursion IsWire (own_events plan pump)
-own_all plan many = recursion_from_All IsWire (own_events plan pump) (All-from_get_or IsWire (own_events plan pump) PfReset (λ i less. from_wire plan.ports _ many (own_at plan pump i less)))
+own_all : (plan : Planned) → AllByRecursion IsWire (own_events plan Pump)
+own_all plan = recursion_from_All IsWire (own_events plan Pump) (All-from_get_or IsWire (own_events plan Pump) PfReset (λ i less. from_wire plan.ports _ (own_at plan Pump i less)))
 
-own_frames : (plan : Planned) → length plan.ports ≡ 64 → frames_of (own_events plan pump) ≡ map frame_in (own_events plan pump)
-own_frames plan many = frames_all (own_events plan pump) (own_all plan many)
+own_frames : (plan : Planned) → frames_of (own_events plan Pump) ≡ map frame_in (own_events plan Pump)
+own_frames plan = frames_all (own_events plan Pump) (own_all plan)
 
 wires_again : (es : List Event) → AllByRecursion IsWire es → map Wire (map frame_in es) ≡ es
 wires_again [] all = refl
 wires_again (e ∷ es) all = (λ i. sym all.0 i ∷ wires_again es all.1 i)
 
 -- the pump's own events are all of frames
-pub own_wire : (plan : Planned) → length plan.ports ≡ 64 → map Wire (frames_of (own_events plan pump)) ≡ own_events plan pump
-own_wire plan many = ap (map Wire) (own_frames plan many) ∙ wires_again (own_events plan pump) (own_all plan many)
+pub own_wire : (plan : Planned) → map Wire (frames_of (own_events plan Pump)) ≡ own_events plan Pump
+own_wire plan = ap (map Wire) (own_frames plan) ∙ wires_again (own_events plan Pump) (own_all plan)
 
-pub frames_count : (plan : Planned) → length plan.ports ≡ 64 → length (frames_of (own_events plan pump)) ≡ length (own_events plan pump)
-frames_count plan many = ap length (own_frames plan many) ∙ length-map (own_events plan pump) frame_in
+pub frames_count : (plan : Planned) → length (frames_of (own_events plan Pump)) ≡ length (own_events plan Pump)
+frames_count plan = ap length (own_frames plan) ∙ length-map (own_events plan Pump) frame_in
 
-pub frame_at : (plan : Planned) (turn : ℕ) (frame : List ℕ) → length plan.ports ≡ 64 → turn < length (own_events plan pump) → Wire frame ≡ slice_index_or (own_events plan pump) turn PfReset
-    → frame ≡ slice_index_or (frames_of (own_events plan pump)) turn []
-frame_at plan turn frame many less is =
-    ap frame_in is ∙ sym (get_or-map frame_in (own_events plan pump) turn PfReset [] less) ∙ ap (λ (fs : List (List ℕ)). slice_index_or fs turn []) (sym (own_frames plan many))
+pub frame_at : (plan : Planned) (turn : ℕ) (frame : List ℕ) → turn < length (own_events plan Pump) → Wire frame ≡ slice_index_or (own_events plan Pump) turn PfReset
+    → frame ≡ slice_index_or (frames_of (own_events plan Pump)) turn []
+frame_at plan turn frame less is =
+    ap frame_in is ∙ sym (get_or-map frame_in (own_events plan Pump) turn PfReset [] less) ∙ ap (λ (fs : List (List ℕ)). slice_index_or fs turn []) (sym (own_frames plan))
 
-no_other : (plan : Planned) (turn : ℕ) (e : Event) → length plan.ports ≡ 64 → turn < length (own_events plan pump) → e ≡ slice_index_or (own_events plan pump) turn PfReset → IsWire e
-no_other plan turn e many less is = subst IsWire (sym is) (from_wire plan.ports _ many (own_at plan pump turn less))
+no_other : (plan : Planned) (turn : ℕ) (e : Event) → turn < length (own_events plan Pump) → e ≡ slice_index_or (own_events plan Pump) turn PfReset → IsWire e
+no_other plan turn e less is = subst IsWire (sym is) (from_wire plan.ports _ (own_at plan Pump turn less))
 
 -- a request of a frame from the wire is none of the others
 other_request : (r : Request) → is_wire (event_of r) ≡ true → ((frame : _) → r ≡ Request.Wire frame → ⊥) → ⊥
@@ -90,10 +92,10 @@ other_request (Request.PfRead offset) is other = false≢true is
 other_request (Request.PfWrite offset x) is other = false≢true is
 other_request Request.PfReset is other = false≢true is
 
-pub only_frames : (plan : Planned) (turn : ℕ) (r : Request) → length plan.ports ≡ 64 → turn < length (frames_of (own_events plan pump)) → event_of r ≡ slice_index_or (own_events plan pump) turn PfReset
+pub only_frames : (plan : Planned) (turn : ℕ) (r : Request) → turn < length (frames_of (own_events plan Pump)) → event_of r ≡ slice_index_or (own_events plan Pump) turn PfReset
     → ((frame : _) → r ≡ Request.Wire frame → ⊥) → ⊥
-only_frames plan turn r many less is other =
-    other_request r (ap is_wire (no_other plan turn (event_of r) many (subst (λ (n : ℕ). turn < n) (frames_count plan many) less) is)) other
+only_frames plan turn r less is other =
+    other_request r (ap is_wire (no_other plan turn (event_of r) (subst (λ (n : ℕ). turn < n) (frames_count plan) less) is)) other
 
 -- ---- what is sent of them
 
@@ -148,12 +150,12 @@ full_not_last is = false≢true (ap is_last is)
 gone_not_last : Came.Gone ≡ Came.Last → ⊥
 gone_not_last is = false≢true (ap is_last is)
 
-pub has_pumped : (frames : List (List ℕ)) (end : PumpEnd) (share left : Mine) (old new : ReceiveEnd) → share.caller ≡ pump → came_by end ≡ Came.Last → new ≡ record old { received = old.received ++ pumped frames end }
-    → HasAsked (map Wire frames) (record { caller = pump; asked = share.asked }) left → HasPumped share left old new
+pub has_pumped : (frames : List (List ℕ)) (end : PumpEnd) (share left : Mine) (old new : ReceiveEnd) → share.caller ≡ Pump → came_by end ≡ Came.Last → new ≡ record old { received = old.received ++ pumped frames end }
+    → HasAsked (map Wire frames) (record { caller = Pump; asked = share.asked }) left → HasPumped share left old new
 has_pumped frames PumpEnd.Last share left old new is came received asked = record {
   frames = frames;
   received = received;
-  asked = subst (λ (c : ℕ). HasAsked (map Wire frames) (record { caller = c; asked = share.asked }) left) (sym is) asked;
+  asked = subst (λ (c : Caller). HasAsked (map Wire frames) (record { caller = c; asked = share.asked }) left) (sym is) asked;
 }
 has_pumped frames (PumpEnd.Full event) share left old new is came received asked = absurd (full_not_last came)
 has_pumped frames PumpEnd.Gone share left old new is came received asked = absurd (gone_not_last came)
@@ -164,10 +166,10 @@ one_channel plan share left sender sent receiver received new read came =
     ap (λ (r : ReceiveEnd). r.channel) came.received ∙ (new.one ∙ sym (ap (λ (s : SendEnd). s.channel) read.sent))
 
 -- the two ends were compared, which changed neither
-pub pair_done : (duty : Duty) (plan : Planned) (share left : Mine) (sender sent beside : SendEnd) (receiver received back : ReceiveEnd) (old new : List Mine) → duty ≡ OfShare plan share → share.caller ≡ pump → AreNew sender receiver → HasRead plan sender sent
+pub pair_done : (duty : Duty) (plan : Planned) (share left : Mine) (sender sent beside : SendEnd) (receiver received back : ReceiveEnd) (old new : List Mine) → duty ≡ OfShare plan share → share.caller ≡ Pump → AreNew sender receiver → HasRead plan sender sent
     → HasPumped share left receiver received → beside ≡ sent → back ≡ received → (is_ended back.received ≡ true → beside.sent ≡ back.received) → new ≡ old ++ left ∷ [] → HaveDone (duty ∷ []) old new
 pair_done duty plan share left sender sent beside receiver received back old new to is first read came same_sender same_receiver whole behind =
-    let all : List (List ℕ) = frames_of (own_events plan pump) in
+    let all : List (List ℕ) = frames_of (own_events plan Pump) in
     let last : List WireMsg = map Frame came.frames ++ Last ∷ [] in
     let got : back.received ≡ last = ap (λ (r : ReceiveEnd). r.received) (same_receiver ∙ came.received) ∙ ap (λ (xs : List WireMsg). xs ++ last) first.received in
     let gave : beside.sent ≡ fed all read.end = ap (λ (s : SendEnd). s.sent) (same_sender ∙ read.sent) ∙ ap (λ (xs : List WireMsg). xs ++ fed all read.end) first.sent in

@@ -1,22 +1,23 @@
 -- What many workers did, one by one, and whose the shares are that they leave.
-use Rattle.std.proofs.Common.{◌≡◌, ℕ, ◌+◌, ◌<◌, false, List, [], ◌∷◌, ◌++◌, length, map, refl, sym, ap, ◌∙◌, get_or, set, subst, take, append_assoc, arith, true, Bool}
+use Rattle.std.proofs.Common.{◌≡◌, ◌≢◌, ℕ, suc, ◌+◌, ◌<◌, false, not, cond, List, [], ◌∷◌, ◌++◌, filter, length, map, refl, sym, ap, ◌∙◌, get_or, set, subst, take, append_assoc, arith, true, Bool}
 use Rattle.std.specs.Prelude.{IfSome, MatchOption, None, Option, Some, slice_index_or, slice_set}
 use Rattle.std.proofs.lemmas.List.{append-nil, length-append, map-append, take_more}
 use Rattle.std.proofs.Math.Seq.{get_or-append_seam, set-append_seam}
 use Rattle.device.specs.declared.event.Event.{Event}
+use Rattle.device.specs.declared.event.Event.TheVariants.{End}
+use Rattle.history.specs.declared.caller.Caller.{Caller}
+use Rattle.history.specs.declared.caller.Caller.TheVariants.{Port, Driver, Pump, Service}
 use Rattle.recorder.specs.Held.{HasAsked, Mine, having_calls, left_of}
 use Rattle.recorder.specs.declared.shares.Shares.{Shares}
 use Rattle.guest_port.specs.Calls.{CallingPort}
 use Rattle.guest_port.specs.Notes.{Known}
 use Rattle.workers.specs.Calls.{HasClosed}
-use Rattle.workers.specs.Callers.{pf, pump, service}
 use Rattle.workers.specs.Duties.{AreDone, Duty, HaveDone, IsDone, OfPort, OfShare, port_duty}
 use Rattle.workers.specs.Plans.{Planned, own_events}
-use Rattle.workers.specs.Ends.{note_of, port_end}
-use Rattle.workers.specs.Run.{HaveRun, duties_of, with_ports}
-use Rattle.workers.specs.Sweeps.{end_of}
+use Rattle.workers.specs.Ends.{pool_of, port_end}
+use Rattle.workers.specs.Run.{HaveRun, duties_of, has_share, shares_back, with_ports}
 use Rattle.workers.proofs.Asks.{asked_behind, same_caller}
-use Rattle.workers.proofs.Closing.{Note, ends_of_ports}
+use Rattle.workers.proofs.Closing.{ends_of_ports}
 
 -- ---- one worker
 
@@ -27,8 +28,8 @@ pub none_left : (duty : Duty) (old new : List Mine) → IsDone duty None → new
 none_left duty old new done same = record { left = None ∷ []; done = (done, tt); behind = same ∙ sym (append-nil old) }
 
 -- what a port's worker says of it
-pub handed_back : (plan : Planned) (old new : CallingPort) (left : Option Mine) → HasClosed (own_events plan old.port.pool) old new
-    → MatchOption left (old.port.is_closed ≡ true) (λ share. (old.port.is_closed ≡ false) × (share.caller ≡ old.port.pool)) → IfSome left (λ share. share ≡ having_calls new.calls new.made) → IsDone (OfPort plan old) left
+pub handed_back : (plan : Planned) (old new : CallingPort) (left : Option Mine) → HasClosed (own_events plan (Port old.port.pool)) old new
+    → MatchOption left (old.port.is_closed ≡ true) (λ share. (old.port.is_closed ≡ false) × (share.caller ≡ Port old.port.pool)) → IfSome left (λ share. share ≡ having_calls new.calls new.made) → IsDone (OfPort plan old) left
 handed_back plan old new None done seat calls = record { new = new; done = done; share = seat }
 handed_back plan old new (Some share) done seat calls = record { new = new; done = done; share = (seat.0, seat.1, calls) }
 
@@ -160,35 +161,63 @@ last_set : (front now : List Mine) (last new : Mine) → now ≡ front ++ last �
 last_set front now last new is many =
     ap (λ (ms : List Mine). set ms 66 new) is ∙ (ap (λ (k : ℕ). set (front ++ last ∷ []) k new) (front_length front now last is many) ∙ set-append_seam front last [] new)
 
-pub last_caller : {L : Type 0} (plan : Planned) (ports : List (CallingPort × Known)) (shares : Shares L) (now : List Mine) (share : Mine) → shares.service.caller ≡ service → HaveDone (duties_of plan ports shares) (left_of shares.ports.items) now
-    → length now ≡ 67 → share ≡ get_or now 66 share → share.caller ≡ service
+pub last_caller : {L : Type 0} (plan : Planned) (ports : List (CallingPort × Known)) (shares : Shares L) (now : List Mine) (share : Mine) → shares.service.caller ≡ Service → HaveDone (duties_of plan ports shares) (left_of shares.ports.items) now
+    → length now ≡ 67 → share ≡ get_or now 66 share → share.caller ≡ Service
 last_caller plan ports shares now share own done many is =
     let r = is_run plan ports shares now done in
     ap (λ (m : Mine). m.caller) (is ∙ last_is (left_of shares.ports.items ++ left_of r.left ++ r.others.pf_left ∷ r.others.pump_left ∷ []) now r.others.service_left share r.all many)
     ∙ same_caller (own_events plan shares.service.caller) shares.service r.others.service_left r.others.service_asked ∙ own
 
-pub have_run : {L : Type 0} (plan : Planned) (ports : List (CallingPort × Known)) (notes : List Note) (shares : Shares L) (now : List Mine) (before share : Mine) → shares.pf.caller ≡ pf → shares.pump.caller ≡ pump → shares.service.caller ≡ service
-    → HaveDone (duties_of plan ports shares) (left_of shares.ports.items) now → length now ≡ 67 → before ≡ get_or now 66 before → notes ≡ map note_of ports → HasAsked (map end_of notes) before share
+pub have_run : {L : Type 0} (plan : Planned) (ports : List (CallingPort × Known)) (pools : List ℕ) (shares : Shares L) (now : List Mine) (before share : Mine) → shares.pf.caller ≡ Driver → shares.pump.caller ≡ Pump → shares.service.caller ≡ Service
+    → HaveDone (duties_of plan ports shares) (left_of shares.ports.items) now → length now ≡ 67 → before ≡ get_or now 66 before → pools ≡ map pool_of ports → HasAsked (map End pools) before share
     → HaveRun plan ports shares (set now 66 share)
-have_run plan ports notes shares now before share own_pf own_pump own_service done many is noted asked =
+have_run plan ports pools shares now before share own_pf own_pump own_service done many is noted asked =
     let r = is_run plan ports shares now done in
     let front : List Mine = left_of shares.ports.items ++ left_of r.left ++ r.others.pf_left ∷ r.others.pump_left ∷ [] in
     let same : before ≡ r.others.service_left = is ∙ last_is front now r.others.service_left before r.all many in
     let ends : HasAsked (map port_end ports) r.others.service_left share =
-    subst (λ (es : List Event). HasAsked es r.others.service_left share) (ap (map end_of) noted ∙ ends_of_ports ports) (subst (λ (m : Mine). HasAsked (map end_of notes) m share) same asked) in
+    subst (λ (es : List Event). HasAsked es r.others.service_left share) (ap (map End) noted ∙ ends_of_ports ports) (subst (λ (m : Mine). HasAsked (map End pools) m share) same asked) in
     record {
       left = r.left;
       ports_done = r.ports_done;
       pf_left = r.others.pf_left;
-      pf_asked = subst (λ (c : ℕ). HasAsked (own_events plan c) shares.pf r.others.pf_left) own_pf r.others.pf_asked;
+      pf_asked = subst (λ (c : Caller). HasAsked (own_events plan c) shares.pf r.others.pf_left) own_pf r.others.pf_asked;
       pump_left = r.others.pump_left;
-      pump_asked = subst (λ (c : ℕ). HasAsked (own_events plan c) shares.pump r.others.pump_left) own_pump r.others.pump_asked;
+      pump_asked = subst (λ (c : Caller). HasAsked (own_events plan c) shares.pump r.others.pump_left) own_pump r.others.pump_asked;
       service_left = share;
       service_asked =
-          asked_behind (own_events plan service) (map port_end ports) shares.service r.others.service_left share
-          (subst (λ (c : ℕ). HasAsked (own_events plan c) shares.service r.others.service_left) own_service r.others.service_asked) ends;
+          asked_behind (own_events plan Service) (map port_end ports) shares.service r.others.service_left share
+          (subst (λ (c : Caller). HasAsked (own_events plan c) shares.service r.others.service_left) own_service r.others.service_asked) ends;
       all = last_set front now r.others.service_left share r.all many ∙ sym (last_apart (left_of shares.ports.items) (left_of r.left) r.others.pf_left r.others.pump_left share);
     }
+
+-- ---- how many shares come back
+
+-- each port that is not closed leaves its share
+ports_left : (plan : Planned) (ports : List (CallingPort × Known)) (left : List (Option Mine)) → AreDone (map (port_duty plan) ports) left → length (left_of left) ≡ length (filter has_share ports)
+ports_left plan [] [] are = refl
+ports_left plan [] (l ∷ left) are = absurd are
+ports_left plan (p ∷ ports) [] are = absurd are
+ports_left plan (p ∷ ports) (None ∷ left) are =
+    ports_left plan ports left are.1 ∙ sym (ap (λ (b : Bool). length (cond (not b) (p ∷ filter has_share ports) (filter has_share ports))) are.0.share)
+ports_left plan (p ∷ ports) (Some m ∷ left) are =
+    ap suc (ports_left plan ports left are.1) ∙ sym (ap (λ (b : Bool). length (cond (not b) (p ∷ filter has_share ports) (filter has_share ports))) are.0.share.0)
+
+all_back : {L : Type 0} (plan : Planned) (ports : List (CallingPort × Known)) (shares : Shares L) (now : List Mine) → HaveDone (duties_of plan ports shares) (left_of shares.ports.items) now → length now ≡ shares_back shares ports
+all_back plan ports shares now done =
+    let r = is_run plan ports shares now done in
+    let l = left_of r.left in
+    let there = ports_left plan ports r.left r.ports_done in
+    let whole = ap length r.all in
+    let a = length-append (left_of shares.ports.items ++ l ++ r.others.pf_left ∷ r.others.pump_left ∷ []) (r.others.service_left ∷ []) in
+    let b = length-append (left_of shares.ports.items ++ l) (r.others.pf_left ∷ r.others.pump_left ∷ []) in
+    let c = length-append (left_of shares.ports.items) l in
+    omega (arith, whole, a, b, c, there)
+
+-- others than 67 came back, so there were others to bring back
+pub others_back : {L : Type 0} (plan : Planned) (ports : List (CallingPort × Known)) (shares : Shares L) (now : List Mine) → HaveDone (duties_of plan ports shares) (left_of shares.ports.items) now → length now ≢ 67
+    → shares_back shares ports ≢ 67
+others_back plan ports shares now done others same = others (all_back plan ports shares now done ∙ same)
 
 -- ---- which pools have a port
 

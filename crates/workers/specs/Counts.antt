@@ -1,18 +1,20 @@
 -- What the shares of callers asked before `go`, and what they were answered.
-use Rattle.std.specs.Prelude.{◌≡◌, ℕ, ◌==◌, List, [], ◌∷◌, filter}
+use Rattle.std.specs.Prelude.{◌≡◌, List, [], ◌∷◌, filter}
 use Rattle.std.specs.List.{All}
 use Rattle.device.specs.declared.event.Event.{Event}
 use Rattle.device.specs.declared.event.Reply.{Reply}
 use Rattle.device.specs.declared.event.Answer.{Answer}
+use Rattle.history.specs.declared.caller.Caller.{Caller}
+use Rattle.history.specs.declared.caller.Caller.TheVariants.{Driver, Service}
 use Rattle.history.specs.Entries.{Entry, entry, events}
 use Rattle.recorder.specs.declared.shares.Shares.{Shares}
 use Rattle.recorder.specs.Held.{having_calls}
 use Rattle.device_lock.specs.Answers.{MayAnswer}
-use Rattle.workers.specs.Callers.{caller_before, pf, service}
+use Rattle.workers.specs.Callers.{caller_before, is_same}
 
 -- those of calls that a caller made
-abbrev pub made_by : ℕ → List Entry → List Entry
-made_by c calls = filter (λ (call : Entry). call.caller == c) calls
+abbrev pub made_by : Caller → List Entry → List Entry
+made_by c calls = filter (λ (call : Entry). is_same call.caller c) calls
 
 -- a call before `go`: made by the caller of its event, and answered as some device does
 abbrev pub IsFirst : Entry → Type 0
@@ -21,8 +23,8 @@ IsFirst call = (call.caller ≡ caller_before call.event) × MayAnswer call.even
 -- the shares once these calls before `go` are kept, each in its caller's share
 pub record HaveKept {L : Type 0} (calls : List Entry) (old new : Shares L) : Type 0 where
   pub first : All IsFirst calls
-  pub pf : new.pf ≡ having_calls (made_by pf calls) old.pf
-  pub service : new.service ≡ having_calls (made_by service calls) old.service
+  pub pf : new.pf ≡ having_calls (made_by Driver calls) old.pf
+  pub service : new.service ≡ having_calls (made_by Service calls) old.service
   pub pump : new.pump ≡ old.pump
   pub ports : new.ports ≡ old.ports
 

@@ -1,5 +1,6 @@
 -- What each worker is to do, and what it leaves once it has done all of it.
 use Rattle.std.specs.Prelude.{◌≡◌, ◌++◌, Bool, true, false, List, [], ◌∷◌, MatchOption, Option}
+use Rattle.history.specs.declared.caller.Caller.TheVariants.{Port}
 use Rattle.recorder.specs.Held.{Mine, having_calls, left_of}
 use Rattle.guest_port.specs.Calls.{CallingPort}
 use Rattle.guest_port.specs.Notes.{Known}
@@ -19,8 +20,8 @@ port_duty plan p = OfPort plan p.0
 -- a port did its pool's events and was closed: its share is what is left, with its calls, unless it was closed before
 pub record HasHandedBack (plan : Planned) (old : CallingPort) (left : Option Mine) : Type 0 where
   pub new : CallingPort
-  pub done : HasClosed (own_events plan old.port.pool) old new
-  pub share : MatchOption left (old.port.is_closed ≡ true) (λ share. (old.port.is_closed ≡ false) × (share.caller ≡ old.port.pool)
+  pub done : HasClosed (own_events plan (Port old.port.pool)) old new
+  pub share : MatchOption left (old.port.is_closed ≡ true) (λ share. (old.port.is_closed ≡ false) × (share.caller ≡ Port old.port.pool)
       × (share ≡ having_calls new.calls new.made))
 
 -- what is left of a worker's share once it did all that it was to do

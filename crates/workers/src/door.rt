@@ -1,14 +1,14 @@
 //! The pump's door, with its gate and its folds.
 ghost use Rattle.std.specs.Prelude.{◌≡◌, ◌++◌, ◌∷◌, [], true, if◌then◌else◌, IfErr, OnOk, OnErr};
 ghost use Rattle.device.specs.declared.event.Event.TheVariants.{Wire};
+ghost use Rattle.history.specs.declared.caller.Caller.TheVariants.{Pump};
 ghost use Rattle.history.specs.Entries.{events};
 ghost use Rattle.wire_pump.specs.Doors.{StandFirst};
 ghost use Rattle.wire_pump.specs.Ends.{is_wire};
-ghost use Rattle.workers.specs.Callers.{pump};
 
 use crate::gate::Gate;
 use device::{Answer, Event};
-use device_lock::{Full, LockedDevice, PUMP, Share};
+use device_lock::{Caller, Full, LockedDevice, Share};
 use guest_memory::GuestMem;
 use std::sync::ledger::Ledger;
 use std::sync::{Arc, Wait};
@@ -46,7 +46,7 @@ impl<M: GuestMem, L: Ledger, G: Gate + Drop> GatedDoor<M, L, G> {
     /// The share, after all that the door took.
     pub fn into_share(self) -> Share<L>
         ensures share { result ≡ self.inner }
-        ensures pump { result.caller ≡ pump }
+        ensures pump { result.caller ≡ Pump }
     {
         let GatedDoor {
             inner,
@@ -67,17 +67,17 @@ impl<M: GuestMem, L: Ledger, G: Gate + Drop> Door for GatedDoor<M, L, G> {
 
     fn act<R: Wait>(&mut self, rt: &R, event: Event) -> Result<Answer, Full> {
         self.n = self.n.wrapping_add(1);
-        self.gate.before(PUMP, self.n);
+        self.gate.before(Caller::Pump.number(), self.n);
         let answer = act(rt, &self.device, &mut self.inner, event);
-        self.gate.after(PUMP, self.n);
+        self.gate.after(Caller::Pump.number(), self.n);
         answer
     }
 
     fn take<R: Wait>(&mut self, rt: &R, frame: &FrameBuf) -> bool {
         self.n = self.n.wrapping_add(1);
-        self.gate.before(PUMP, self.n);
+        self.gate.before(Caller::Pump.number(), self.n);
         let taken = take(rt, &self.device, &mut self.inner, frame);
-        self.gate.after(PUMP, self.n);
+        self.gate.after(Caller::Pump.number(), self.n);
         taken
     }
 }

@@ -1,7 +1,7 @@
 //! The pump and the wire's reader, from their starts to their ends.
 ghost use Rattle.std.specs.Prelude.{◌≡◌, [], ◌∷◌, ◌++◌, false, IfOk, IfSome};
 ghost use Rattle.std.specs.Arc.{arc_value};
-ghost use Rattle.workers.specs.Callers.{pump};
+ghost use Rattle.history.specs.declared.caller.Caller.TheVariants.{Pump};
 ghost use Rattle.workers.specs.Duties.{HaveDone, OfShare};
 ghost use Rattle.workers.specs.Pair.{AreNew, HasPumped, HasRead};
 
@@ -11,7 +11,7 @@ use crate::gate::Gate;
 use crate::starting::Common;
 use crate::work::{Pumping, Reading};
 use crate::worker::{Came, Pumped, Worker, pumping, reader};
-use device_lock::Share;
+use device_lock::{Caller, Share};
 use guest_memory::GuestMem;
 use guest_port::GuestPort;
 use log::Log;
@@ -34,7 +34,7 @@ pub struct Pair<L: Ledger> {
 
 impl<L: Ledger> Model for Pair<L> {
     ghost use Rattle.std.specs.Prelude.{◌≡◌};
-    ghost use Rattle.workers.specs.Callers.{pump};
+    ghost use Rattle.history.specs.declared.caller.Caller.TheVariants.{Pump};
     ghost use Rattle.workers.specs.Duties.{Duty, OfShare};
     ghost use Rattle.workers.specs.Pair.{AreNew};
 
@@ -42,7 +42,7 @@ impl<L: Ledger> Model for Pair<L> {
 
     ghost view = { λ pair. OfShare pair.reader_thread.promise.plan.value pair.pump_thread.promise.share.value };
 
-    ghost invariant = { λ pair. (pair.pump_thread.promise.share.value.caller ≡ pump)
+    ghost invariant = { λ pair. (pair.pump_thread.promise.share.value.caller ≡ Pump)
         × AreNew pair.reader_thread.promise.sender.value pair.pump_thread.promise.receiver.value };
 }
 
@@ -70,7 +70,7 @@ impl<L: Ledger + Send + 'static> Pair<L> {
             receiver,
             was_full,
         } = pump_thread.join(rt);
-        log_end(log, Worker::Pump);
+        log_end(log, Worker::Of(Caller::Pump));
         let mut sender = reader_thread.join(rt);
         let Some(receiver) = receiver else {
             // a sender that went without `Last`, which can't be, is answered as a start that was refused
@@ -100,7 +100,7 @@ pub fn start_pair<
     receiver: FrameReceiver,
     crew: &mut Crew<M, L, P>,
 )
-    requires pump { share.caller ≡ pump }
+    requires pump { share.caller ≡ Pump }
     requires new { AreNew sender receiver }
     ensures stays { crew.new.was_refused ≡ false → crew.old.was_refused ≡ false }
     ensures duty { crew.new.was_refused ≡ false
@@ -113,7 +113,7 @@ pub fn start_pair<
     let Ok(pump_thread) = start_pump(rt, common, share, receiver) else {
         return crew.refuse();
     };
-    log_start(log, Worker::Pump);
+    log_start(log, Worker::Of(Caller::Pump));
     match start_reader(rt, common, sender) {
         Ok(reader_thread) => {
             let pair = Pair {
@@ -125,7 +125,7 @@ pub fn start_pair<
         Err(_) => {
             // the sender is gone, so the pump ends
             drop(pump_thread.join(&rt));
-            log_end(log, Worker::Pump);
+            log_end(log, Worker::Of(Caller::Pump));
             crew.refuse();
         }
     }
@@ -144,7 +144,7 @@ fn start_pump<
     share: Share<L>,
     receiver: FrameReceiver,
 ) -> Result<PromisedHandle<Pumped<L>, Pumping<L>>, AllocError>
-    requires { share.caller ≡ pump }
+    requires { share.caller ≡ Pump }
     ensures share { IfOk result (λ thread. thread.promise.share.value ≡ share) }
     ensures receiver { IfOk result (λ thread. thread.promise.receiver.value ≡ receiver) }
 {
@@ -167,7 +167,7 @@ fn do_pump<M: GuestMem, L: Ledger, G: Gate + Drop, R: Wait + Copy>(
     mut receiver: FrameReceiver,
     door: GatedDoor<M, L, G>,
 ) -> Pumped<L>
-    requires { door.inner.caller ≡ pump }
+    requires { door.inner.caller ≡ Pump }
     ensures { IfSome result.receiver (λ last. HasPumped door.inner result.share receiver last) }
 {
     let (share, came) = pumping(&rt, &mut receiver, door);

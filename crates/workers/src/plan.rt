@@ -3,18 +3,19 @@ ghost use Rattle.std.specs.Prelude.{◌≡◌, ◌<◌, ◌≤◌, [], ◌∷◌
 ghost use Rattle.std.specs.Arc.{arc_value};
 ghost use Rattle.device.specs.Request.{event_of};
 ghost use Rattle.device.specs.declared.event.Event.TheVariants.{PfReset, Wire};
-ghost use Rattle.workers.specs.Callers.{caller_before, caller_of, port_or_service, pump};
+ghost use Rattle.history.specs.declared.caller.Caller.TheVariants.{Pump};
+ghost use Rattle.workers.specs.Callers.{caller_before, caller_of, port_or_service};
 ghost use Rattle.workers.specs.Frames.{frames_of};
 ghost use Rattle.workers.specs.Plans.{own_events, planned};
 ghost use Rattle.workers.specs.Turns.{AreTurns};
 
 use device::Request;
-use device_lock::{CALLERS, PF, PUMP, SERVICE};
+use device_lock::{CALLERS, Caller};
 use script::{Room, Script};
 use std::alloc::{AllocError, Global};
 use std::marker::Model;
 use std::sync::Arc;
-use wire_frame::FrameBuf;
+use wire_frame::{FrameBuf, PoolId};
 
 /// For each pool whether it has a port.
 pub type Ports = [bool; 64];
@@ -63,7 +64,7 @@ impl Turns {
 pub struct Plan {
     script: Arc<Script>,
     ports: Ports,
-    // of each caller
+    // of each caller, by its number
     turns: Vec<Turns>,
 }
 
@@ -96,58 +97,53 @@ impl Plan {
     }
 
     /// How many events after `go` a caller does.
-    #[tactic(auto, using(crate::proofs::Places::turns_count))]
-    pub fn turns(&self, caller: u8) -> usize
-        ensures turns { result ≡ length (own_events self.now caller) }
-        ensures pools { length self.now.ports ≡ 64 }
+    #[tactic(auto, using(crate::proofs::Places::turn_number, crate::proofs::Places::turns_count))]
+    pub fn turns(&self, caller: Caller) -> usize
+        ensures { result ≡ length (own_events self.now caller) }
     {
-        match self.turns.get(usize::from(caller)) {
-            Some(turns) => turns.len(),
-            None => 0,
-        }
+        self.turns[usize::from(caller.number())].len()
     }
 
     /// One of the events after `go` that a caller does, as a device is asked it. Its bytes and its frame, where it has some,
     /// may be laid out in `room`.
     #[inline]
-    #[tactic(auto, using(crate::proofs::Places::turns_count, crate::proofs::Places::turn_inside, crate::proofs::Places::turn_event, crate::proofs::Places::turn_caller))]
-    pub fn request<'a>(&'a self, caller: u8, turn: usize, room: &'a mut Room) -> Request<'a>
+    #[tactic(auto, using(crate::proofs::Places::turn_number, crate::proofs::Places::turns_count, crate::proofs::Places::turn_inside, crate::proofs::Places::turn_event))]
+    pub fn request<'a>(&'a self, caller: Caller, turn: usize, room: &'a mut Room) -> Request<'a>
         requires { turn < length (own_events self.now caller) }
         ensures { event_of result ≡ slice_index_or (own_events self.now caller) turn PfReset }
     {
-        let place = place_of(&self.turns, caller, turn);
+        let place = place_of(&self.turns, caller.number(), turn);
         self.script.request(place, room)
     }
 
     /// How many frames come from the wire after `go`: all that the pump does.
     #[tactic(auto, using(crate::proofs::Wires::frames_count, crate::proofs::Wires::own_wire))]
     pub fn frames(&self) -> usize
-        ensures frames { result ≡ length (frames_of (own_events self.now pump)) }
-        ensures wire { map Wire (frames_of (own_events self.now pump)) ≡ own_events self.now pump }
+        ensures frames { result ≡ length (frames_of (own_events self.now Pump)) }
+        ensures wire { map Wire (frames_of (own_events self.now Pump)) ≡ own_events self.now Pump }
     {
-        self.turns(PUMP)
+        self.turns(Caller::Pump)
     }
 
     /// One of the frames that come from the wire after `go`. It may be laid out in `room`.
     pub fn frame<'a>(&'a self, turn: usize, room: &'a mut Room) -> &'a FrameBuf
-        requires { turn < length (frames_of (own_events self.now pump)) }
-        ensures { result.now ≡ slice_index_or (frames_of (own_events self.now pump)) turn [] }
+        requires { turn < length (frames_of (own_events self.now Pump)) }
+        ensures { result.now ≡ slice_index_or (frames_of (own_events self.now Pump)) turn [] }
     {
-        let _ = &self.ports;
-        match self.request(PUMP, turn, room) {
+        match self.request(Caller::Pump, turn, room) {
             Request::Wire(frame) => frame,
             _ => unreachable!(),
         }
     }
 }
 
-// The place of a caller's turn.
-fn place_of(turns: &[Turns], caller: u8, turn: usize) -> usize
-    requires caller { caller < length turns.now }
-    requires turn { turn < length (slice_index_or turns.now caller []) }
-    ensures { result ≡ slice_index_or (slice_index_or turns.now caller []) turn 0 }
+// The place of a turn of the caller of a number.
+fn place_of(turns: &[Turns], number: u8, turn: usize) -> usize
+    requires number { number < length turns.now }
+    requires turn { turn < length (slice_index_or turns.now number []) }
+    ensures { result ≡ slice_index_or (slice_index_or turns.now number []) turn 0 }
 {
-    turns[usize::from(caller)].at(turn)
+    turns[usize::from(number)].at(turn)
 }
 
 // The places of each caller's events after `go`, found in one pass over the script. The room for an event is gone from the stack
@@ -162,20 +158,20 @@ fn turns_of(alloc: Global, script: &Script, ports: &Ports) -> Result<Vec<Turns>,
     let mut turns = no_turns(alloc)?;
     for place in start_of(script)..script.len() {
         let caller = caller_of(ports, script.request(place, &mut room));
-        add_turn(&mut turns, caller, place)?;
+        add_turn(&mut turns, caller.number(), place)?;
     }
     Ok(turns)
 }
 
-// One more place of a caller's events.
-fn add_turn(turns: &mut Vec<Turns>, caller: u8, place: usize) -> Result<(), AllocError>
-    requires { caller < length turns.old.items }
+// One more place of the events of the caller of a number.
+fn add_turn(turns: &mut Vec<Turns>, number: u8, place: usize) -> Result<(), AllocError>
+    requires { number < length turns.old.items }
     ensures { OnOk result
         (turns.new.items
-        ≡ slice_set turns.old.items caller
-        (slice_index_or turns.old.items caller [] ++ place ∷ [])) }
+        ≡ slice_set turns.old.items number
+        (slice_index_or turns.old.items number [] ++ place ∷ [])) }
 {
-    turns[usize::from(caller)].add(place)
+    turns[usize::from(number)].add(place)
 }
 
 // Nobody has an event yet.
@@ -203,20 +199,19 @@ fn start_of(script: &Script) -> usize
 }
 
 /// The caller that does an event before `go`.
-pub fn caller_before(request: Request<'_>) -> u8
+pub fn caller_before(request: Request<'_>) -> Caller
     ensures { result ≡ caller_before (event_of request.entry) }
 {
     match request {
-        Request::PfRead(_) | Request::PfWrite(_, _) | Request::PfReset => PF,
-        _ => SERVICE,
+        Request::PfRead(_) | Request::PfWrite(_, _) | Request::PfReset => { Caller::Driver }
+        _ => Caller::Service,
     }
 }
 
 // The caller that does an event after `go`.
-fn caller_of(ports: &Ports, request: Request<'_>) -> u8
+fn caller_of(ports: &Ports, request: Request<'_>) -> Caller
     requires { length ports.now ≡ 64 }
-    ensures caller { result ≡ caller_of ports.now (event_of request.entry) }
-    ensures below { result < 67 }
+    ensures { result ≡ caller_of ports.now (event_of request.entry) }
 {
     match request {
         Request::VfRead(pool, _) | Request::VfWrite(pool, _, _) => port_or_service(ports, pool),
@@ -224,20 +219,24 @@ fn caller_of(ports: &Ports, request: Request<'_>) -> u8
             ports, pool,
         ),
         Request::Flr(pool) | Request::End(pool) => port_or_service(ports, pool),
-        Request::Open(_) | Request::Serve(_, _) => SERVICE,
-        Request::PfRead(_) | Request::PfWrite(_, _) | Request::PfReset => PF,
-        Request::Wire(_) => PUMP,
+        Request::Open(_) | Request::Serve(_, _) => Caller::Service,
+        Request::PfRead(_) | Request::PfWrite(_, _) | Request::PfReset => Caller::Driver,
+        Request::Wire(_) => Caller::Pump,
     }
 }
 
 // The pool's port, where it has one, or the service.
-fn port_or_service(ports: &Ports, pool: u8) -> u8
+#[tactic(auto, using(crate::proofs::Turns::no_pool))]
+fn port_or_service(ports: &Ports, pool: u8) -> Caller
     requires { length ports.now ≡ 64 }
-    ensures caller { result ≡ port_or_service ports.now pool }
-    ensures below { result < 67 }
+    ensures { result ≡ port_or_service ports.now pool }
 {
-    match ports.get(usize::from(pool)) {
-        Some(true) => pool,
-        _ => SERVICE,
+    let Some(pool) = PoolId::new(pool) else {
+        return Caller::Service;
+    };
+    if ports[usize::from(pool.get())] {
+        Caller::Port(pool)
+    } else {
+        Caller::Service
     }
 }

@@ -4,8 +4,9 @@ ghost use Rattle.wire_frame.specs.declared.fault.Fault.{Fault};
 ghost use Rattle.device.specs.declared.span.Span.{Span};
 ghost use Rattle.device.specs.Request.{event_of};
 ghost use Rattle.device.specs.Outcome.{reply_by};
+ghost use Rattle.history.specs.declared.caller.Caller.TheVariants.{Driver, Service};
 ghost use Rattle.recorder.specs.Read.{bytes_told};
-ghost use Rattle.workers.specs.Callers.{caller_before, pf, service};
+ghost use Rattle.workers.specs.Callers.{caller_before};
 ghost use Rattle.workers.specs.Counts.{HasRecorded, HaveKept, HaveRecorded};
 ghost use Rattle.workers.specs.Plans.{events_before};
 ghost use Rattle.workers.specs.Opens.{HaveLeft, IsPrepared, all_closed, opened, pools_from, with_pool};
@@ -14,7 +15,7 @@ use crate::asking::ask;
 use crate::plan::caller_before;
 use device::bytes::MOST_BYTES;
 use device::{Outcome, Request};
-use device_lock::{LockedDevice, PF, Shares};
+use device_lock::{Caller, LockedDevice, Shares};
 use guest_memory::GuestMem;
 use script::{Room, Script};
 use std::alloc::{AllocError, Global};
@@ -36,10 +37,10 @@ pub fn prepare<M: GuestMem, L: Ledger, R: Wait>(
     device: &LockedDevice<M, L>,
     shares: &mut Shares<L>,
 ) -> Result<Vec<u8>, Fault>
-    requires pf { shares.old.pf.caller ≡ pf }
-    requires service { shares.old.service.caller ≡ service }
-    ensures pf { shares.new.pf.caller ≡ pf }
-    ensures service { shares.new.service.caller ≡ service }
+    requires pf { shares.old.pf.caller ≡ Driver }
+    requires service { shares.old.service.caller ≡ Service }
+    ensures pf { shares.new.pf.caller ≡ Driver }
+    ensures service { shares.new.service.caller ≡ Service }
     ensures others { (shares.new.pump ≡ shares.old.pump) × (shares.new.ports ≡ shares.old.ports) }
     ensures prepared { IfOk result
         (λ pools. IsPrepared script.now pools.items shares.old shares.new) }
@@ -70,10 +71,10 @@ fn record_first<M: GuestMem, L: Ledger, R: Wait>(
     shares: &mut Shares<L>,
 ) -> Result<[bool; 64], Fault>
     requires count { count ≤ length script.now.events }
-    requires pf { shares.old.pf.caller ≡ pf }
-    requires service { shares.old.service.caller ≡ service }
-    ensures pf { shares.new.pf.caller ≡ pf }
-    ensures service { shares.new.service.caller ≡ service }
+    requires pf { shares.old.pf.caller ≡ Driver }
+    requires service { shares.old.service.caller ≡ Service }
+    ensures pf { shares.new.pf.caller ≡ Driver }
+    ensures service { shares.new.service.caller ≡ Service }
     ensures others { (shares.new.pump ≡ shares.old.pump) × (shares.new.ports ≡ shares.old.ports) }
     ensures full { IfErr result (λ e. e ≡ Fault.HistoryFull) }
     ensures left { IfOk result
@@ -115,21 +116,19 @@ fn record<M: GuestMem, L: Ledger, R: Wait>(
     read: &mut [u8; MOST_BYTES],
 ) -> Result<Outcome, Fault>
     requires read { length read.old ≡ 2048 }
-    requires pf { shares.old.pf.caller ≡ pf }
-    requires service { shares.old.service.caller ≡ service }
-    ensures pf { shares.new.pf.caller ≡ pf }
-    ensures service { shares.new.service.caller ≡ service }
+    requires pf { shares.old.pf.caller ≡ Driver }
+    requires service { shares.old.service.caller ≡ Service }
+    ensures pf { shares.new.pf.caller ≡ Driver }
+    ensures service { shares.new.service.caller ≡ Service }
     ensures recorded { IfOk result (λ outcome. HasRecorded (event_of request.entry)
         (reply_by (λ span. take (bytes_told outcome) read.new) outcome) shares.old shares.new) }
     ensures unchanged { OnErr result (HaveKept [] shares.old shares.new) }
     ensures full { IfErr result (λ e. e ≡ Fault.HistoryFull) }
     ensures read { length read.new ≡ 2048 }
 {
-    let caller = caller_before(request);
-    if caller == PF {
-        ask(rt, device, &mut shares.pf, request, frame, read)
-    } else {
-        ask(rt, device, &mut shares.service, request, frame, read)
+    match caller_before(request) {
+        Caller::Driver => ask(rt, device, &mut shares.pf, request, frame, read),
+        _ => ask(rt, device, &mut shares.service, request, frame, read),
     }
 }
 

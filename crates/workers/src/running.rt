@@ -1,24 +1,21 @@
 //! The workers, from their starts to their ends.
-ghost use Rattle.std.specs.Prelude.{◌≡◌, ◌⊎◌, [], ◌∷◌, true, false, length, map, replicate, All, IfOk, IfErr, OnOk};
+ghost use Rattle.std.specs.Prelude.{◌≡◌, ◌≢◌, ◌⊎◌, [], ◌∷◌, false, length, map, replicate, IfOk, IfErr, OnOk};
 ghost use Rattle.std.specs.Arc.{arc_value};
 ghost use Rattle.device.specs.declared.event.Event.TheVariants.{End};
+ghost use Rattle.history.specs.declared.caller.Caller.TheVariants.{Driver, Pump, Service};
 ghost use Rattle.recorder.specs.Held.{HasAsked, left_of};
-ghost use Rattle.guest_port.specs.Notes.{knows};
 ghost use Rattle.wire_frame.specs.declared.fault.Fault.{Fault};
-ghost use Rattle.workers.specs.Callers.{pf, pump, service};
 ghost use Rattle.workers.specs.Duties.{HaveDone};
-ghost use Rattle.workers.specs.Ends.{HaveEnded, note_of};
-ghost use Rattle.workers.specs.Run.{HaveRun, duties_of, plan_of, with_ports};
-ghost use Rattle.workers.specs.Sweeps.{AreLooked, IsLooked, end_of, is_ended};
+ghost use Rattle.workers.specs.Ends.{HaveEnded, pool_of};
+ghost use Rattle.workers.specs.Run.{HaveRun, duties_of, plan_of, shares_back, with_ports};
 
 use crate::crew::{Crew, Ended};
 use crate::gate::Gate;
 use crate::pair::start_pair;
 use crate::plan::{Plan, Ports};
 use crate::starting::{Common, start_driver, start_guests};
-use crate::sweeping::end_known;
-use crate::worker::Worker;
-use device_lock::{CALLERS, LockedDevice, Share, Shares};
+use device::Event;
+use device_lock::{CALLERS, Caller, LockedDevice, Share, Shares};
 use guest_memory::GuestMem;
 use guest_port::{EndNote, GuestPort, LockedPort};
 use log::Log;
@@ -33,15 +30,17 @@ use wire_pump::channel;
 /// Does the events of a script after `go`, each worker its own in the order of the script, in a thread of its own: each port
 /// those of its pool that a guest may do, the physical function's driver its own, the wire's reader sends the frames to the
 /// pump, and the service does all others. Each port is closed at the end of its thread, and when all have ended, the service
-/// records `End` once for each port. Logs each worker's start and end at debug level.
+/// records `End` once for each port. The notes are not asked for that: a port whose thread has ended has ended. Logs each worker's
+/// start and end at debug level.
 ///
 /// The shares come back: those that no worker had, those of the ports in order, the driver's, the pump's and the service's, each
 /// with what its worker asked.
 ///
-/// [`Fault::NoMemory`] where the host refused a thread or the room for one, after the workers that run have ended, and where a
-/// note turns out to be of another port, which has not ended. Else [`Fault::HistoryFull`] where the history was full and can't be
-/// folded, after all have ended: the worker that met it ended there. The shares are spent then.
-#[tactic(auto, using(crate::proofs::Closing::have_ended, crate::proofs::Worked::last_caller, crate::proofs::Worked::have_run))]
+/// [`Fault::NoMemory`] where the host refused a thread or the room for one, after the workers that run have ended. Else
+/// [`Fault::HistoryFull`] where the history was full and can't be folded, after all have ended: the worker that met it ended there.
+/// Else [`Fault::BadMake`] where the shares that come back are not 67, one for each caller: one was handed out that no port brings
+/// back. The shares are spent then.
+#[tactic(auto, using(crate::proofs::Closing::have_ended, crate::proofs::Worked::last_caller, crate::proofs::Worked::have_run, crate::proofs::Worked::others_back))]
 pub fn run_workers<
     M: GuestMem + Send + 'static,
     L: Ledger + Send + Sync + 'static,
@@ -59,14 +58,15 @@ pub fn run_workers<
     ports: Vec<(LockedPort<M, L, P>, EndNote)>,
     gate: Arc<G>,
 ) -> Result<Ended<L>, Fault>
-    requires pf { shares.pf.caller ≡ pf }
-    requires pump { shares.pump.caller ≡ pump }
-    requires service { shares.service.caller ≡ service }
+    requires pf { shares.pf.caller ≡ Driver }
+    requires pump { shares.pump.caller ≡ Pump }
+    requires service { shares.service.caller ≡ Service }
     ensures all { IfOk result (λ ended. length ended.shares.items ≡ 67) }
     ensures ends { IfOk result (λ ended. HaveEnded ports.items ended.shares.items) }
     ensures run { IfOk result
         (λ ended. HaveRun (plan_of (arc_value script) ports.items) ports.items shares ended.shares.items) }
-    ensures why { IfErr result (λ e. (e ≡ Fault.NoMemory) ⊎ (e ≡ Fault.HistoryFull)) }
+    ensures why { IfErr result (λ e. (e ≡ Fault.NoMemory) ⊎ ((e ≡ Fault.HistoryFull)
+        ⊎ ((e ≡ Fault.BadMake) × (shares_back shares ports.items ≢ 67)))) }
 {
     let Ok(ran) = run(rt, log, alloc, script, &device, shares, ports, gate) else {
         return Err(Fault::NoMemory);
@@ -76,22 +76,22 @@ pub fn run_workers<
     }
     let Ran {
         mut shares,
-        mut notes,
+        pools,
         ..
     } = ran;
     if shares.len() != CALLERS {
-        return Err(Fault::NoMemory);
+        return Err(Fault::BadMake);
     }
-    record_ends(&rt, &device, &mut notes, &mut shares[CALLERS - 1])?;
+    record_ends(&rt, &device, &pools, &mut shares[CALLERS - 1])?;
     Ok(Ended { shares })
 }
 
-// What the workers leave: their shares, with those that no worker had, the notes of the ports, and whether one of them
-// ended since the history was full.
+// What the workers leave: their shares, with those that no worker had, the pools of the ports, in order, and whether one of the
+// workers ended since the history was full.
 #[derive(Drop)]
 struct Ran<L: Ledger> {
     shares: Vec<Share<L>>,
-    notes: Vec<(u8, EndNote)>,
+    pools: Vec<u8>,
     was_full: bool,
 }
 
@@ -113,10 +113,10 @@ fn run<
     ports: Vec<(LockedPort<M, L, P>, EndNote)>,
     gate: Arc<G>,
 ) -> Result<Ran<L>, AllocError>
-    requires pf { shares.pf.caller ≡ pf }
-    requires pump { shares.pump.caller ≡ pump }
-    requires service { shares.service.caller ≡ service }
-    ensures notes { IfOk result (λ ran. ran.notes.items ≡ map note_of ports.items) }
+    requires pf { shares.pf.caller ≡ Driver }
+    requires pump { shares.pump.caller ≡ Pump }
+    requires service { shares.service.caller ≡ Service }
+    ensures pools { IfOk result (λ ran. ran.pools.items ≡ map pool_of ports.items) }
     ensures done { IfOk result (λ ran. ran.was_full ≡ false
         → HaveDone (duties_of (plan_of (arc_value script) ports.items) ports.items shares)
         (left_of shares.ports.items) ran.shares.items) }
@@ -125,7 +125,7 @@ fn run<
     let Ok((sender, receiver)) = channel(alloc) else {
         return Err(AllocError);
     };
-    let mut notes = Vec::with_capacity(alloc, ports.len())?;
+    let pools = pools_in_order(alloc, &ports)?;
     let mut crew = Crew::new(alloc, ports.len())?;
     let Apart {
         pf,
@@ -133,17 +133,17 @@ fn run<
         service,
         others: mut back,
     } = take_apart(alloc, shares)?;
-    start_guests(rt, log, &common, ports, &mut notes, &mut crew);
-    start_driver(rt, log, &common, Worker::Pf, pf, &mut crew);
+    start_guests(rt, log, &common, ports, &mut crew);
+    start_driver(rt, log, &common, Caller::Driver, pf, &mut crew);
     start_pair(rt, log, &common, pump, sender, receiver, &mut crew);
-    start_driver(rt, log, &common, Worker::Service, service, &mut crew);
+    start_driver(rt, log, &common, Caller::Service, service, &mut crew);
     let ends = crew.join(&rt, log, &mut back);
     if ends.was_refused {
         return Err(AllocError);
     }
     Ok(Ran {
         shares: back,
-        notes,
+        pools,
         was_full: ends.was_full,
     })
 }
@@ -215,54 +215,60 @@ fn no_ports() -> Ports
     [false; 64]
 }
 
-// Records the end of each port, in order, by the service's share. Where the history is full it is folded, and
-// [`Fault::HistoryFull`] comes where it can't be. [`Fault::NoMemory`] comes where a note doesn't know of an end, of which none is
-// told of a port that is closed. What an event takes of the stack is not to be there while workers run.
+// The pool of each port, in order.
+#[tactic(auto, using(crate::proofs::Closing::pools_more, crate::proofs::Closing::pools_all))]
+fn pools_in_order<M: GuestMem, L: Ledger, P: GuestPort>(
+    alloc: Global,
+    ports: &[(LockedPort<M, L, P>, EndNote)],
+) -> Result<Vec<u8>, AllocError>
+    ensures { IfOk result (λ pools. pools.items ≡ map pool_of ports.now) }
+{
+    let mut pools = Vec::with_capacity(alloc, ports.len())?;
+    for (port, _) in ports {
+        pools.push(port.pool())?;
+    }
+    Ok(pools)
+}
+
+// Records the ends of the ports of these pools, in order, by the service's share. Where the history is full it is folded, and
+// [`Fault::HistoryFull`] comes where it can't be. What an event takes of the stack is not to be there while workers run.
 #[inline(never)]
-#[tactic(auto, using(crate::proofs::Closing::ending_begins, crate::proofs::Closing::ending_more, crate::proofs::Closing::ending_known, crate::proofs::Closing::ending_asked))]
+#[tactic(auto, using(crate::proofs::Closing::ending_begins, crate::proofs::Closing::ending_more, crate::proofs::Closing::ending_all))]
 fn record_ends<M: GuestMem, L: Ledger, R: Wait>(
     rt: &R,
     device: &LockedDevice<M, L>,
-    notes: &mut Vec<(u8, EndNote)>,
+    pools: &[u8],
     share: &mut Share<L>,
 ) -> Result<(), Fault>
-    requires { share.old.caller ≡ service }
-    ensures why { IfErr result (λ e. (e ≡ Fault.NoMemory) ⊎ (e ≡ Fault.HistoryFull)) }
-    ensures looked { OnOk result (AreLooked notes.old.items notes.new.items) }
-    ensures known { OnOk result (All (λ note. is_ended note ≡ true) notes.new.items) }
-    ensures ends { OnOk result
-        (HasAsked (map end_of notes.old.items) share.old share.new) }
+    requires { share.old.caller ≡ Service }
+    ensures full { IfErr result (λ e. e ≡ Fault.HistoryFull) }
+    ensures ends { OnOk result (HasAsked (map End pools.now) share.old share.new) }
 {
-    for at in 0..notes.len() {
-        record_end(rt, device, &mut notes[at], share)?;
+    for pool in pools {
+        record_end(rt, device, *pool, share)?;
     }
     Ok(())
 }
 
-// Records the end of a port, of which its note has to know. Where the history is full it is folded first.
-#[tactic(auto, using(crate::proofs::Swept::looked_on, crate::proofs::Swept::looked_none))]
+// Records the end of a pool's port. Where the history is full it is folded first.
+#[tactic(auto, using(crate::proofs::Asks::has_asked))]
 fn record_end<M: GuestMem, L: Ledger, R: Wait>(
     rt: &R,
     device: &LockedDevice<M, L>,
-    note: &mut (u8, EndNote),
+    pool: u8,
     share: &mut Share<L>,
 ) -> Result<(), Fault>
-    requires { share.old.caller ≡ service }
-    ensures why { IfErr result (λ e. (e ≡ Fault.NoMemory) ⊎ (e ≡ Fault.HistoryFull)) }
-    ensures looked { IsLooked note.old note.new }
-    ensures known { OnOk result (knows note.new.1 ≡ true) }
-    ensures asked { OnOk result (HasAsked (End note.new.0 ∷ []) share.old share.new) }
+    requires { share.old.caller ≡ Service }
+    ensures full { IfErr result (λ e. e ≡ Fault.HistoryFull) }
+    ensures asked { OnOk result (HasAsked (End pool ∷ []) share.old share.new) }
     ensures caller { share.new.caller ≡ share.old.caller }
 {
     for _ in rt.forever() {
-        match end_known(rt, note, device, share) {
-            Ok(true) => return Ok(()),
-            Ok(false) => return Err(Fault::NoMemory),
-            Err(_) => {
-                if device.fold(rt).is_none() {
-                    return Err(Fault::HistoryFull);
-                }
-            }
+        if device.act(rt, share, Event::End(pool)).is_ok() {
+            return Ok(());
+        }
+        if device.fold(rt).is_none() {
+            return Err(Fault::HistoryFull);
         }
     }
     unreachable!()

@@ -1,15 +1,15 @@
 //! The starts of the workers, each with a share of its own.
-ghost use Rattle.std.specs.Prelude.{◌≡◌, ◌≤◌, [], ◌∷◌, ◌++◌, false, map, IfOk, OnOk};
+ghost use Rattle.std.specs.Prelude.{◌≡◌, [], ◌∷◌, ◌++◌, false, map, IfOk};
 ghost use Rattle.std.specs.Arc.{arc_value};
+ghost use Rattle.workers.specs.Callers.{is_port};
 ghost use Rattle.workers.specs.Duties.{IsDone, OfPort, OfShare, port_duty};
-ghost use Rattle.workers.specs.Ends.{note_of};
 
 use crate::crew::{Crew, Running};
 use crate::gate::Gate;
 use crate::plan::Plan;
 use crate::work::Work;
 use crate::worker::{Done, Worker, driver, guest};
-use device_lock::{LockedDevice, Share};
+use device_lock::{Caller, LockedDevice, Share};
 use guest_memory::GuestMem;
 use guest_port::{EndNote, GuestPort, LockedPort};
 use log::Log;
@@ -44,8 +44,8 @@ impl<M: GuestMem, L: Ledger, G: Gate + Drop> Common<M, L, G> {
     }
 }
 
-/// Starts a worker for each port, and puts the notes of their ends behind the others, in order, each with its port's pool; where
-/// a start is refused, a beginning of them. A port has room for a frame, which is to be gone from the stack once the workers run.
+/// Starts a worker for each port, in order, and drops the notes of their ends, which nobody looks at; where a start is refused, none
+/// after it. A port has room for a frame, which is to be gone from the stack once the workers run.
 #[inline(never)]
 pub fn start_guests<
     M: GuestMem + Send + 'static,
@@ -59,33 +59,17 @@ pub fn start_guests<
     log: &O,
     common: &Common<M, L, G>,
     ports: Vec<(LockedPort<M, L, P>, EndNote)>,
-    notes: &mut Vec<(u8, EndNote)>,
     crew: &mut Crew<M, L, P>,
 )
     ensures stays { crew.new.was_refused ≡ false → crew.old.was_refused ≡ false }
-    ensures notes { crew.new.was_refused ≡ false
-        → notes.new.items ≡ notes.old.items ++ map note_of ports.items }
     ensures duties { crew.new.was_refused ≡ false
         → crew.new.duties
         ≡ crew.old.duties ++ map (port_duty (arc_value common.now.plan)) ports.items }
 {
     for (port, note) in ports {
-        let Ok(()) = keep_note(notes, &port, note) else {
-            return crew.refuse();
-        };
-        start_guest(rt, log, common, port.pool(), port, crew);
+        drop(note);
+        start_guest(rt, log, common, port.caller(), port, crew);
     }
-}
-
-// Puts a note behind the others, with its port's pool.
-fn keep_note<M: GuestMem, L: Ledger, P: GuestPort>(
-    notes: &mut Vec<(u8, EndNote)>,
-    port: &LockedPort<M, L, P>,
-    note: EndNote,
-) -> Result<(), AllocError>
-    ensures { OnOk result (notes.new.items ≡ notes.old.items ++ note_of (port.now, note) ∷ []) }
-{
-    Ok(notes.push((port.pool(), note))?)
 }
 
 // Starts the worker of a port.
@@ -100,7 +84,7 @@ fn start_guest<
     rt: R,
     log: &O,
     common: &Common<M, L, G>,
-    pool: u8,
+    caller: Caller,
     port: LockedPort<M, L, P>,
     crew: &mut Crew<M, L, P>,
 )
@@ -117,7 +101,7 @@ fn start_guest<
     }
     let work = Work::Guest(Shadow::of(&*mine.plan), Shadow::of(&port));
     match thread::spawn_with(&rt, work, move || do_port(rt, mine, port)) {
-        Ok(thread) => crew.add(log, Worker::Port(pool), Running::One(thread)),
+        Ok(thread) => crew.add(log, Worker::Of(caller), Running::One(thread)),
         Err(_) => crew.refuse(),
     }
 }
@@ -133,7 +117,7 @@ fn do_port<M: GuestMem, L: Ledger, P: GuestPort, G: Gate + Drop, R: Wait + Copy>
     guest(&rt, &mine.plan, &mine.device, &mut port, &*mine.gate)
 }
 
-/// Starts the worker of the physical function's driver, or of the service, with its share.
+/// Starts the worker of a caller that is no port, the physical function's driver or the service, with its share.
 pub fn start_driver<
     M: GuestMem + Send + 'static,
     L: Ledger + Send + Sync + 'static,
@@ -145,11 +129,12 @@ pub fn start_driver<
     rt: R,
     log: &O,
     common: &Common<M, L, G>,
-    worker: Worker,
+    caller: Caller,
     share: Share<L>,
     crew: &mut Crew<M, L, P>,
 )
-    requires { 64 ≤ share.caller }
+    requires caller { share.caller ≡ caller }
+    requires other { is_port caller ≡ false }
     ensures stays { crew.new.was_refused ≡ false → crew.old.was_refused ≡ false }
     ensures duty { crew.new.was_refused ≡ false
         → crew.new.duties
@@ -162,8 +147,8 @@ pub fn start_driver<
         return;
     }
     let work = Work::Owner(Shadow::of(&*mine.plan), Shadow::of(&share));
-    match thread::spawn_with(&rt, work, move || do_share(rt, mine, share)) {
-        Ok(thread) => crew.add(log, worker, Running::One(thread)),
+    match thread::spawn_with(&rt, work, move || do_share(rt, mine, caller, share)) {
+        Ok(thread) => crew.add(log, Worker::Of(caller), Running::One(thread)),
         Err(_) => crew.refuse(),
     }
 }
@@ -172,10 +157,12 @@ pub fn start_driver<
 fn do_share<M: GuestMem, L: Ledger, G: Gate + Drop, R: Wait + Copy>(
     rt: R,
     mine: Common<M, L, G>,
+    caller: Caller,
     share: Share<L>,
 ) -> Done<L>
-    requires { 64 ≤ share.caller }
+    requires caller { share.caller ≡ caller }
+    requires other { is_port caller ≡ false }
     ensures { result.was_full ≡ false → IsDone (OfShare (arc_value mine.plan) share) result.share }
 {
-    driver(&rt, &mine.plan, &mine.device, share, &*mine.gate)
+    driver(&rt, &mine.plan, &mine.device, caller, share, &*mine.gate)
 }

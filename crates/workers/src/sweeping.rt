@@ -1,9 +1,9 @@
 //! The ends of ports, as events.
 ghost use Rattle.std.specs.Prelude.{◌≡◌, ◌+◌, [], ◌∷◌, length, true, false, IfErr, IfOk, OnOk};
 ghost use Rattle.device.specs.declared.event.Event.TheVariants.{End};
+ghost use Rattle.history.specs.declared.caller.Caller.TheVariants.{Service};
 ghost use Rattle.recorder.specs.Held.{HasAsked};
 ghost use Rattle.guest_port.specs.Notes.{knows};
-ghost use Rattle.workers.specs.Callers.{service};
 ghost use Rattle.workers.specs.Sweeps.{IsEndOfOne, IsLooked, IsSwept, NoneEnded};
 
 use device::Event;
@@ -21,7 +21,7 @@ pub fn sweep<M: GuestMem, L: Ledger, R: Wait>(
     device: &LockedDevice<M, L>,
     share: &mut Share<L>,
 ) -> Result<usize, Full>
-    requires { share.old.caller ≡ service }
+    requires { share.old.caller ≡ Service }
     ensures swept { IsSwept notes.old.items notes.new.items share.old share.new }
     ensures count { IfOk result (λ count. count + length notes.new.items ≡ length notes.old.items) }
     ensures all { OnOk result (NoneEnded notes.new.items) }
@@ -44,13 +44,13 @@ pub fn sweep<M: GuestMem, L: Ledger, R: Wait>(
 // Looks at a note, and records its pool's end where it knows of it, which is the answer. (What it says of knowing it says of a
 // note that is there still: of one that is gone it could be made up.)
 #[tactic(auto, using(crate::proofs::Asks::has_asked))]
-pub(crate) fn end_known<M: GuestMem, L: Ledger, R: Wait>(
+fn end_known<M: GuestMem, L: Ledger, R: Wait>(
     rt: &R,
     note: &mut (u8, EndNote),
     device: &LockedDevice<M, L>,
     share: &mut Share<L>,
 ) -> Result<bool, Full>
-    requires { share.old.caller ≡ service }
+    requires { share.old.caller ≡ Service }
     ensures looked { IsLooked note.old note.new }
     ensures knows { IfOk result (λ ended. ended ≡ knows note.new.1) }
     ensures ended { IfOk result

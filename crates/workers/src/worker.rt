@@ -1,13 +1,14 @@
 //! The workers, and what each of them does in its thread.
-ghost use Rattle.std.specs.Prelude.{◌≡◌, ℕ, ◌<◌, ◌≤◌, List, ◌++◌, true, false, length, map, take, Some, IfSome, MatchOption};
+ghost use Rattle.std.specs.Prelude.{◌≡◌, ℕ, ◌<◌, List, [], ◌∷◌, ◌++◌, slice_index_or, true, false, length, map, take, Some, IfSome, MatchOption};
 ghost use Rattle.wire_pump.specs.declared.feeding.FeedEnd.{FeedEnd};
-ghost use Rattle.device.specs.declared.event.Event.TheVariants.{Wire};
+ghost use Rattle.device.specs.declared.event.Event.TheVariants.{PfReset, Wire};
+ghost use Rattle.history.specs.declared.caller.Caller.TheVariants.{Port, Pump};
 ghost use Rattle.recorder.specs.Held.{HasAsked, having_calls};
 ghost use Rattle.wire_pump.specs.declared.pumping.PumpEnd.{PumpEnd};
 ghost use Rattle.wire_pump.specs.Ends.{fed, IsCounted, pumped};
-ghost use Rattle.workers.specs.Callers.{pump};
+ghost use Rattle.workers.specs.Callers.{is_port};
 ghost use Rattle.workers.specs.Asked.{HasLeft};
-ghost use Rattle.workers.specs.Calls.{HasClosed, HasDoneAll};
+ghost use Rattle.workers.specs.Calls.{HasClosed, HasDone, HasDoneAll};
 ghost use Rattle.workers.specs.Frames.{came_by, frames_of};
 ghost use Rattle.workers.specs.Plans.{own_events};
 
@@ -17,7 +18,7 @@ use crate::door::GatedDoor;
 use crate::gate::Gate;
 use crate::plan::Plan;
 use device::bytes::MOST_BYTES;
-use device_lock::{LockedDevice, PUMP, Share};
+use device_lock::{Caller, LockedDevice, Share};
 use guest_memory::GuestMem;
 use guest_port::{GuestPort, LockedPort};
 use script::Room;
@@ -31,26 +32,20 @@ use wire_pump::{FeedEnd, FrameReceiver, FrameSender, PumpEnd, pump};
 /// A worker, which has a thread of its own.
 #[derive(Clone, Copy, Debug, PartialEq, Eq)]
 pub enum Worker {
-    /// The guest of that pool.
-    Port(u8),
-    /// The driver of the physical function.
-    Pf,
+    /// The one that does a caller's events.
+    Of(Caller),
     /// The reader of the wire.
     Reader,
-    /// The pump of frames from the wire.
-    Pump,
-    /// The service.
-    Service,
 }
 
 impl Display for Worker {
     fn fmt<W: Write>(&self, f: &mut Formatter<W>) -> fmt::Result {
         match self {
-            Worker::Port(pool) => write!(f, "port{pool}"),
-            Worker::Pf => f.write_str("pf"),
+            Worker::Of(Caller::Port(pool)) => write!(f, "port{}", pool.get()),
+            Worker::Of(Caller::Driver) => f.write_str("pf"),
+            Worker::Of(Caller::Pump) => f.write_str("pump"),
+            Worker::Of(Caller::Service) => f.write_str("service"),
             Worker::Reader => f.write_str("reader"),
-            Worker::Pump => f.write_str("pump"),
-            Worker::Service => f.write_str("service"),
         }
     }
 }
@@ -95,12 +90,12 @@ pub fn guest<M: GuestMem, L: Ledger, P: GuestPort, G: Gate, R: Wait>(
     gate: &G,
 ) -> Done<L>
     ensures all { result.was_full ≡ false →
-        HasClosed (own_events plan.now port.old.port.pool) port.old port.new }
+        HasClosed (own_events plan.now (Port port.old.port.pool)) port.old port.new }
     ensures part { result.was_full ≡ true
-        → (done : ℕ) × (done < length (own_events plan.now port.old.port.pool))
-        × HasClosed (take done (own_events plan.now port.old.port.pool)) port.old port.new }
+        → (done : ℕ) × (done < length (own_events plan.now (Port port.old.port.pool)))
+        × HasClosed (take done (own_events plan.now (Port port.old.port.pool))) port.old port.new }
     ensures share { MatchOption result.share (port.old.port.is_closed ≡ true)
-        (λ share. (port.old.port.is_closed ≡ false) × (share.caller ≡ port.old.port.pool)) }
+        (λ share. (port.old.port.is_closed ≡ false) × (share.caller ≡ Port port.old.port.pool)) }
     ensures asked { IfSome result.share
         (λ share. share ≡ having_calls port.new.calls port.new.made) }
 {
@@ -116,7 +111,7 @@ pub fn guest<M: GuestMem, L: Ledger, P: GuestPort, G: Gate, R: Wait>(
 }
 
 // Does a port's events, and tells whether all were done.
-#[tactic(auto, using(crate::proofs::Turns::own_port_event, crate::proofs::Turns::done_more, crate::proofs::Turns::same_pool, crate::proofs::Turns::same_close))]
+#[tactic(auto, using(crate::proofs::Turns::done_turn, crate::proofs::Turns::same_pool, crate::proofs::Turns::same_close))]
 fn calls<M: GuestMem, L: Ledger, P: GuestPort, G: Gate, R: Wait>(
     rt: &R,
     plan: &Plan,
@@ -125,46 +120,70 @@ fn calls<M: GuestMem, L: Ledger, P: GuestPort, G: Gate, R: Wait>(
     gate: &G,
 ) -> bool
     ensures all { result ≡ true
-        → HasDoneAll (own_events plan.now port.old.port.pool) port.old port.new }
+        → HasDoneAll (own_events plan.now (Port port.old.port.pool)) port.old port.new }
     ensures part { result ≡ false
-        → (done : ℕ) × (done < length (own_events plan.now port.old.port.pool))
-        × HasDoneAll (take done (own_events plan.now port.old.port.pool)) port.old port.new }
+        → (done : ℕ) × (done < length (own_events plan.now (Port port.old.port.pool)))
+        × HasDoneAll (take done (own_events plan.now (Port port.old.port.pool))) port.old port.new }
     ensures kept { (port.new.port.pool ≡ port.old.port.pool)
         × (port.new.port.is_closed ≡ port.old.port.is_closed) }
 {
-    let caller = port.pool();
+    let number = port.pool();
     let mut room = Room::new();
     let mut read = [0; MOST_BYTES];
     let mut n = 0u32;
-    for turn in 0..plan.turns(caller) {
+    for turn in 0..plan.turns(port.caller()) {
         n = n.wrapping_add(1);
-        gate.before(caller, n);
-        let request = plan.request(caller, turn, &mut room);
-        let done = call(rt, device, port, request, &mut read);
-        gate.after(caller, n);
-        if done.is_err() {
+        gate.before(number, n);
+        let done = call_turn(rt, plan, device, port, turn, &mut room, &mut read);
+        gate.after(number, n);
+        if !done {
             return false;
         }
     }
     true
 }
 
-/// Does the events of the driver of the physical function, or of the service, by its share.
+// Does one of a port's events, and tells whether it was done.
+#[tactic(auto, using(crate::proofs::Turns::own_port_event))]
+fn call_turn<M: GuestMem, L: Ledger, P: GuestPort, R: Wait>(
+    rt: &R,
+    plan: &Plan,
+    device: &LockedDevice<M, L>,
+    port: &mut LockedPort<M, L, P>,
+    turn: usize,
+    room: &mut Room,
+    read: &mut [u8; MOST_BYTES],
+) -> bool
+    requires { turn < length (own_events plan.now (Port port.old.port.pool)) }
+    ensures done { result ≡ true
+        → HasDone (slice_index_or (own_events plan.now (Port port.old.port.pool)) turn PfReset) port.old port.new }
+    ensures undone { result ≡ false → port.new ≡ port.old }
+{
+    let request = plan.request(port.caller(), turn, room);
+    match call(rt, device, port, request, read) {
+        Ok(()) => true,
+        Err(_) => false,
+    }
+}
+
+/// Does the events of a caller that is no port, the driver of the physical function or the service, by its share.
 pub fn driver<M: GuestMem, L: Ledger, G: Gate, R: Wait>(
     rt: &R,
     plan: &Plan,
     device: &LockedDevice<M, L>,
+    caller: Caller,
     mut share: Share<L>,
     gate: &G,
 ) -> Done<L>
-    requires { 64 ≤ share.caller }
+    requires caller { share.caller ≡ caller }
+    requires other { is_port caller ≡ false }
     ensures all { result.was_full ≡ false →
         HasLeft (own_events plan.now share.caller) share result.share }
     ensures part { result.was_full ≡ true
         → (done : ℕ) × (done < length (own_events plan.now share.caller))
         × HasLeft (take done (own_events plan.now share.caller)) share result.share }
 {
-    let was_full = !events(rt, plan, device, &mut share, gate);
+    let was_full = !events(rt, plan, device, caller, &mut share, gate);
     Done {
         share: Some(share),
         was_full,
@@ -172,48 +191,81 @@ pub fn driver<M: GuestMem, L: Ledger, G: Gate, R: Wait>(
 }
 
 // Does the events of a share's caller, and tells whether all were done.
-#[tactic(auto, using(crate::proofs::Turns::own_may, crate::proofs::Turns::room_for, crate::proofs::Asks::told_more, crate::proofs::Asks::asked_none))]
+#[tactic(auto, using(crate::proofs::Asks::asked_turn, crate::proofs::Asks::asked_none))]
 fn events<M: GuestMem, L: Ledger, G: Gate, R: Wait>(
     rt: &R,
     plan: &Plan,
     device: &LockedDevice<M, L>,
+    caller: Caller,
     share: &mut Share<L>,
     gate: &G,
 ) -> bool
-    requires { 64 ≤ share.old.caller }
+    requires caller { share.old.caller ≡ caller }
+    requires other { is_port caller ≡ false }
     ensures all { result ≡ true
         → HasAsked (own_events plan.now share.old.caller) share.old share.new }
     ensures part { result ≡ false
         → (done : ℕ) × (done < length (own_events plan.now share.old.caller))
         × HasAsked (take done (own_events plan.now share.old.caller)) share.old share.new }
 {
-    let caller = share.caller();
+    let number = caller.number();
     let mut room = Room::new();
     let mut frame = FrameBuf::blank();
     let mut read = [0; MOST_BYTES];
     let mut n = 0u32;
     for turn in 0..plan.turns(caller) {
         n = n.wrapping_add(1);
-        gate.before(caller, n);
-        let request = plan.request(caller, turn, &mut room);
-        let done = ask(rt, device, share, request, &mut frame, &mut read);
-        gate.after(caller, n);
-        if done.is_err() {
+        gate.before(number, n);
+        let done = ask_turn(
+            rt, plan, device, &caller, share, turn, &mut room, &mut frame, &mut read,
+        );
+        gate.after(number, n);
+        if !done {
             return false;
         }
     }
     true
 }
 
+// Does one of the events of a share's caller, and tells whether it was done.
+#[tactic(auto, using(crate::proofs::Turns::own_may, crate::proofs::Turns::room_for, crate::proofs::Asks::told_one))]
+fn ask_turn<M: GuestMem, L: Ledger, R: Wait>(
+    rt: &R,
+    plan: &Plan,
+    device: &LockedDevice<M, L>,
+    caller: &Caller,
+    share: &mut Share<L>,
+    turn: usize,
+    room: &mut Room,
+    frame: &mut FrameBuf,
+    read: &mut [u8; MOST_BYTES],
+) -> bool
+    requires caller { share.old.caller ≡ caller.now }
+    requires other { is_port caller.now ≡ false }
+    requires turn { turn < length (own_events plan.now caller.now) }
+    requires read { length read.old ≡ 2048 }
+    ensures asked { result ≡ true
+        → HasAsked (slice_index_or (own_events plan.now caller.now) turn PfReset ∷ []) share.old share.new }
+    ensures undone { result ≡ false → share.new ≡ share.old }
+    ensures caller { share.new.caller ≡ share.old.caller }
+    ensures read { length read.new ≡ 2048 }
+{
+    let request = plan.request(*caller, turn, room);
+    match ask(rt, device, share, request, frame, read) {
+        Ok(_) => true,
+        Err(_) => false,
+    }
+}
+
 /// Reads the frames of the wire from the script, and sends them and then `Last` to the pump.
 pub fn reader<R: Wait>(rt: &R, plan: &Plan, sender: &mut FrameSender)
-    ensures sent { (end : FeedEnd) × IsCounted (length (frames_of (own_events plan.now pump))) end
+    ensures sent { (end : FeedEnd) × IsCounted (length (frames_of (own_events plan.now Pump))) end
         × (sender.new
         ≡ record sender.old {
           sent = sender.old.sent
-              ++ fed (frames_of (own_events plan.now pump)) end;
+              ++ fed (frames_of (own_events plan.now Pump)) end;
         }) }
-    ensures wire { map Wire (frames_of (own_events plan.now pump)) ≡ own_events plan.now pump }
+    ensures wire { map Wire (frames_of (own_events plan.now Pump)) ≡ own_events plan.now Pump }
 {
     let _ = send_frames(rt, plan, sender);
 }
@@ -224,10 +276,10 @@ fn send_frames<R: Wait>(rt: &R, plan: &Plan, sender: &mut FrameSender) -> FeedEn
     ensures sent { sender.new
         ≡ record sender.old {
           sent = sender.old.sent
-              ++ fed (frames_of (own_events plan.now pump)) result;
+              ++ fed (frames_of (own_events plan.now Pump)) result;
         } }
-    ensures count { IsCounted (length (frames_of (own_events plan.now pump))) result }
-    ensures wire { map Wire (frames_of (own_events plan.now pump)) ≡ own_events plan.now pump }
+    ensures count { IsCounted (length (frames_of (own_events plan.now Pump))) result }
+    ensures wire { map Wire (frames_of (own_events plan.now Pump)) ≡ own_events plan.now Pump }
 {
     let mut room = Room::new();
     let count = plan.frames();
@@ -253,7 +305,7 @@ pub fn pumping<M: GuestMem, L: Ledger, G: Gate + Drop, R: Wait>(
     ensures asked { (frames : List (List ℕ)) × (end : PumpEnd)
         × (receiver.new
         ≡ record receiver.old { received = receiver.old.received ++ pumped frames end })
-        × HasAsked (map Wire frames) (record { caller = pump; asked = door.inner.asked }) result.0
+        × HasAsked (map Wire frames) (record { caller = Pump; asked = door.inner.asked }) result.0
         × (result.1 ≡ came_by end) }
 {
     let came = match pump(receiver, rt, &mut door) {

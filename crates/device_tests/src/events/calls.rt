@@ -16,7 +16,7 @@ fn to(messages: Messages, pool: u8) -> u8 {
 // The pools that got messages, a bit for each; None where the call was refused.
 fn heard(messages: Result<Messages, Fault>) -> Option<u64> {
     match messages {
-        Ok(messages) => Some(messages.pools()),
+        Ok(messages) => Some(messages.pools().bits()),
         Err(_) => None,
     }
 }
@@ -50,7 +50,7 @@ fn vf_read_and_vf_write(rt: HostRuntime) -> Result<(), Fail> {
     assert_equal(&rt, device.vf_read(1, 0x101), Err(Fault::BadOffset));
     // a cause that is set issues the message of its vector, to this pool alone
     let messages = device.vf_write(1, 0x104, 4)?;
-    assert_equal(&rt, messages.pools(), 2);
+    assert_equal(&rt, messages.pools().bits(), 2);
     assert_equal(&rt, to(messages, 1), 4);
     Ok(())
 }
@@ -107,7 +107,7 @@ fn wire_tells_who_got_messages(rt: HostRuntime) -> Result<(), Fail> {
     let mut device = Device::new(rt.alloc(), memories(rt.alloc(), 8, 65536)?)?;
     set_up(&rt, &mut device)?;
     let messages = device.wire(&frame_to(3, 0)?)?;
-    assert_equal(&rt, messages.pools(), 8);
+    assert_equal(&rt, messages.pools().bits(), 8);
     assert_equal(&rt, to(messages, 3), 1);
     // there is one buffer, so a second frame has no room
     assert_equal(&rt, heard(device.wire(&frame_to(3, 1)?)), Some(0));
@@ -147,7 +147,7 @@ fn send_one<R: Abort, M: GuestMem>(
     assert!(rt; device.vf_read(3, 0x100).is_ok());
     let mut room = FrameBuf::blank();
     let taken = device.serve(3, Queue::Q0, &mut room);
-    assert_equal(rt, taken.messages.pools(), 8);
+    assert_equal(rt, taken.messages.pools().bits(), 8);
     if let Some(sent) = taken.sent {
         assert_equal(rt, sent.bytes(), frame.bytes());
     }

@@ -12,13 +12,14 @@ fn open_all<R: Abort, M: GuestMem>(
     // both words of the receive enables
     for offset in [0x51E0, 0x51E4] {
         let enable = Request::PfWrite(offset, 0xFFFF_FFFF);
-        keep(rt, history, device, 64, enable, &mut frame);
+        keep(rt, history, device, Caller::Driver, enable, &mut frame);
     }
     let descriptor = MemSlice::new(&[0, 4])?;
     for pool in 0..64u8 {
-        keep(rt, history, device, 66, Request::Open(pool), &mut frame);
+        let open = Request::Open(pool);
+        keep(rt, history, device, Caller::Service, open, &mut frame);
         let write = Request::MemWrite(pool, 0, descriptor);
-        keep(rt, history, device, pool, write, &mut frame);
+        keep(rt, history, device, port_of(pool), write, &mut frame);
         for (offset, value) in RECEIVE {
             let value = if offset == 0x120 {
                 0x80 | vector
@@ -26,7 +27,7 @@ fn open_all<R: Abort, M: GuestMem>(
                 value
             };
             let write = Request::VfWrite(pool, offset, value);
-            keep(rt, history, device, pool, write, &mut frame);
+            keep(rt, history, device, port_of(pool), write, &mut frame);
         }
     }
     Ok(())
@@ -42,7 +43,7 @@ fn accept_broadcast<R: Abort, M: GuestMem>(
     let mut frame = FrameBuf::blank();
     for pool in pools {
         let accept = Request::PfWrite(0xF000 + 4 * u32::from(*pool), 0x0800_0000);
-        keep(rt, history, device, 64, accept, &mut frame);
+        keep(rt, history, device, Caller::Driver, accept, &mut frame);
     }
 }
 
@@ -69,17 +70,18 @@ fn a_twin_gives_messages_to_any_pools(rt: HostRuntime) -> Result<(), Fail> {
         open_all(&rt, &mut history, &mut device, vector)?;
         accept_broadcast(&rt, &mut history, &mut device, pools);
         let wire = Request::Wire(&broadcast);
-        let told = keep(&rt, &mut history, &mut device, 65, wire, &mut frame).messages;
+        let pump = Caller::Pump;
+        let told = keep(&rt, &mut history, &mut device, pump, wire, &mut frame).messages;
         assert_equal(
             &rt,
-            told.pools_with(vector as u8).count_ones() as usize,
+            told.pools_with(vector as u8).bits().count_ones() as usize,
             pools.len(),
         );
         assert_equal(&rt, told.pools(), told.pools_with(vector as u8));
         // all three vectors of one pool
         let set = Request::VfWrite(7, 0x104, 7);
-        let told = keep(&rt, &mut history, &mut device, 7, set, &mut frame).messages;
-        assert_equal(&rt, told.pools(), 1 << 7);
+        let told = keep(&rt, &mut history, &mut device, port_of(7), set, &mut frame).messages;
+        assert_equal(&rt, told.pools().bits(), 1 << 7);
         let mut twin = device_of_64(rt.alloc())?;
         assert_equal(&rt, first_other(&history, &mut twin, &mut room), None);
     }
@@ -96,7 +98,8 @@ fn a_device_whose_function_is_open_gives_another_answer(rt: HostRuntime) -> Resu
         Request::Open(0),
         Request::VfRead(0, 0x10),
     ] {
-        keep(&rt, &mut history, &mut device, 66, request, &mut frame);
+        let service = Caller::Service;
+        keep(&rt, &mut history, &mut device, service, request, &mut frame);
     }
     let mut room = Room::new();
     let mut other = device_of_64(rt.alloc())?;

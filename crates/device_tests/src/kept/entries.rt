@@ -23,18 +23,23 @@ fn is_same(first: Request<'_>, second: Request<'_>) -> bool {
     }
 }
 
+// A caller for each call: the service, the pump, the driver, and the ports from that of pool 63 down.
+fn caller_at(index: usize) -> Option<Caller> {
+    Caller::from_number((66 - index % 67) as u8)
+}
+
 // Keeps calls of a device with 64 functions, and reads each back once all are kept.
 fn assert_kept<R: Abort>(rt: &R, alloc: Global, asked: &[Request<'_>]) -> Result<(), Fail> {
     let mut device = device_of_64(alloc)?;
     let mut history = History::new(alloc, 16)?;
     let mut frame = FrameBuf::blank();
     for i in 0..asked.len() {
-        let caller = (i % 256) as u8;
+        let caller = caller_at(i).ok_or("no caller")?;
         keep(rt, &mut history, &mut device, caller, asked[i], &mut frame);
     }
     assert_equal(rt, history.len(), asked.len());
     for i in 0..history.len() {
-        assert_equal(rt, usize::from(history.caller(i)), i);
+        assert_equal(rt, Some(history.caller(i)), caller_at(i));
         let kept = history.request(i, &mut frame);
         for j in 0..asked.len() {
             assert_eq!(rt; is_same(kept, asked[j]), i == j, "at {i} and {j}");
@@ -111,7 +116,7 @@ fn there_are_as_many_entries_as_the_cap(rt: HostRuntime) -> Result<(), Fail> {
             &rt,
             &mut history,
             &mut device,
-            64,
+            Caller::Driver,
             Request::PfRead(offset),
             &mut frame,
         );
@@ -127,12 +132,12 @@ fn there_are_as_many_entries_as_the_cap(rt: HostRuntime) -> Result<(), Fail> {
         &rt,
         &mut history,
         &mut device,
-        9,
+        port_of(9),
         Request::MemWrite(9, 7, written),
         &mut frame,
     );
     assert!(rt; 0 < history.len());
-    assert_equal(&rt, history.caller(0), 9);
+    assert_equal(&rt, history.caller(0), port_of(9));
     assert!(rt;
         is_same(
             history.request(0, &mut frame),

@@ -3,6 +3,7 @@ use super::{device_of_8, run};
 use crate::compare::assert_equal;
 use device::{MemSlice, Outcome, Request, Taken};
 use irq_causes::Messages;
+use script_support::registers::{PF_VT_CTL, SRRCTL0, VFCTRL, VFLINKS};
 use std::test::Fail;
 use transcript::{Fault, Output};
 
@@ -11,18 +12,19 @@ use transcript::{Fault, Output};
 fn reads_and_refusals(rt: HostRuntime) -> Result<(), Fail> {
     let alloc = rt.alloc();
     let asked = [
-        Request::VfRead(8, 0),
-        Request::VfRead(0, 0x10),
+        Request::VfRead(8, VFCTRL),
+        Request::VfRead(0, VFLINKS),
         Request::Open(0),
         Request::Open(0),
+        // past the registers, and in between
         Request::VfRead(0, 0x4000),
         Request::VfRead(0, 0x101),
         Request::MemRead(0, 65535, 2),
         Request::MemRead(0, 0, 2049),
         Request::PfRead(0x20000),
-        Request::PfRead(0x51B0),
-        Request::VfRead(0, 0x10),
-        Request::VfRead(0, 0x1014),
+        Request::PfRead(PF_VT_CTL),
+        Request::VfRead(0, VFLINKS),
+        Request::VfRead(0, SRRCTL0),
         // no bytes at the end of the memory
         Request::MemRead(0, 65536, 0),
         Request::MemWrite(0, 0, MemSlice::new(&[0xAB, 0xCD, 0x0E])?),

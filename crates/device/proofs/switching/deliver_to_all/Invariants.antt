@@ -1,4 +1,4 @@
--- Where a bit is left nothing has changed yet; elsewhere each function got the frame where its bit was set.
+-- At a pool that is left nothing has changed yet; elsewhere each function got the frame where its pool was in the set.
 use Rattle.std.proofs.Common.{◌≡◌, ◌<◌, ◌≤◌, ℕ, get_or, length, map, true}
 use Rattle.std.specs.Int.{bit_at}
 use Rattle.wire_frame.specs.Bits.{has_bit}
@@ -6,20 +6,17 @@ use Rattle.vf_unit.specs.Unit.{Closed, size_of}
 use Rattle.device.specs.World.{offered}
 use Rattle.device.proofs.switching.deliver_to_all.Given as goal
 
-abbrev pub invariant-loop-rest : goal.invariant-loop-rest
-invariant-loop-rest g l = record {
+abbrev pub invariant-loop-pool : goal.invariant-loop-pool
+invariant-loop-pool g l = record {
   few : length l.units ≤ 64;
   raised_length : length l.raised ≡ 64;
   same_length : length l.units ≡ length l.fn.units;
   sizes : map size_of l.units ≡ map size_of l.fn.units;
-  set : (k : ℕ) → bit_at l.rest k ≡ 1 → has_bit l.pools k ≡ true;
-  left : (k : ℕ) → bit_at l.rest k ≡ 1 → get_or l.units k (Closed 0) ≡ get_or l.fn.units k (Closed 0);
-  silent : (k : ℕ) → bit_at l.rest k ≡ 1 → get_or l.raised k 0 ≡ 0;
-  done : (k : ℕ) → k < length l.fn.units → bit_at l.rest k ≡ 0 →
-      get_or l.units k (Closed 0) ≡ (offered (has_bit l.pools k) l.loopback l.frame (get_or l.fn.units k (Closed 0))).state;
-  told : (k : ℕ) → k < 64 → bit_at l.rest k ≡ 0 →
-      get_or l.raised k 0 ≡ (offered (has_bit l.pools k) l.loopback l.frame (get_or l.fn.units k (Closed 0))).messages;
+  set : (k : ℕ) → bit_at l.pool-iterator k ≡ 1 → has_bit l.fn.pools k ≡ true;
+  left : (k : ℕ) → bit_at l.pool-iterator k ≡ 1 → get_or l.units k (Closed 0) ≡ get_or l.fn.units k (Closed 0);
+  silent : (k : ℕ) → bit_at l.pool-iterator k ≡ 1 → get_or l.raised k 0 ≡ 0;
+  done : (k : ℕ) → k < length l.fn.units → bit_at l.pool-iterator k ≡ 0 →
+      get_or l.units k (Closed 0) ≡ (offered (has_bit l.fn.pools k) l.loopback l.frame (get_or l.fn.units k (Closed 0))).state;
+  told : (k : ℕ) → k < 64 → bit_at l.pool-iterator k ≡ 0 →
+      get_or l.raised k 0 ≡ (offered (has_bit l.fn.pools k) l.loopback l.frame (get_or l.fn.units k (Closed 0))).messages;
 }
-
-abbrev pub decreases-loop-rest : goal.decreases-loop-rest
-decreases-loop-rest g l = l.rest

@@ -1,12 +1,11 @@
 -- The lone function is as it is made.
-use Rattle.transcript.proofs.Known.{began_none, on_err}
-use Rattle.modes.proofs.Left.{began_as, seen_same}
+use Rattle.std.proofs.Common.{ℕ, List, subst}
+use Rattle.std.specs.Prelude.{OnErr}
+use Rattle.transcript.specs.Known.{Began}
+use Rattle.modes.proofs.Left.{seen_same}
 use Rattle.modes.proofs.alone.perform.Goals as goal
 
-pub returns-in_default-clause-err : goal.returns-in_default-clause-err
-returns-in_default-clause-err g c = began_none _ _
-
-pub returns-in_err-told-clause-err : goal.returns-in_err-told-clause-err
-returns-in_err-told-clause-err g c =
-    on_err c.from_residual-in_err-told.result
-    (began_as _ _ _ _ (seen_same c.args.output.now _ c.args.pool _ _ _ c.args.script.now.events c.deref_mut.ensures.value c.in_ok-lone.ensures.ok) c.in_err-told.ensures.err)
+pub returns-clause-err : goal.returns-clause-err
+returns-clause-err g c =
+    let P : List ℕ → Type 0 = λ t. OnErr c.observe-told.result (Began (g.W.Write.contents c.args.writer.now) (g.W.Write.contents c.observe-told.new.writer) t) in
+    subst P (seen_same c.args.output.now _ c.args.pool _ _ _ c.args.script.now.events c.deref_mut.ensures.value c.in_ok-lone.ensures.ok) c.observe-told.ensures.err

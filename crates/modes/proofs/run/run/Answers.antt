@@ -11,26 +11,23 @@ use Rattle.modes.proofs.run.run.Goals as goal
 pub returns-in_err-device-clause-err : goal.returns-in_err-device-clause-err
 returns-in_err-device-clause-err g c = on_err c.from_residual.result (began_none _ _)
 
-pub returns-in_default-clause-err : goal.returns-in_default-clause-err
-returns-in_default-clause-err g c = began_none _ _
-
 pub returns-in-Err-clause-err : goal.returns-in-Err-clause-err
 returns-in-Err-clause-err g c =
     began_as _ _ _ _ (run_over c.args.output.now _ _ _ c.args.script.now.events c.deref_mut.ensures.value (c.in_ok-device.ensures.ok ∙ ap device_of c.shape-shape.ensures)) c.in-Err.ensures.err
 
-pub returns-in-Ok-told-clause-isolated : goal.returns-in-Ok-told-clause-isolated
-returns-in-Ok-told-clause-isolated g c =
+pub returns-in-Ok-clause-isolated : goal.returns-in-Ok-clause-isolated
+returns-in-Ok-clause-isolated g c =
     let said = c.args.script.now in
     let made = c.in_ok-device.ensures.ok ∙ ap device_of c.shape-shape.ensures in
     let few : said.device.functions ≤ 64 = subst (λ (d : Asked). d.functions ≤ 64) c.shape-shape.ensures c.shape-shape.result.most in
     let after : c.perform-told.new.device ≡ world_after (device_of said.device) said.events =
-    c.in-Ok-told.ensures.world ∙ (λ k. world_after ((c.deref_mut.ensures.value ∙ made) k) said.events) in
+    c.in-Ok.ensures.world ∙ (λ k. world_after ((c.deref_mut.ensures.value ∙ made) k) said.events) in
     sent_isolated said few _ after _ _ c.args.output.now _
-    (sent_as _ _ _ _ _ (run_over c.args.output.now _ _ _ said.events c.deref_mut.ensures.value made) c.in-Ok-told.ensures.ok)
+    (sent_as _ _ _ _ _ (run_over c.args.output.now _ _ _ said.events c.deref_mut.ensures.value made) c.in-Ok.ensures.ok)
 
-pub returns-in-Ok-told-clause-isolated_state : goal.returns-in-Ok-told-clause-isolated_state
-returns-in-Ok-told-clause-isolated_state g c =
+pub returns-in-Ok-clause-isolated_state : goal.returns-in-Ok-clause-isolated_state
+returns-in-Ok-clause-isolated_state g c =
     let said = c.args.script.now in
     let made = c.in_ok-device.ensures.ok ∙ ap device_of c.shape-shape.ensures in
     are_left said (subst (λ (d : Asked). d.functions ≤ 64) c.shape-shape.ensures c.shape-shape.result.most) _
-    (c.in-Ok-told.ensures.world ∙ (λ k. world_after ((c.deref_mut.ensures.value ∙ made) k) said.events))
+    (c.in-Ok.ensures.world ∙ (λ k. world_after ((c.deref_mut.ensures.value ∙ made) k) said.events))

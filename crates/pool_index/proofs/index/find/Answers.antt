@@ -16,7 +16,7 @@ loop-low-preserved-then-here-key-2 c =
     let l = c.loop-low in
     record {
       within = omega arith;
-      between = (all_lower c.args.known.now c.args.key ((l.low + l.high) / 2) _ c.requires.rises (omega arith) c.if-here-key-2.true, l.invariant.between.1);
+      between = (all_lower c.args.kept.now c.args.key ((l.low + l.high) / 2) _ c.requires.rises (omega arith) c.if-here-key-2.true, l.invariant.between.1);
       halved = λ digits h.
           let far = l.invariant.halved digits h in
           let more = some_left digits l.compared (l.high - l.low) far.0 (omega arith) far.1 in
@@ -26,10 +26,10 @@ loop-low-preserved-then-here-key-2 c =
 pub loop-low-preserved : goal.loop-low-preserved
 loop-low-preserved c =
     let l = c.loop-low in
-    let other : c.args.key < (slice_index_or c.args.known.now ((l.low + l.high) / 2) (record { key = 0; pools = 0 })).key = grind (arith, nat_tests, c.if-here-key.false, c.if-here-key-2.false) in
+    let other : c.args.key < (slice_index_or c.args.kept.now ((l.low + l.high) / 2) (record { key = 0; pools = 0 })).key = grind (arith, nat_tests, c.if-here-key.false, c.if-here-key-2.false) in
     record {
       within = omega arith;
-      between = (l.invariant.between.0, all_higher c.args.known.now c.args.key ((l.low + l.high) / 2) _ c.requires.rises (omega arith) other);
+      between = (l.invariant.between.0, all_higher c.args.kept.now c.args.key ((l.low + l.high) / 2) _ c.requires.rises (omega arith) other);
       halved = λ digits h.
           let far = l.invariant.halved digits h in
           let more = some_left digits l.compared (l.high - l.low) far.0 (omega arith) far.1 in

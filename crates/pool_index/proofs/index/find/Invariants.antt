@@ -5,9 +5,9 @@ use Rattle.pool_index.proofs.index.find.Given as goal
 
 abbrev pub invariant-loop-low : goal.invariant-loop-low
 invariant-loop-low l = record {
-  within : (l.low ≤ l.high) × (l.high ≤ length l.known);
-  between : IsBetween l.known l.key l.low l.high;
-  halved : (digits : ℕ) → length l.known < 2 ^ digits → (l.compared ≤ digits) × (l.high - l.low < 2 ^ (digits - l.compared));
+  within : (l.low ≤ l.high) × (l.high ≤ length l.kept);
+  between : IsBetween l.kept l.key l.low l.high;
+  halved : (digits : ℕ) → length l.kept < 2 ^ digits → (l.compared ≤ digits) × (l.high - l.low < 2 ^ (digits - l.compared));
 }
 
 abbrev pub decreases-loop-low : goal.decreases-loop-low

@@ -6,7 +6,7 @@ use Rattle.script.proofs.script.read_all.Given as goal
 
 abbrev pub invariant-loop : goal.invariant-loop
 invariant-loop g l = record {
-  block : length l.block ≡ 131072;
+  block : length l.block ≡ 65536;
   filled : l.filled ≤ 40000;
   clear : IsWithout 10 (take l.filled l.block);
   reads : ReadsOn (g.R.Read.remaining l.initial.reader) (g.R.Read.remaining l.reader) (take l.filled l.block) l.lines;

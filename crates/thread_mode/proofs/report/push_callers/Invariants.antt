@@ -2,9 +2,9 @@
 use Rattle.std.proofs.Common.{◌≡◌, ◌++◌, drop}
 use Rattle.std.specs.String.{string_bytes}
 use Rattle.transcript.specs.Lines.{numbered}
-use Rattle.thread_mode.specs.Report.{caller_line}
+use Rattle.thread_mode.specs.Report.{line_of}
 use Rattle.thread_mode.proofs.report.push_callers.Given as goal
 
-abbrev pub invariant-loop-caller : goal.invariant-loop-caller
-invariant-loop-caller l =
-    string_bytes l.text ++ numbered caller_line l.caller (drop l.caller l.calls) ≡ string_bytes l.fn.text ++ numbered caller_line 0 l.calls
+abbrev pub invariant-loop-number : goal.invariant-loop-number
+invariant-loop-number l =
+    string_bytes l.text ++ numbered line_of l.number (drop l.number l.calls) ≡ string_bytes l.fn.text ++ numbered line_of 0 l.calls

@@ -5,17 +5,17 @@ use Rattle.device.specs.Request.{event_of}
 use Rattle.workers.proofs.First.{kept_none, recorded_pf, recorded_service}
 use Rattle.workers.proofs.preparing.record.Goals as goal
 
-pub returns-then-caller-eq-PF-clause-recorded : goal.returns-then-caller-eq-PF-clause-recorded
-returns-then-caller-eq-PF-clause-recorded g c =
+pub returns-in-Driver-clause-recorded : goal.returns-in-Driver-clause-recorded
+returns-in-Driver-clause-recorded g c =
     IfOk-weaker c.ask.result _ _ (λ outcome told. recorded_pf (event_of c.args.request) _ _ _ (search rules) c.requires.pf told refl refl refl) c.ask.ensures.kept
 
-pub returns-then-caller-eq-PF-clause-unchanged : goal.returns-then-caller-eq-PF-clause-unchanged
-returns-then-caller-eq-PF-clause-unchanged g c = on_err_weaker c.ask.result (λ same. kept_none _ _ same.0 refl refl refl) c.ask.ensures.unchanged
+pub returns-in-Driver-clause-unchanged : goal.returns-in-Driver-clause-unchanged
+returns-in-Driver-clause-unchanged g c = on_err_weaker c.ask.result (λ same. kept_none _ _ same.0 refl refl refl) c.ask.ensures.unchanged
 
-pub returns-else-caller-eq-PF-clause-recorded : goal.returns-else-caller-eq-PF-clause-recorded
-returns-else-caller-eq-PF-clause-recorded g c =
-    IfOk-weaker c.ask-else-caller-eq-PF.result _ _ (λ outcome told. recorded_service (event_of c.args.request) _ _ _ (search rules) c.requires.service told refl refl refl) c.ask-else-caller-eq-PF.ensures.kept
+pub returns-in_default-clause-recorded : goal.returns-in_default-clause-recorded
+returns-in_default-clause-recorded g c =
+    IfOk-weaker c.ask-in_default.result _ _ (λ outcome told. recorded_service (event_of c.args.request) _ _ _ (search rules) c.requires.service told refl refl refl) c.ask-in_default.ensures.kept
 
-pub returns-else-caller-eq-PF-clause-unchanged : goal.returns-else-caller-eq-PF-clause-unchanged
-returns-else-caller-eq-PF-clause-unchanged g c =
-    on_err_weaker c.ask-else-caller-eq-PF.result (λ same. kept_none _ _ refl same.0 refl refl) c.ask-else-caller-eq-PF.ensures.unchanged
+pub returns-in_default-clause-unchanged : goal.returns-in_default-clause-unchanged
+returns-in_default-clause-unchanged g c =
+    on_err_weaker c.ask-in_default.result (λ same. kept_none _ _ refl same.0 refl refl) c.ask-in_default.ensures.unchanged

@@ -1,10 +1,6 @@
--- Nothing was asked so far, and the note may have been looked at.
+-- Nothing was asked so far.
 use Rattle.std.proofs.Common.{◌≡◌}
-use Rattle.workers.specs.Sweeps.{IsLooked}
 use Rattle.workers.proofs.running.record_end.Given as goal
 
 abbrev pub invariant-loop : goal.invariant-loop
-invariant-loop g l = record {
-  looked : IsLooked l.fn.note l.note;
-  same : l.share ≡ l.fn.share;
-}
+invariant-loop g l = l.share ≡ l.fn.share

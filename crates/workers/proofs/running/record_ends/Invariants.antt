@@ -1,12 +1,12 @@
--- The ends of the notes so far are recorded.
-use Rattle.std.proofs.Common.{◌≡◌, length}
-use Rattle.workers.specs.Callers.{service}
-use Rattle.workers.proofs.Closing.{IsEnding}
+-- The ends of the ports of the pools so far are recorded.
+use Rattle.std.proofs.Common.{◌≡◌, map, take}
+use Rattle.device.specs.declared.event.Event.TheVariants.{End}
+use Rattle.history.specs.declared.caller.Caller.TheVariants.{Service}
+use Rattle.recorder.specs.Held.{HasAsked}
 use Rattle.workers.proofs.running.record_ends.Given as goal
 
-abbrev pub invariant-loop-at : goal.invariant-loop-at
-invariant-loop-at g l = record {
-  ending : IsEnding l.fn.notes.items l.notes.items l.at l.fn.share l.share;
-  caller : l.share.caller ≡ service;
-  count : length l.notes.items ≡ length l.fn.notes.items;
+abbrev pub invariant-loop-pool : goal.invariant-loop-pool
+invariant-loop-pool g l = record {
+  asked : HasAsked (map End (take l.pool-index l.pools)) l.fn.share l.share;
+  caller : l.share.caller ≡ Service;
 }

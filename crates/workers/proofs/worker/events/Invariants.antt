@@ -1,6 +1,7 @@
 -- The events so far were asked.
-use Rattle.std.proofs.Common.{◌≡◌, ◌≤◌, length, take}
+use Rattle.std.proofs.Common.{◌≡◌, false, length, take}
 use Rattle.recorder.specs.Held.{HasAsked}
+use Rattle.workers.specs.Callers.{is_port}
 use Rattle.workers.specs.Plans.{own_events}
 use Rattle.workers.proofs.worker.events.Given as goal
 
@@ -9,6 +10,6 @@ invariant-loop-turn g l = record {
   asked : HasAsked (take l.turn (own_events l.plan l.caller)) l.fn.share l.share;
   caller : l.fn.share.caller ≡ l.caller;
   same : l.share.caller ≡ l.caller;
-  high : 64 ≤ l.caller;
+  other : is_port l.caller ≡ false;
   read : length l.read ≡ 2048;
 }

@@ -1,16 +1,13 @@
 -- The words say of the address what the index says.
 use Rattle.std.proofs.Common.{arith, ap, ◌∙◌}
-use Rattle.wire_frame.specs.Bits.{has_bit}
-use Rattle.pool_index.specs.Entries.{IsIndexOf, is_given}
-use Rattle.addr_tables.specs.Addresses.{address_entries, has_address, is_held}
+use Rattle.pool_index.specs.Entries.{is_given}
+use Rattle.addr_tables.specs.Addresses.{has_address, is_held}
 use Rattle.addr_tables.proofs.MaskLemmas.{mask_is_zero}
 use Rattle.addr_tables.proofs.addresses.AddrTables.probe.Goals as goal
 
 pub returns-clause-pools : goal.returns-clause-pools
 unfolding has_address is_given
-returns-clause-pools c = λ p h.
-    let says : IsIndexOf c.self.inside.index 128 (address_entries c.args.self.now) = rw (← c.self.view_is) c.self.invariant in
-    ap (λ pools. has_bit pools p) c.probe.ensures.pools ∙ (says.1 c.number.result).1 p h ∙ ap (has_address c.args.self.now p) c.number.ensures
+returns-clause-pools c = λ p h. rw (← c.self.view_is) (c.probe.ensures.pools p h ∙ ap (has_address c.self.inside.table p) c.number.ensures)
 
 pub returns-clause-none : goal.returns-clause-none
 unfolding is_held

@@ -3,4 +3,4 @@ use Rattle.std.proofs.Common.{◌≡◌, ◌-◌, ◌*◌, take, min, max, slice
 use Rattle.guest_memory.proofs.flat.FlatMem.read_pages.Given as goal
 
 abbrev pub invariant-loop-page : goal.invariant-loop-page
-invariant-loop-page l = take (min l.end (max l.start (l.page * 4096)) - l.start) l.out ≡ slice_range l.self l.start (min l.end (max l.start (l.page * 4096)))
+invariant-loop-page l = take (min l.end (max l.start (l.page * 2048)) - l.start) l.out ≡ slice_range l.self l.start (min l.end (max l.start (l.page * 2048)))

@@ -6,8 +6,8 @@ use Rattle.guest_memory.proofs.flat.FlatMem.write_pages.Goals as goal
 
 pub loop-page-preserved : goal.loop-page-preserved
 loop-page-preserved c =
-    let from : min (c.args.start + length c.args.source.now) (max c.args.start (c.loop-page.page * 4096)) ≡ c.max-from.result = omega arith in
-    let to : min (c.args.start + length c.args.source.now) (max c.args.start ((c.loop-page.page + 1) * 4096)) ≡ c.min-to.result = omega arith in
+    let from : min (c.args.start + length c.args.source.now) (max c.args.start (c.loop-page.page * 2048)) ≡ c.max-from.result = omega arith in
+    let to : min (c.args.start + length c.args.source.now) (max c.args.start ((c.loop-page.page + 1) * 2048)) ≡ c.min-to.result = omega arith in
     let done : c.loop-page.self ≡ overwrite c.args.start (take (c.max-from.result - c.args.start) c.args.source.now) c.args.self.now = rw (← from) c.loop-page.invariant in
     rw to (c.write_page.ensures
     ∙ ap (overwrite c.max-from.result (slice_range c.args.source.now (c.max-from.result - c.args.start) (c.min-to.result - c.args.start))) done

@@ -4,4 +4,4 @@ use Rattle.guest_memory.specs.Memory.{overwrite}
 use Rattle.guest_memory.proofs.flat.FlatMem.write_pages.Given as goal
 
 abbrev pub invariant-loop-page : goal.invariant-loop-page
-invariant-loop-page l = l.self ≡ overwrite l.start (take (min l.end (max l.start (l.page * 4096)) - l.start) l.source) l.initial.self
+invariant-loop-page l = l.self ≡ overwrite l.start (take (min l.end (max l.start (l.page * 2048)) - l.start) l.source) l.initial.self

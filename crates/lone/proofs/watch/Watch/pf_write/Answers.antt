@@ -1,10 +1,9 @@
 -- Own settings that do not differ are those after the write.
-use Rattle.std.proofs.Common.{sym, ap, ◌∙◌}
+use Rattle.std.proofs.Common.{ap, ◌∙◌}
 use Rattle.pool_filter.specs.Own.{own}
-use Rattle.pool_filter.specs.Same.{equal_settings}
 use Rattle.lone.proofs.watch.Watch.pf_write.Goals as goal
 
 pub invariant_of-self : goal.invariant_of-self
 invariant_of-self g c =
-    equal_settings c.self.inside.settings c.own.new.found (sym c.is_same.ensures ∙ c.if-is_same.true)
+    c.is_same.ensures.same.0 c.if-is_same.true
     ∙ c.own.ensures ∙ ap (λ s. own s c.self.inside.pool) c.tables.ensures

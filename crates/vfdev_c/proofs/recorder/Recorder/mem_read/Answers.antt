@@ -3,6 +3,7 @@ use Rattle.std.proofs.Common.{◌≡◌, ◌∙◌, length, ap, ◌++◌, ◌∷
 use Rattle.device.specs.declared.event.Event.{Event}
 use Rattle.device.specs.declared.event.Event.TheVariants.{MemRead}
 use Rattle.device.specs.World.{Stepped, step}
+use Rattle.history.specs.declared.caller.Caller.TheVariants.{Driver}
 use Rattle.history.specs.Entries.{entry}
 use Rattle.vfdev_c.specs.Recorded.{Recorded, recorded, kept_as}
 use Rattle.vfdev_c.proofs.HandleLemmas.{isolated_at}
@@ -22,7 +23,7 @@ returns-clause-kept c =
     rw (← c.self.view_is) (kept_on old c.record.new.device c.record.new.self.entries c.record.new.self.cap asked
     (has_room c.is_full.result _ _ c.is_full.ensures.full c.if-is_full.false)
     (c.record.ensures.world ∙ ap (λ e. (step old.live e).world) same)
-    (c.record.ensures.entries ∙ ap (λ e. old.calls ++ entry 0 e (step old.live e).answer ∷ []) same)
+    (c.record.ensures.entries ∙ ap (λ e. old.calls ++ entry Driver e (step old.live e).answer ∷ []) same)
     c.record.ensures.cap)
 
 pub returns-clause-isolated : goal.returns-clause-isolated

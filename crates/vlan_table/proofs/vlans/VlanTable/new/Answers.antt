@@ -1,6 +1,9 @@
--- No word says anything of an id, and the index is empty.
-use Rattle.vlan_table.proofs.WriteLemmas.{nothing_said}
+-- No entry is valid where every word is 0.
+use Rattle.std.proofs.Common.{arith}
+use Rattle.pool_index.proofs.WordLemmas.{no_bit_at}
+use Rattle.vlan_table.specs.Vlans.{initial_vlans}
 use Rattle.vlan_table.proofs.vlans.VlanTable.new.Goals as goal
 
-pub invariant_of-result : goal.invariant_of-result
-invariant_of-result c = rw (c.new.ensures, c.new-2.ensures) nothing_said
+pub new-requires-2 : goal.new-requires-2
+unfolding initial_vlans
+new-requires-2 c = rw c.new.ensures (omega arith, (omega arith, λ e. no_bit_at 64 e 31))

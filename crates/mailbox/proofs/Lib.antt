@@ -2,3 +2,4 @@ pub mod Alike
 pub mod Entries
 pub mod Isolation
 pub mod Masks
+pub mod Members

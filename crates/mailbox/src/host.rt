@@ -1,6 +1,6 @@
 //! The host.
 ghost use Rattle.std.specs.Prelude.{◌≡◌, ◌≢◌, ℕ, ◌+◌, ◌*◌, ◌<◌, ◌≤◌, ◌++◌, ◌&&◌, [], IfSome, nat_le, is_some, length, replicate, is_ok, true, if◌then◌else◌};
-ghost use Rattle.mailbox.specs.Host.{function_at, is_taken, address_in, outcome, host_after, host_without, is_admitted, host_admitting, is_placed};
+ghost use Rattle.mailbox.specs.Host.{function_at, other_holds, is_taken, address_in, outcome, host_after, host_without, is_admitted, host_admitting, is_placed};
 ghost use Rattle.mailbox.specs.Function.{absent};
 ghost use Rattle.mailbox.specs.Isolation.{IsSameFor, IsSameForAll};
 ghost use Rattle.mailbox.specs.Message.{message_of};
@@ -117,16 +117,22 @@ impl Host {
     }
 
     // Whether a function other than the pool's holds the address.
-    #[tactic(auto, unfolding(crate::specs::Host::is_taken))]
     fn is_taken(&self, pool: PoolId, address: u64) -> bool
         ensures { result ≡ is_taken self.now pool address }
     {
-        let p = usize::from(pool.get());
         let mut taken = false;
         for q in 0..64 {
-            taken = taken || (q != p && self.functions[q].holds(address));
+            taken |= self.other_holds(pool, address, q);
         }
         taken
+    }
+
+    // Whether function q is another than the pool's, and holds the address.
+    fn other_holds(&self, pool: PoolId, address: u64, q: usize) -> bool
+        requires { q < 64 }
+        ensures { result ≡ other_holds self.now pool address q }
+    {
+        q != usize::from(pool.get()) && self.functions[q].holds(address)
     }
 }
 
@@ -180,7 +186,7 @@ impl Host {
     ///
     /// Nothing of another pool's is changed by it, whatever the message: not what is its own, nor which frames it accepts, nor
     /// which it may send; and loopback, VLAN filtering, the default pool and the multicast table stay for all.
-    #[tactic(auto, using(crate::proofs::Isolation::message_others, crate::proofs::Isolation::message_all), unfolding(crate::specs::Host::host_after, crate::specs::Writes::writes_after, crate::specs::Replies::reply_to))]
+    #[tactic(auto, unfolding(crate::specs::Host::host_after, crate::specs::Writes::writes_after, crate::specs::Replies::reply_to))]
     pub fn answer(&mut self, pool: PoolId, mailbox: &mut Mailbox) -> Writes
         ensures host { self.new ≡ host_after self.old pool (message_of mailbox.old.words) }
         ensures reply { mailbox.new ≡ reply_to self.old pool mailbox.old }
@@ -198,7 +204,7 @@ impl Host {
 
     /// Forgets what the guest of the pool's function asked for, where the function is reset from outside or by VFCTRL and
     /// where its guest goes, and gives the writes to the physical function's registers. Nothing of another pool's is changed.
-    #[tactic(auto, using(crate::proofs::Isolation::reset_others, crate::proofs::Isolation::reset_all), unfolding(crate::specs::Writes::writes_without))]
+    #[tactic(auto, unfolding(crate::specs::Writes::writes_without))]
     pub fn reset(&mut self, pool: PoolId) -> Writes
         ensures host { self.new ≡ host_without self.old pool }
         ensures writes { result ≡ writes_without self.old pool }

@@ -1,5 +1,5 @@
 -- Lists that are read alike from the places of a range.
-use Rattle.std.proofs.Common.{arith, ◌≡◌, ℕ, zero, suc, ◌+◌, ◌<◌, ◌≤◌, Bool, true, false, cond, ◌&&◌, ◌||◌, List, [], ◌∷◌, map, refl, sym, ap, ◌∙◌, true≢false}
+use Rattle.std.proofs.Common.{arith, ◌≡◌, ℕ, zero, suc, ◌+◌, ◌<◌, ◌≤◌, Bool, true, false, ◌∷◌, map, refl, sym, ◌∙◌, true≢false}
 use Rattle.std.specs.List.{filter, range_with_len}
 
 -- the places from a on, as many as n, are filtered and read alike

@@ -1,7 +1,7 @@
 -- A message of one pool changes nothing of another.
-use Rattle.std.proofs.Common.{arith, ◌≡◌, ◌≢◌, ℕ, ◌+◌, ◌-◌, ◌*◌, ◌/◌, ◌%◌, ◌^◌, ◌<◌, ◌≤◌, Bool, true, false, cond, not, ◌&&◌, ◌||◌, List, length, get_or, map, Option, Some, None, refl, sym, ap, ◌∙◌, eqb, eqb-true, ltb, true≢false, ⊎_elim}
+use Rattle.std.proofs.Common.{arith, ◌≡◌, ◌≢◌, ℕ, ◌+◌, ◌-◌, ◌*◌, ◌/◌, ◌%◌, ◌^◌, ◌<◌, Bool, true, false, cond, not, ◌&&◌, ◌||◌, List, length, get_or, map, Option, Some, None, refl, sym, ap, ◌∙◌, eqb, eqb-true, ltb}
 use Rattle.std.specs.List.{filter, range_with_len}
-use Rattle.std.proofs.lemmas.Bool.{cases_lt, and_parts, ltb-true, ltb-false}
+use Rattle.std.proofs.lemmas.Bool.{and_parts, ltb-true, ltb-false}
 use Rattle.std.proofs.lemmas.List.{get_or-set_other}
 use Rattle.byteorder.specs.Endian.{little_number}
 use Rattle.wire_frame.specs.declared.address.AddressKind.{AddressKind}
@@ -9,18 +9,18 @@ use Rattle.wire_frame.specs.declared.address.AddressKind.TheVariants.{Broadcast,
 use Rattle.wire_frame.specs.Address.{kind_of}
 use Rattle.wire_frame.specs.Bits.{has_bit, has_bit_in, two_words}
 use Rattle.wire_frame.specs.Frame.{destination, is_tagged, vlan_id}
-use Rattle.addr_tables.specs.Addresses.{Addresses, entry_address, entry_has_pool as address_has_pool, has_address, multicast_hit}
-use Rattle.vlan_table.specs.Vlans.{Vlans, entry_id, entry_has_pool as vlan_has_pool, has_vlan, is_filtering}
+use Rattle.addr_tables.specs.Addresses.{entry_address, entry_has_pool as address_has_pool, has_address, multicast_hit}
+use Rattle.vlan_table.specs.Vlans.{entry_id, entry_has_pool as vlan_has_pool, has_vlan, is_filtering}
 use Rattle.pool_filter.specs.Settings.{Settings}
-use Rattle.pool_filter.specs.Own.{OwnSettings, addresses_of as own_addresses, vlan_ids_of as own_ids, rising, contains, own}
-use Rattle.pool_filter.specs.Accepts.{flags_of, takes_untagged, takes_kind, takes_group, is_in_vlan, accepts, loops_back, default_pool}
+use Rattle.pool_filter.specs.Own.{addresses_of as own_addresses, vlan_ids_of as own_ids, rising, contains, own}
+use Rattle.pool_filter.specs.Accepts.{flags_of, takes_kind, takes_group, is_in_vlan, accepts}
 use Rattle.pool_filter.proofs.OwnLemmas.{contains_own_addresses, contains_own_vlan_ids}
 use Rattle.anti_spoof.specs.Permitted.{permitted}
 use Rattle.mailbox.specs.declared.function.Function.{Function}
 use Rattle.mailbox.specs.declared.message.Message.{Message}
 use Rattle.mailbox.specs.Function.{absent, gone, low_part}
 use Rattle.mailbox.specs.Host.{HostState, function_at, with_function, host_with, host_after, host_without, outcome}
-use Rattle.mailbox.specs.Words.{table, low_word, high_word, valid, entry, pool_word, id_word, member_word, has_joined, up_word, is_up, flags_word, port_word, addresses_of, vlans_of, settings_of}
+use Rattle.mailbox.specs.Words.{low_word, high_word, valid, entry, has_joined, is_up, flags_word, port_word, addresses_of, vlans_of, settings_of}
 use Rattle.mailbox.specs.Isolation.{IsSameFor, IsSameForAll}
 use Rattle.mailbox.proofs.Entries.{table_at, entry_pool, entry_member, up_bit}
 use Rattle.mailbox.proofs.Alike.{filtered_alike}
@@ -83,8 +83,8 @@ address_alike h p q e f other below is =
 addresses_alike : (h : HostState) (p q : ℕ) (f : Function) → q < 64 → q ≢ p → own_addresses (addresses_of h) q ≡ own_addresses (addresses_of (with_function h p f)) q
 addresses_alike h p q f small other =
     filtered_alike (entry_address (addresses_of h)) (entry_address (addresses_of k)) (address_has_pool (addresses_of h) q) (address_has_pool (addresses_of k) q) 0 128
-        (λ e past under. gives_alike h p q e f small other (omega arith))
-        (λ e past under gives. address_alike h p q e f other (omega arith) (own_entry k q e small (omega arith) gives))
+    (λ e past under. gives_alike h p q e f small other (omega arith))
+    (λ e past under gives. address_alike h p q e f other (omega arith) (own_entry k q e small (omega arith) gives))
   where
     k : HostState
     k = with_function h p f
@@ -120,8 +120,8 @@ ids_alike h p q f small other =
     listed : map (entry_id (vlans_of h)) (filter (vlan_has_pool (vlans_of h) q) (range_with_len 0 64)) ≡ map (entry_id (vlans_of (with_function h p f))) (filter (vlan_has_pool (vlans_of (with_function h p f)) q) (range_with_len 0 64))
     listed =
         filtered_alike (entry_id (vlans_of h)) (entry_id (vlans_of (with_function h p f))) (vlan_has_pool (vlans_of h) q) (vlan_has_pool (vlans_of (with_function h p f)) q) 0 64
-            (λ e past under. joins_alike h p q e f small other (omega arith))
-            (λ e past under gives. ap (λ xs. get_or xs e 0 % 4096) (same_entries h p f))
+        (λ e past under. joins_alike h p q e f small other (omega arith))
+        (λ e past under gives. ap (λ xs. get_or xs e 0 % 4096) (same_entries h p f))
 
 -- ---- flags
 

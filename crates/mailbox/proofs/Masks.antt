@@ -1,9 +1,9 @@
 -- The bits of a mask, and its size.
-use Rattle.std.proofs.Common.{arith, ◌≡◌, ℕ, zero, suc, ◌+◌, ◌-◌, ◌*◌, ◌/◌, ◌%◌, ◌^◌, ◌<◌, ◌≤◌, Bool, true, false, cond, ◌&&◌, refl, sym, ap, ◌∙◌, eqb, ltb, add-one}
+use Rattle.std.proofs.Common.{arith, ◌≡◌, ℕ, zero, suc, ◌+◌, ◌-◌, ◌*◌, ◌/◌, ◌%◌, ◌^◌, ◌<◌, ◌≤◌, Bool, true, false, cond, refl, sym, ap, ◌∙◌, eqb}
 use Rattle.std.specs.Int.{bit_at}
 use Rattle.std.proofs.Math.Nat.{pow-le-pow_right}
 use Rattle.std.proofs.lemmas.Grind.{pow_more}
-use Rattle.std.proofs.lemmas.Nat.Bits.{bit_at-suc, bit_at-zero, bit_at_lowest}
+use Rattle.std.proofs.lemmas.Nat.Bits.{bit_at-suc, bit_at_lowest}
 use Rattle.wire_frame.specs.Bits.{has_bit}
 use Rattle.mailbox.specs.Words.{mask_from}
 
@@ -59,7 +59,7 @@ mask_same t u first (suc count) same =
     let here : first + 0 ≡ first = omega arith in
     let head : t first ≡ u first = ap t (sym here) ∙ same 0 (omega arith) ∙ ap u here in
     let rest : mask_from t (suc first) count ≡ mask_from u (suc first) count =
-        mask_same t u (suc first) count (λ i h. let there : suc first + i ≡ first + suc i = omega arith in ap t there ∙ same (suc i) (omega arith) ∙ ap u (sym there)) in
+    mask_same t u (suc first) count (λ i h. let there : suc first + i ≡ first + suc i = omega arith in ap t there ∙ same (suc i) (omega arith) ∙ ap u (sym there)) in
     mask_more t first count ∙ (λ k. cond (head k) 1 0 + 2 * rest k) ∙ sym (mask_more u first count)
 
 -- one turn of a loop from the last number to the first

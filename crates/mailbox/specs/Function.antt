@@ -1,5 +1,5 @@
 -- One function: what its policy grants, what it has asked for, and what a message changes of that.
-use Rattle.std.specs.Prelude.{ℕ, ◌+◌, ◌/◌, ◌%◌, ◌^◌, Bool, true, false, not, ◌&&◌, ◌||◌, ◌==◌, nat_le, nat_lt, suc, List, [], ◌∷◌, Option, Some, None, is_none, slice_index, bit_or, bit_and, if◌then◌else◌}
+use Rattle.std.specs.Prelude.{ℕ, ◌+◌, ◌/◌, ◌%◌, ◌^◌, Bool, true, false, not, ◌&&◌, ◌||◌, ◌==◌, nat_le, nat_lt, suc, List, [], ◌∷◌, Option, Some, None, is_none, slice_index, bit_and, if◌then◌else◌}
 use Rattle.std.specs.Int.{bit_not, w64}
 use Rattle.wire_frame.specs.Bits.{has_bit, with_bit}
 use Rattle.mailbox.specs.declared.function.Function.{Function}
@@ -12,8 +12,20 @@ use Rattle.mailbox.specs.declared.message.Reply.{Reply}
 -- a place that no policy has
 abbrev pub absent : Function
 absent = record {
-  permanent = None; may_choose = false; may_join = 0; always_joined = 0; port = None; may_take_all = false;
-  is_up = false; address = None; second = None; joined = 0; groups = false; mode = 0; frame_length = 0; api = 0;
+  permanent = None;
+  may_choose = false;
+  may_join = 0;
+  always_joined = 0;
+  port = None;
+  may_take_all = false;
+  is_up = false;
+  address = None;
+  second = None;
+  joined = 0;
+  groups = false;
+  mode = 0;
+  frame_length = 0;
+  api = 0;
 }
 
 -- the number is there, and is that one
@@ -39,15 +51,27 @@ may_add taken f a = f.may_choose && (is_unicast a && not taken)
 -- the function with its permanent address alone, as RESET leaves it
 abbrev pub begun : Function → Function
 begun f = record f {
-  is_up = true; address = f.permanent; second = None; joined = f.always_joined;
-  groups = false; mode = 1; frame_length = 1522; api = 0;
+  is_up = true;
+  address = f.permanent;
+  second = None;
+  joined = f.always_joined;
+  groups = false;
+  mode = 1;
+  frame_length = 1522;
+  api = 0;
 }
 
 -- the function without a guest: nothing that was asked for is left
 abbrev pub gone : Function → Function
 gone f = record f {
-  is_up = false; address = None; second = None; joined = 0;
-  groups = false; mode = 0; frame_length = 0; api = 0;
+  is_up = false;
+  address = None;
+  second = None;
+  joined = 0;
+  groups = false;
+  mode = 0;
+  frame_length = 0;
+  api = 0;
 }
 
 -- ---- VLANs
@@ -134,7 +158,11 @@ high_part (Some a) = a / 2 ^ 32 % 2 ^ 16
 -- the words of the message, but for word 0
 abbrev pub echoed : List ℕ → ℕ → Reply
 echoed words head = record {
-  head = head; first = slice_index words 1; second = slice_index words 2; third = slice_index words 3; fourth = slice_index words 4;
+  head = head;
+  first = slice_index words 1;
+  second = slice_index words 2;
+  third = slice_index words 3;
+  fourth = slice_index words 4;
 }
 
 -- word 0 without its three highest bits, with ACK and CTS
@@ -152,7 +180,11 @@ inserted_vlans f = if is_none f.port then 0 else 1
 -- the reply that grants; the driver compares that to RESET whole, so that it has no CTS
 abbrev pub granting : List ℕ → Function → Message → Reply
 granting words f Reset = record {
-  head = 2 ^ 31 + 1; first = low_part f.address; second = high_part f.address; third = 0; fourth = slice_index words 4;
+  head = 2 ^ 31 + 1;
+  first = low_part f.address;
+  second = high_part f.address;
+  third = 0;
+  fourth = slice_index words 4;
 }
 granting words f GetQueues = record { head = granted_head words; first = 2; second = 2; third = inserted_vlans f; fourth = 0 }
 granting words f (SetMulticastMode mode) = record (echoed words (granted_head words)) { first = f.mode }

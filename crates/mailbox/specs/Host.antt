@@ -1,10 +1,10 @@
 -- The functions of a host, and what a message of one of them does.
-use Rattle.std.specs.Prelude.{ℕ, ◌+◌, ◌^◌, Bool, true, false, not, ◌&&◌, ◌==◌, nat_lt, List, Option, Some, None, length, slice_index, slice_index_or, slice_set, if◌then◌else◌}
+use Rattle.std.specs.Prelude.{ℕ, ◌^◌, Bool, true, not, ◌&&◌, ◌==◌, nat_lt, List, Option, Some, None, length, slice_index, slice_index_or, slice_set, if◌then◌else◌}
 use Rattle.std.specs.List.{list_any, range_with_len}
 use Rattle.byteorder.specs.Endian.{little_number}
 use Rattle.mailbox.specs.declared.function.Function.{Function}
 use Rattle.mailbox.specs.declared.message.Message.{Message}
-use Rattle.mailbox.specs.declared.message.Message.TheVariants.{Reset, SetAddress, SetMulticast, SetVlan, SetFrameLength, SetSecondAddress, NegotiateApi, GetQueues, SetMulticastMode, GetLinkState, Other}
+use Rattle.mailbox.specs.declared.message.Message.TheVariants.{SetAddress, SetSecondAddress}
 use Rattle.mailbox.specs.declared.policy.Policy.{Policy}
 use Rattle.mailbox.specs.declared.policy.VlanPolicy.{VlanPolicy}
 use Rattle.mailbox.specs.declared.policy.VlanPolicy.TheVariants.{Port, Joins}
@@ -82,8 +82,12 @@ address_of policy = little_number 6 policy.address.0
 -- a function that has asked for nothing yet
 abbrev pub function_of : List ℕ → Policy → Function
 function_of ids policy = record absent {
-  permanent = Some (address_of policy); may_choose = policy.may_choose; may_join = joins policy.vlans;
-  always_joined = always_joins policy.vlans; port = port_of ids policy.vlans; may_take_all = policy.all_multicast;
+  permanent = Some (address_of policy);
+  may_choose = policy.may_choose;
+  may_join = joins policy.vlans;
+  always_joined = always_joins policy.vlans;
+  port = port_of ids policy.vlans;
+  may_take_all = policy.all_multicast;
 }
 
 -- a policy is taken where its address is one station's and no other function's, its port VLAN is one of the ids, and the

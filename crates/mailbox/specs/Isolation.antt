@@ -1,5 +1,5 @@
 -- What a message of one function leaves to the others, and what it leaves to all.
-use Rattle.std.specs.Prelude.{◌≡◌, ℕ, Bool, List, Option}
+use Rattle.std.specs.Prelude.{◌≡◌, ℕ, List}
 use Rattle.addr_tables.specs.Addresses.{multicast_hit}
 use Rattle.vlan_table.specs.Vlans.{is_filtering}
 use Rattle.pool_filter.specs.Settings.{Settings}

@@ -1,5 +1,5 @@
 -- The mailbox of one function: what its driver reads and writes, and what the host puts there.
-use Rattle.std.specs.Prelude.{ℕ, ◌==◌, List, [], ◌∷◌, Option, Some, None, replicate, slice_set, bit_and, bit_or, if◌then◌else◌}
+use Rattle.std.specs.Prelude.{ℕ, ◌==◌, List, ◌∷◌, Option, Some, None, replicate, slice_set, bit_and, bit_or, if◌then◌else◌}
 use Rattle.wire_frame.specs.Bits.{has_bit}
 use Rattle.wire_frame.specs.Row.{is_in, ◌or◌, word_at, words_after, one_at}
 use Rattle.mailbox.specs.Registers.{VFMBMEM, VFMAILBOX, REQ, VFU, ANSWERED, RSTD, READ_KEEPS, WRITE_KEEPS}

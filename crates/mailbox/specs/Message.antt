@@ -1,6 +1,5 @@
 -- The messages of a function's driver, from the words of its mailbox (Linux ixgbevf, mbx.h).
 use Rattle.std.specs.Prelude.{ℕ, ◌+◌, ◌*◌, ◌/◌, ◌%◌, ◌^◌, ◌==◌, not, nat_le, List, slice_index, if◌then◌else◌}
-use Rattle.wire_frame.specs.Bits.{field}
 use Rattle.mailbox.specs.declared.message.Message.{Message}
 use Rattle.mailbox.specs.declared.message.Message.TheVariants.{Reset, SetAddress, SetMulticast, SetVlan, SetFrameLength, SetSecondAddress, NegotiateApi, GetQueues, SetMulticastMode, GetLinkState, Other}
 

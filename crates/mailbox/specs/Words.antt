@@ -1,5 +1,5 @@
 -- The registers of the physical function, as they are for a host: each word by its place in its row.
-use Rattle.std.specs.Prelude.{ℕ, zero, suc, ◌+◌, ◌-◌, ◌*◌, ◌/◌, ◌%◌, ◌^◌, Bool, true, ◌&&◌, ◌||◌, ◌==◌, nat_lt, List, [], ◌∷◌, length, map, replicate, Option, Some, None, is_none, slice_index, if◌then◌else◌}
+use Rattle.std.specs.Prelude.{ℕ, zero, suc, ◌+◌, ◌-◌, ◌*◌, ◌/◌, ◌%◌, ◌^◌, Bool, true, ◌||◌, ◌==◌, nat_lt, List, length, map, replicate, Option, Some, None, is_none, slice_index, if◌then◌else◌}
 use Rattle.std.specs.List.{range_with_len}
 use Rattle.wire_frame.specs.Bits.{has_bit}
 use Rattle.addr_tables.specs.Addresses.{Addresses}

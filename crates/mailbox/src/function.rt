@@ -162,7 +162,11 @@ impl Function {
     fn with_mode(self, mode: u32) -> Option<Function>
         ensures { result ≡ mode_set self (mode_for self mode) }
     {
-        let mode = if mode > 1 && !self.may_take_all { 1 } else { mode };
+        let mode = if mode > 1 && !self.may_take_all {
+            1
+        } else {
+            mode
+        };
         if self.api < 3 || mode > 2 {
             return None;
         }
@@ -222,13 +226,7 @@ impl Function {
 
     // The function after a message that is heard, or nothing where the message is refused.
     #[tactic(auto, unfolding(crate::specs::Function::granted))]
-    fn granted(
-        self,
-        ids: &[u16],
-        limit: u16,
-        taken: bool,
-        message: Message,
-    ) -> Option<Function>
+    fn granted(self, ids: &[u16], limit: u16, taken: bool, message: Message) -> Option<Function>
         requires { length ids.now ≤ 64 }
         ensures { result ≡ granted ids.now limit taken self message }
     {
@@ -304,12 +302,7 @@ impl Function {
 
     /// The reply to the message in the words, which left the function as another, or was refused.
     #[tactic(auto, unfolding(crate::specs::Function::reply_of))]
-    pub fn reply_of(
-        &self,
-        words: &[u32; 16],
-        message: Message,
-        granted: Option<Function>,
-    ) -> Reply
+    pub fn reply_of(&self, words: &[u32; 16], message: Message, granted: Option<Function>) -> Reply
         ensures { result ≡ reply_of words.now self.now message granted }
     {
         match granted {

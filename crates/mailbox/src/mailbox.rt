@@ -66,8 +66,11 @@ impl Mailbox {
         ensures value { result ≡ read_at self.old offset }
         ensures state { self.new ≡ after_read self.old offset }
     {
-        let value =
-            read_word(&self.words, VFMBMEM, offset).or(read_one(self.control, VFMAILBOX, offset));
+        let value = read_word(&self.words, VFMBMEM, offset).or(read_one(
+            self.control,
+            VFMAILBOX,
+            offset,
+        ));
         if offset == VFMAILBOX {
             self.control &= READ_KEEPS;
         }

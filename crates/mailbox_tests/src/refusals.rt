@@ -43,8 +43,20 @@ fn addresses_are_one_functions(rt: HostRuntime) -> Result<(), Fail> {
     let first = PoolId::new(0).ok_or("no such pool")?;
     let second = PoolId::new(63).ok_or("no such pool")?;
     let mut host = host()?;
-    host.admit(first, &Policy { may_choose: true, ..policy(0x10) })?;
-    host.admit(second, &Policy { may_choose: true, ..policy(0x20) })?;
+    host.admit(
+        first,
+        &Policy {
+            may_choose: true,
+            ..policy(0x10)
+        },
+    )?;
+    host.admit(
+        second,
+        &Policy {
+            may_choose: true,
+            ..policy(0x20)
+        },
+    )?;
     let mut mailbox = Mailbox::new();
     let _ = ask(&mut host, first, &mut mailbox, [1, 0, 0])?;
     let _ = ask(&mut host, second, &mut mailbox, [1, 0, 0])?;

@@ -1,5 +1,4 @@
 -- Nothing of another pool's is changed, by the theorem on hosts.
-use Rattle.std.proofs.Common.{◌≡◌, ℕ}
 use Rattle.mailbox.proofs.Isolation.{message_others, message_all}
 use Rattle.mailbox.proofs.host.Host.answer.Goals as goal
 

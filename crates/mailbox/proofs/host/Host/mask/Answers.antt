@@ -1,6 +1,6 @@
 -- A mask of fewer than 32 numbers has room for one more, which stands below them.
-use Rattle.std.proofs.Common.{arith, ◌≡◌, ◌+◌, ◌-◌, ◌*◌, ◌<◌, ◌^◌, ap, ◌∙◌}
-use Rattle.mailbox.specs.Words.{mask_from, is_in_set}
+use Rattle.std.proofs.Common.{arith, ◌≡◌, ◌+◌, ◌-◌, ◌*◌, ap, ◌∙◌}
+use Rattle.mailbox.specs.Words.{is_in_set}
 use Rattle.mailbox.proofs.Masks.{mask_room, mask_step}
 use Rattle.mailbox.proofs.host.Host.mask.Goals as goal
 
@@ -13,4 +13,4 @@ loop-done-preserved c =
     let place : 32 * c.args.i + 31 - c.loop-done.done ≡ 32 * c.args.i + 32 - 1 - c.loop-done.done = omega arith in
     c.one_more-word.ensures
     ∙ mask_step (is_in_set c.args.self.now c.args.set) (32 * c.args.i + 32) c.loop-done.done c.loop-done.word c.is_in-bit.result (omega arith) c.loop-done.invariant
-        (c.is_in-bit.ensures ∙ ap (is_in_set c.args.self.now c.args.set) place)
+    (c.is_in-bit.ensures ∙ ap (is_in_set c.args.self.now c.args.set) place)

@@ -1,5 +1,5 @@
 -- Each turn puts the first of the writes that are left.
-use Rattle.std.proofs.Common.{arith, ◌≡◌, ◌+◌, ◌*◌, [], ◌∷◌, ◌++◌, length, ap, ◌∙◌}
+use Rattle.std.proofs.Common.{arith, ◌≡◌, ◌*◌, [], ◌∷◌, ◌++◌, length, ap, ◌∙◌}
 use Rattle.vlan_table.specs.Registers.{VLVFB}
 use Rattle.mailbox.specs.Writes.{write_at}
 use Rattle.mailbox.proofs.Members.{member_put}

@@ -1,5 +1,4 @@
 -- Nothing of another pool's is changed, by the theorem on hosts.
-use Rattle.std.proofs.Common.{◌≡◌, ℕ}
 use Rattle.mailbox.proofs.Isolation.{reset_others, reset_all}
 use Rattle.mailbox.proofs.host.Host.reset.Goals as goal
 

@@ -184,8 +184,9 @@ impl Host {
     /// Answers the message that stands in the mailbox of the pool's function: puts the reply there, and gives the writes to the
     /// physical function's registers that are to be done, in their order.
     ///
-    /// Nothing of another pool's is changed by it, whatever the message: not what is its own, nor which frames it accepts, nor
-    /// which it may send; and loopback, VLAN filtering, the default pool and the multicast table stay for all.
+    /// In the settings that the host stands for nothing of another pool's is changed by it, whatever the message: not what is
+    /// its own, nor which frames it accepts, nor which it may send; and loopback, VLAN filtering, the default pool and the
+    /// multicast table stay for all.
     #[tactic(auto, unfolding(crate::specs::Host::host_after, crate::specs::Writes::writes_after, crate::specs::Replies::reply_to))]
     pub fn answer(&mut self, pool: PoolId, mailbox: &mut Mailbox) -> Writes
         ensures host { self.new ≡ host_after self.old pool (message_of mailbox.old.words) }
@@ -203,7 +204,8 @@ impl Host {
     }
 
     /// Forgets what the guest of the pool's function asked for, where the function is reset from outside or by VFCTRL and
-    /// where its guest goes, and gives the writes to the physical function's registers. Nothing of another pool's is changed.
+    /// where its guest goes, and gives the writes to the physical function's registers. What the host stands for stays for
+    /// every other pool, as after a message.
     #[tactic(auto, unfolding(crate::specs::Writes::writes_without))]
     pub fn reset(&mut self, pool: PoolId) -> Writes
         ensures host { self.new ≡ host_without self.old pool }

@@ -1,0 +1,14 @@
+pub mod Function
+pub mod Host
+pub mod Isolation
+pub mod Mailbox
+pub mod Message
+pub mod Registers
+pub mod Replies
+pub mod Words
+pub mod Writes
+pub use Rattle.wire_frame.specs.Bits
+pub use Rattle.wire_frame.specs.Row
+pub use Rattle.addr_tables.specs.Addresses
+pub use Rattle.vlan_table.specs.Vlans
+pub use Rattle.pool_filter.specs.Settings

@@ -1,0 +1,137 @@
+-- The registers of the physical function, as they are for a host: each word by its place in its row.
+use Rattle.std.specs.Prelude.{ℕ, zero, suc, ◌+◌, ◌-◌, ◌*◌, ◌/◌, ◌%◌, ◌^◌, Bool, true, ◌||◌, ◌==◌, nat_lt, List, length, map, replicate, Option, Some, None, is_none, slice_index, if◌then◌else◌}
+use Rattle.std.specs.List.{range_with_len}
+use Rattle.wire_frame.specs.Bits.{has_bit}
+use Rattle.addr_tables.specs.Addresses.{Addresses}
+use Rattle.vlan_table.specs.Vlans.{Vlans}
+use Rattle.pool_filter.specs.Settings.{Settings}
+use Rattle.pool_filter.specs.Own.{contains}
+use Rattle.mailbox.specs.declared.function.Function.{Function}
+use Rattle.mailbox.specs.declared.words.Set.{Set}
+use Rattle.mailbox.specs.declared.words.Set.TheVariants.{Up, Joined, Named}
+use Rattle.mailbox.specs.Function.{low_part, high_part}
+use Rattle.mailbox.specs.Host.{HostState, function_at}
+
+-- the number with bit i at 1 where the test holds of first + i, for each i below count
+unfoldable pub mask_from : (ℕ → Bool) → ℕ → ℕ → ℕ
+mask_from t first zero = 0
+mask_from t first (suc count) = (if t first then 1 else 0) + 2 * mask_from t (suc first) count
+
+-- n words, each by its place
+abbrev pub table : ℕ → (ℕ → ℕ) → List ℕ
+table n word = map word (range_with_len 0 n)
+
+-- ---- sets of pools and of ids
+
+abbrev pub is_up : HostState → ℕ → Bool
+is_up h p = (function_at h p).is_up
+
+abbrev pub has_joined : HostState → ℕ → ℕ → Bool
+has_joined h k p = has_bit (function_at h p).joined k
+
+-- the functions that are up, those that joined the VLAN at place k, and the ids that policies name
+abbrev pub is_in_set : HostState → Set → ℕ → Bool
+is_in_set h Up = is_up h
+is_in_set h (Joined k) = has_joined h k
+is_in_set h Named = contains h.ids
+
+abbrev pub is_set : Set → Bool
+is_set Up = true
+is_set (Joined k) = nat_lt k 64
+is_set Named = true
+
+-- ---- receive addresses: entries p and 64 + p are pool p's
+
+-- the address of entry e
+abbrev pub entry : HostState → ℕ → Option ℕ
+entry h e = if nat_lt e 64 then (function_at h e).address else (function_at h (e - 64)).second
+
+-- RAL: bytes 0 to 3
+abbrev pub low_word : HostState → ℕ → ℕ
+low_word h e = low_part (entry h e)
+
+-- RAH: AV, and bytes 4 and 5
+abbrev pub valid : Option ℕ → ℕ
+valid None = 0
+valid (Some a) = 2 ^ 31 + high_part (Some a)
+
+abbrev pub high_word : HostState → ℕ → ℕ
+high_word h e = valid (entry h e)
+
+-- MPSAR: words 2e and 2e + 1 have the bit of pool e % 64 alone
+abbrev pub pool_word : ℕ → ℕ
+pool_word i = if i / 2 % 64 / 32 == i % 2 then 2 ^ (i / 2 % 64 % 32) else 0
+
+-- ---- VLANs: entry k is the k-th id
+
+-- VLVF: VI_En, and the id
+abbrev pub id_word : HostState → ℕ → ℕ
+id_word h k = if nat_lt k (length h.ids) then 2 ^ 31 + slice_index h.ids k % 4096 else 0
+
+-- VFTA: every id that a policy names
+abbrev pub table_word : HostState → ℕ → ℕ
+table_word h i = mask_from (contains h.ids) (32 * i) 32
+
+-- VLVFB: words 2k and 2k + 1 are the pools that joined
+abbrev pub member_word : HostState → ℕ → ℕ
+member_word h i = if nat_lt i (2 * length h.ids) then mask_from (has_joined h (i / 2)) (32 * (i % 2)) 32 else 0
+
+-- ---- pools
+
+-- PFVFRE and PFVFTE: the functions that are up
+abbrev pub up_word : HostState → ℕ → ℕ
+up_word h half = mask_from (is_up h) (32 * half) 32
+
+-- VMOLR: BAM; AUPE where there is no port VLAN; MPE where groups were asked for, or all multicast
+abbrev pub flags_word : Function → ℕ
+flags_word f =
+    if f.is_up
+    then 2 ^ 27 + (if is_none f.port then 2 ^ 24 else 0) + (if f.groups || f.mode == 2 then 2 ^ 28 else 0)
+    else 0
+
+-- VMVIR: a port VLAN is inserted always
+abbrev pub inserted : Option ℕ → ℕ
+inserted None = 0
+inserted (Some id) = 2 ^ 30 + id % 4096
+
+abbrev pub port_word : Function → ℕ
+port_word f = if f.is_up then inserted f.port else 0
+
+-- PF_VT_CTL: the default pool, or that there is none
+abbrev pub control_word : Option ℕ → ℕ
+control_word None = 0x60000001
+control_word (Some pool) = 0x40000001 + pool % 64 * 2 ^ 7
+
+-- ---- all of them
+
+unfoldable pub addresses_of : HostState → Addresses
+addresses_of h = record {
+  low = table 128 (low_word h);
+  high = table 128 (high_word h);
+  pools = table 256 pool_word;
+  hashes = replicate 128 0;
+  control = 0;
+}
+
+-- VLANs are filtered
+unfoldable pub vlans_of : HostState → Vlans
+vlans_of h = record {
+  control = 2 ^ 30;
+  table = table 128 (table_word h);
+  entries = table 64 (id_word h);
+  pools = table 128 (member_word h);
+}
+
+-- the source checks of all pools are on, and so is loopback; the multicast table is empty
+unfoldable pub settings_of : HostState → Settings
+settings_of h = record {
+  addresses = addresses_of h;
+  vlans = vlans_of h;
+  pool_control = control_word h.default_pool;
+  receive_enable = table 2 (up_word h);
+  transmit_enable = table 2 (up_word h);
+  port_vlans = table 64 (λ p. port_word (function_at h p));
+  sender_checks = replicate 8 0xFFFF;
+  loopback = 1;
+  pool_flags = table 64 (λ p. flags_word (function_at h p));
+}

@@ -1,0 +1,300 @@
+//! The host.
+ghost use Rattle.std.specs.Prelude.{◌≡◌, ◌≢◌, ℕ, ◌+◌, ◌*◌, ◌<◌, ◌≤◌, ◌++◌, ◌&&◌, [], IfSome, nat_le, is_some, length, replicate, is_ok, true, if◌then◌else◌};
+ghost use Rattle.mailbox.specs.Host.{function_at, other_holds, is_taken, address_in, outcome, host_after, host_without, is_admitted, host_admitting, is_placed};
+ghost use Rattle.mailbox.specs.Function.{absent};
+ghost use Rattle.mailbox.specs.Isolation.{IsSameFor, IsSameForAll};
+ghost use Rattle.mailbox.specs.Message.{message_of};
+ghost use Rattle.mailbox.specs.Replies.{reply_to};
+ghost use Rattle.mailbox.specs.Words.{settings_of};
+ghost use Rattle.mailbox.specs.Writes.{entry_writes, up_writes, member_writes, writes_of, sets_registers, writes_after, writes_without};
+
+use crate::function::{Function, is_unicast};
+use crate::mailbox::Mailbox;
+use crate::message::Message;
+use crate::policy::Policy;
+use crate::writes::Writes;
+use addr_tables::registers::{RAH, RAL};
+use arrayvec::ArrayVec;
+use pool_filter::registers::{PFVFRE, PFVFTE, VMOLR, VMVIR};
+use std::marker::Model;
+use vlan_table::registers::VLVFB;
+use wire_frame::{Fault, FrameLimit, PoolId, Vid};
+
+/// For each of 64 functions what its policy grants and what it has asked for so far, and the VLAN ids that policies name.
+#[derive(Drop)]
+pub struct Host {
+    functions: [Function; 64],
+    ids: ArrayVec<u16, 64>,
+    default_pool: Option<PoolId>,
+    limit: u16,
+}
+
+impl Model for Host {
+    ghost use Rattle.mailbox.specs.Host.{HostState};
+
+    ghost Value = { HostState };
+
+    ghost view = { λ h. record {
+      functions = h.functions;
+      ids = h.ids.items;
+      default_pool = h.default_pool;
+      limit = h.limit;
+    } };
+}
+
+/// Making.
+impl Host {
+    /// A host of functions that no policy names, or `None` where there are more than 64 ids. The pool, if one is given, takes
+    /// what no pool accepts; the limit is how long a frame may be.
+    pub fn new(ids: &[Vid], default_pool: Option<PoolId>, limit: FrameLimit) -> Option<Host>
+        ensures few { is_some result ≡ nat_le (length ids.now) 64 }
+        ensures host { IfSome result (λ h. h ≡ record {
+          functions = replicate 64 absent;
+          ids = ids.now;
+          default_pool = default_pool;
+          limit = limit;
+        }) }
+    {
+        if ids.len() > 64 {
+            return None;
+        }
+        let mut numbers = ArrayVec::new();
+        for id in ids {
+            numbers.push(id.get());
+        }
+        Some(Host {
+            functions: [Function::ABSENT; 64],
+            ids: numbers,
+            default_pool,
+            limit: limit.get(),
+        })
+    }
+
+    /// Gives a function its policy. It is refused, and nothing changes, where the address is not one station's or another
+    /// function holds it, where the place of a port VLAN is none of the ids', and where the function is up.
+    #[tactic(auto, unfolding(crate::specs::Host::host_admitting))]
+    pub fn admit(&mut self, pool: PoolId, policy: &Policy) -> Result<(), Fault>
+        ensures host { self.new ≡ host_admitting self.old pool policy.now }
+        ensures variant { is_ok result ≡ is_admitted self.old pool policy.now }
+    {
+        if !self.is_admitted(pool, policy) {
+            return Err(Fault::BadMake);
+        }
+        self.functions[usize::from(pool.get())] = policy.function(self.ids.as_slice());
+        Ok(())
+    }
+
+    // Whether the policy is taken.
+    #[tactic(auto, unfolding(crate::specs::Host::is_admitted))]
+    fn is_admitted(&self, pool: PoolId, policy: &Policy) -> bool
+        ensures value { result ≡ is_admitted self.now pool policy.now }
+        ensures placed { result ≡ true → is_placed self.now.ids policy.now.vlans ≡ true }
+    {
+        let address = policy.address.number();
+        is_unicast(address)
+            && !self.is_taken(pool, address)
+            && policy.vlans.is_placed(self.ids.as_slice())
+            && !self.functions[usize::from(pool.get())].is_up
+    }
+}
+
+/// What it holds.
+impl Host {
+    /// The ids that policies name, by their places.
+    pub(crate) fn ids(&self) -> &[u16]
+        ensures value { result.now ≡ self.now.ids }
+        ensures few { length result.now ≤ 64 }
+    {
+        self.ids.as_slice()
+    }
+
+    /// The function of a pool.
+    pub(crate) fn function_at(&self, pool: u32) -> Function
+        requires { pool < 64 }
+        ensures { result ≡ function_at self.now pool }
+    {
+        self.functions[pool as usize]
+    }
+
+    // Whether a function other than the pool's holds the address.
+    fn is_taken(&self, pool: PoolId, address: u64) -> bool
+        ensures { result ≡ is_taken self.now pool address }
+    {
+        let mut taken = false;
+        for q in 0..64 {
+            taken |= self.other_holds(pool, address, q);
+        }
+        taken
+    }
+
+    // Whether function q is another than the pool's, and holds the address.
+    fn other_holds(&self, pool: PoolId, address: u64, q: usize) -> bool
+        requires { q < 64 }
+        ensures { result ≡ other_holds self.now pool address q }
+    {
+        q != usize::from(pool.get()) && self.functions[q].holds(address)
+    }
+}
+
+/// Messages.
+impl Host {
+    // What a message makes of the pool's function, or nothing where it is refused.
+    #[tactic(auto, unfolding(crate::specs::Host::outcome))]
+    fn outcome(&self, pool: PoolId, message: Message) -> Option<Function>
+        ensures { result ≡ outcome self.now pool message }
+    {
+        let taken = self.is_taken(pool, address_in(message));
+        let function = self.functions[usize::from(pool.get())];
+        function.answered(self.ids.as_slice(), self.limit, taken, message)
+    }
+
+    // The same, where the message is granted.
+    #[tactic(auto, unfolding(crate::specs::Host::host_after))]
+    fn grant(&mut self, pool: PoolId, message: Message) -> Option<Function>
+        ensures function { result ≡ outcome self.old pool message }
+        ensures host { self.new ≡ host_after self.old pool message }
+    {
+        let outcome = self.outcome(pool, message);
+        if let Some(function) = outcome {
+            self.functions[usize::from(pool.get())] = function;
+        }
+        outcome
+    }
+
+    // Forgets what the pool's guest asked for.
+    #[tactic(auto, unfolding(crate::specs::Host::host_without))]
+    fn forget(&mut self, pool: PoolId)
+        ensures { self.new ≡ host_without self.old pool }
+    {
+        let p = usize::from(pool.get());
+        self.functions[p] = self.functions[p].gone();
+    }
+
+    // The writes after a message that made the pool's function what it is, or was refused.
+    fn writes_for(&self, pool: PoolId, message: Message, granted: bool) -> Writes
+        ensures { result ≡ (if granted && sets_registers message then writes_of self.now pool else []) }
+    {
+        if granted && sets_registers(message) {
+            self.writes_of(pool)
+        } else {
+            Writes::new()
+        }
+    }
+
+    /// Answers the message that stands in the mailbox of the pool's function: puts the reply there, and gives the writes to the
+    /// physical function's registers that are to be done, in their order.
+    ///
+    /// In the settings that the host stands for nothing of another pool's is changed by it, whatever the message: not what is
+    /// its own, nor which frames it accepts, nor which it may send; and loopback, VLAN filtering, the default pool and the
+    /// multicast table stay for all.
+    #[tactic(auto, unfolding(crate::specs::Host::host_after, crate::specs::Writes::writes_after, crate::specs::Replies::reply_to))]
+    pub fn answer(&mut self, pool: PoolId, mailbox: &mut Mailbox) -> Writes
+        ensures host { self.new ≡ host_after self.old pool (message_of mailbox.old.words) }
+        ensures reply { mailbox.new ≡ reply_to self.old pool mailbox.old }
+        ensures writes { result ≡ writes_after self.old pool (message_of mailbox.old.words) }
+        ensures others { (q : ℕ) → q < 64 → q ≢ pool
+            → IsSameFor (settings_of self.old) (settings_of self.new) q }
+        ensures all { IsSameForAll (settings_of self.old) (settings_of self.new) }
+    {
+        let message = mailbox.message();
+        let function = self.function_at(u32::from(pool.get()));
+        let granted = self.grant(pool, message);
+        mailbox.answer(&function, message, granted);
+        self.writes_for(pool, message, granted.is_some())
+    }
+
+    /// Forgets what the guest of the pool's function asked for, where the function is reset from outside or by VFCTRL and
+    /// where its guest goes, and gives the writes to the physical function's registers. What the host stands for stays for
+    /// every other pool, as after a message.
+    #[tactic(auto, unfolding(crate::specs::Writes::writes_without))]
+    pub fn reset(&mut self, pool: PoolId) -> Writes
+        ensures host { self.new ≡ host_without self.old pool }
+        ensures writes { result ≡ writes_without self.old pool }
+        ensures others { (q : ℕ) → q < 64 → q ≢ pool
+            → IsSameFor (settings_of self.old) (settings_of self.new) q }
+        ensures all { IsSameForAll (settings_of self.old) (settings_of self.new) }
+    {
+        self.forget(pool);
+        self.writes_of(pool)
+    }
+}
+
+/// Writes.
+impl Host {
+    // The three writes of a receive address entry.
+    fn put_entry(&self, writes: &mut Writes, e: u32)
+        requires entry { e < 128 }
+        requires room { length writes.old ≤ 137 }
+        ensures list { writes.new ≡ writes.old ++ entry_writes self.now e }
+        ensures more { length writes.new ≡ length writes.old + 3 }
+    {
+        writes.put(RAH, e, 0);
+        writes.put(RAL, e, self.low_word(e));
+        writes.put(RAH, e, self.high_word(e));
+    }
+
+    // Which functions are up, for receiving and for transmitting.
+    fn put_up(&self, writes: &mut Writes)
+        requires { length writes.old ≤ 136 }
+        ensures list { writes.new ≡ writes.old ++ up_writes self.now }
+        ensures more { length writes.new ≡ length writes.old + 4 }
+    {
+        writes.put(PFVFRE, 0, self.up_word(0));
+        writes.put(PFVFRE, 1, self.up_word(1));
+        writes.put(PFVFTE, 0, self.up_word(0));
+        writes.put(PFVFTE, 1, self.up_word(1));
+    }
+
+    // The pools of all VLAN entries that have an id.
+    fn put_members(&self, writes: &mut Writes)
+        requires { length writes.old ≤ 12 }
+        ensures list { writes.new ≡ writes.old ++ member_writes self.now 0 (2 * length self.now.ids) }
+    {
+        let count = 2 * self.ids().len() as u32;
+        for i in 0..count {
+            writes.put(VLVFB, i, self.member_word(i));
+        }
+    }
+
+    // All registers of the pool.
+    #[tactic(auto, unfolding(crate::specs::Writes::writes_of))]
+    fn writes_of(&self, pool: PoolId) -> Writes
+        ensures { result ≡ writes_of self.now pool }
+    {
+        let p = u32::from(pool.get());
+        let function = self.function_at(p);
+        let mut writes = Writes::new();
+        self.put_entry(&mut writes, p);
+        self.put_entry(&mut writes, 64 + p);
+        writes.put(VMOLR, p, function.flags_word());
+        writes.put(VMVIR, p, function.port_word());
+        self.put_up(&mut writes);
+        self.put_members(&mut writes);
+        writes
+    }
+}
+
+// Whether the message changes registers, where it is granted.
+fn sets_registers(message: Message) -> bool
+    ensures { result ≡ sets_registers message }
+{
+    matches!(
+        message,
+        Message::Reset
+            | Message::SetAddress(_)
+            | Message::SetMulticast(_)
+            | Message::SetVlan(_, _)
+            | Message::SetSecondAddress(_, _)
+            | Message::SetMulticastMode(_)
+    )
+}
+
+// The address that a message asks for.
+fn address_in(message: Message) -> u64
+    ensures { result ≡ address_in message }
+{
+    match message {
+        Message::SetAddress(address) | Message::SetSecondAddress(_, address) => address,
+        _ => 0,
+    }
+}

@@ -1,0 +1,35 @@
+//! The registers of the mailbox, and the words of its messages (82599 datasheet, VF Mailbox; Linux ixgbevf, mbx.h).
+use wire_frame::Row;
+
+/// VFMBMEM, the memory of the mailbox.
+pub const VFMBMEM: Row = Row {
+    first: 0x200,
+    count: 16,
+    stride: 4,
+    mask: 0xFFFF_FFFF,
+};
+/// VFMAILBOX, what is rung and what has happened.
+pub const VFMAILBOX: u32 = 0x2FC;
+/// Bit REQ of VFMAILBOX: the function asks the host to read a message.
+pub const REQ: u32 = 0;
+/// Bit VFU of VFMAILBOX as a mask: the function has taken the memory.
+pub const VFU: u32 = 0x4;
+/// Bits PFSTS and PFACK of VFMAILBOX as a mask: the host has written an answer, and has read the message.
+pub const ANSWERED: u32 = 0x30;
+/// Bit RSTD of VFMAILBOX as a mask: the function was reset from outside.
+pub const RSTD: u32 = 0x80;
+/// The bits of VFMAILBOX that a read leaves as they are: VFU, PFU and RSTI. It clears PFSTS, PFACK and RSTD.
+pub const READ_KEEPS: u32 = 0x4C;
+/// The bits of VFMAILBOX that a write of the function leaves as they are: all that are kept, but for VFU.
+pub const WRITE_KEEPS: u32 = 0xF8;
+/// Word 0 after a reset from outside: a control message of the host that is a refusal, without CTS.
+pub const WORD_AFTER_RESET: u32 = 0x4000_0100;
+
+/// Bit CTS of word 0: the function may send.
+pub const CTS: u32 = 0x2000_0000;
+/// Bit NACK of word 0: the message is refused.
+pub const NACK: u32 = 0x4000_0000;
+/// Bit ACK of word 0: the message is granted.
+pub const ACK: u32 = 0x8000_0000;
+/// How many types of messages there are.
+pub const TYPES: u32 = 0x1_0000;

@@ -1,0 +1,164 @@
+//! The registers of the physical function, as they are for a host.
+ghost use Rattle.std.specs.Prelude.{◌≡◌, ◌+◌, ◌*◌, ◌^◌, ◌<◌, true, length, if◌then◌else◌};
+ghost use Rattle.pool_filter.specs.Own.{contains};
+ghost use Rattle.mailbox.specs.Host.{function_at};
+ghost use Rattle.mailbox.specs.Words.{mask_from, is_in_set, is_set, entry, low_word, valid, high_word, member_word, up_word, flags_word, inserted, port_word};
+
+use crate::function::{Function, high_part, low_part};
+use crate::host::Host;
+use wire_frame::has_bit;
+
+/// A set of pools or of VLAN ids, by their numbers.
+#[derive(Clone, Copy, Debug, PartialEq, Eq)]
+pub enum Set {
+    /// The pools whose functions are up.
+    Up,
+    /// The pools that joined the VLAN at a place.
+    Joined(u32),
+    /// The ids that the host has.
+    Named,
+}
+
+/// Sets, as words.
+impl Host {
+    // Whether the set has the number.
+    fn is_in(&self, set: Set, number: u32) -> bool
+        requires set { is_set set ≡ true }
+        requires below { number < 64 }
+        ensures { result ≡ is_in_set self.now set number }
+    {
+        match set {
+            Set::Up => self.function_at(number).is_up,
+            Set::Joined(place) => has_bit(self.function_at(number).joined, place),
+            Set::Named => is_named(self.ids(), number),
+        }
+    }
+
+    // The numbers 32 i to 32 i + 31, bit by bit.
+    #[tactic(auto, using(crate::proofs::Masks::mask_none))]
+    fn mask(&self, set: Set, i: u32) -> u32
+        requires set { is_set set ≡ true }
+        requires below { i < 2 }
+        ensures { result ≡ mask_from (is_in_set self.now set) (32 * i) 32 }
+    {
+        let mut word = 0u32;
+        for done in 0..32 {
+            let bit = self.is_in(set, 32 * i + 31 - done);
+            word = one_more(word, bit);
+        }
+        word
+    }
+
+    /// The functions that are up, of pools 32 i to 32 i + 31.
+    pub(crate) fn up_word(&self, i: u32) -> u32
+        requires { i < 2 }
+        ensures { result ≡ up_word self.now i }
+    {
+        self.mask(Set::Up, i)
+    }
+
+    /// Word i of VLVFB.
+    pub(crate) fn member_word(&self, i: u32) -> u32
+        requires { i < 128 }
+        ensures { result ≡ member_word self.now i }
+    {
+        if (i as usize) < 2 * self.ids().len() {
+            self.mask(Set::Joined(i / 2), i % 2)
+        } else {
+            0
+        }
+    }
+}
+
+/// Receive address entries.
+impl Host {
+    // The address of entry e.
+    fn entry(&self, e: u32) -> Option<u64>
+        requires { e < 128 }
+        ensures { result ≡ entry self.now e }
+    {
+        if e < 64 {
+            self.function_at(e).address
+        } else {
+            self.function_at(e - 64).second
+        }
+    }
+
+    /// The word of RAL of entry e.
+    pub(crate) fn low_word(&self, e: u32) -> u32
+        requires { e < 128 }
+        ensures { result ≡ low_word self.now e }
+    {
+        low_part(self.entry(e))
+    }
+
+    /// The word of RAH of entry e.
+    pub(crate) fn high_word(&self, e: u32) -> u32
+        requires { e < 128 }
+        ensures { result ≡ high_word self.now e }
+    {
+        valid(self.entry(e))
+    }
+}
+
+/// Words of one function.
+impl Function {
+    /// Its word of VMOLR.
+    pub(crate) fn flags_word(&self) -> u32
+        ensures { result ≡ flags_word self.now }
+    {
+        if !self.is_up {
+            return 0;
+        }
+        let untagged = if self.port.is_some() { 0 } else { 0x0100_0000 };
+        let multicast = if self.groups || self.mode == 2 {
+            0x1000_0000
+        } else {
+            0
+        };
+        0x0800_0000 + untagged + multicast
+    }
+
+    /// Its word of VMVIR.
+    pub(crate) fn port_word(&self) -> u32
+        ensures { result ≡ port_word self.now }
+    {
+        if self.is_up { inserted(self.port) } else { 0 }
+    }
+}
+
+// The word with its bits one higher, and one more below them.
+fn one_more(word: u32, bit: bool) -> u32
+    requires { word < 2 ^ 31 }
+    ensures { result ≡ 2 * word + (if bit then 1 else 0) }
+{
+    2 * word + if bit { 1 } else { 0 }
+}
+
+// AV, and bytes 4 and 5 of an address.
+fn valid(address: Option<u64>) -> u32
+    ensures { result ≡ valid address }
+{
+    if address.is_none() {
+        0
+    } else {
+        0x8000_0000 + high_part(address)
+    }
+}
+
+// The tag that is always inserted.
+fn inserted(port: Option<u16>) -> u32
+    ensures { result ≡ inserted port }
+{
+    match port {
+        None => 0,
+        Some(id) => 0x4000_0000 + u32::from(id % 4096),
+    }
+}
+
+// Whether the ids have the number.
+fn is_named(ids: &[u16], number: u32) -> bool
+    ensures { result ≡ contains ids.now number }
+{
+    ids.iter().any(|id| u32::from(*id) == number)
+}

@@ -1,0 +1,49 @@
+//! What the tests share: a host with policies, and a driver that asks.
+use mailbox::{Host, Mailbox, Policy, Rang, VlanPolicy, Writes};
+use std::test::Fail;
+use wire_frame::{FrameLimit, Mac, PoolId, Vid};
+
+/// The ids 0, 100 and 200 at places 0, 1 and 2.
+pub fn host() -> Result<Host, Fail> {
+    let ids = [Vid::of_tag(0), Vid::of_tag(100), Vid::of_tag(200)];
+    let limit = FrameLimit::new(9018).ok_or("no limit")?;
+    Ok(Host::new(&ids, None, limit).ok_or("no host")?)
+}
+
+/// A policy with the address 02:82:59:90:00:LAST, which may join ids 0 and 100.
+pub fn policy(last: u8) -> Policy {
+    Policy {
+        address: Mac([0x02, 0x82, 0x59, 0x90, 0x00, last]),
+        may_choose: false,
+        vlans: VlanPolicy::Joins(3),
+        all_multicast: false,
+    }
+}
+
+/// The driver of a pool writes three words, takes the memory and rings; the host answers.
+pub fn ask(
+    host: &mut Host,
+    pool: PoolId,
+    mailbox: &mut Mailbox,
+    words: [u32; 3],
+) -> Result<Writes, Fail> {
+    let _ = mailbox.write(0x200, words[0]);
+    let _ = mailbox.write(0x204, words[1]);
+    let _ = mailbox.write(0x208, words[2]);
+    let _ = mailbox.write(0x2FC, 4);
+    match mailbox.write(0x2FC, 1) {
+        Some(Rang::Request) => Ok(host.answer(pool, mailbox)),
+        _ => Err("the write did not ring".into()),
+    }
+}
+
+/// Words 0 to 4 of the memory.
+pub fn words(mailbox: &mut Mailbox) -> [u32; 5] {
+    [
+        mailbox.read(0x200).unwrap_or(1),
+        mailbox.read(0x204).unwrap_or(1),
+        mailbox.read(0x208).unwrap_or(1),
+        mailbox.read(0x20C).unwrap_or(1),
+        mailbox.read(0x210).unwrap_or(1),
+    ]
+}

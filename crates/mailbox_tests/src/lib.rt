@@ -1,0 +1,12 @@
+//! Tests of the mailbox: what a driver says at its start and what it is answered, every refusal, and 64 functions beside one
+//! another.
+//!
+//! The values come from outside: the driver's words as they were seen when a stock Linux guest was run, and the datasheet.
+#![tactic(auto)]
+
+#[cfg(test)]
+mod driver;
+#[cfg(test)]
+mod refusals;
+#[cfg(test)]
+mod start;

@@ -1,0 +1,75 @@
+//! Refusals.
+use crate::driver::{ask, host, policy};
+use mailbox::{Mailbox, Policy};
+use std::test::Fail;
+use wire_frame::PoolId;
+
+/// What a function with these rights is refused, by word 0 of the reply: another address, a group's, a second address, VLAN 200,
+/// a frame of 9023 bytes, API 1.4 and 2.0, queues and modes before an API is agreed on, and types that there are not.
+#[test]
+fn refuses(rt: HostRuntime) -> Result<(), Fail> {
+    let pool = PoolId::new(7).ok_or("no such pool")?;
+    let mut host = host()?;
+    host.admit(pool, &policy(0x10))?;
+    let mut mailbox = Mailbox::new();
+    let _ = ask(&mut host, pool, &mut mailbox, [1, 0, 0])?;
+    for (message, head) in [
+        ([2, 0x9059_8202, 0x1100], 0x6000_0002),
+        ([2, 0x9059_8203, 0x1000], 0x6000_0002),
+        ([0x1_0006, 0x9059_8202, 0x1100], 0x6001_0006),
+        ([0x2_0006, 0x9059_8202, 0x1000], 0x6002_0006),
+        ([0x1_0004, 200, 0], 0x6001_0004),
+        ([0x1_0004, 300, 0], 0x6001_0004),
+        ([5, 9023, 0], 0x6000_0005),
+        ([8, 1, 0], 0x6000_0008),
+        ([8, 5, 0], 0x6000_0008),
+        ([9, 0, 0], 0x6000_0009),
+        ([12, 1, 0], 0x6000_000C),
+        ([16, 0, 0], 0x6000_0010),
+        ([10, 0, 0], 0x6000_000A),
+        ([0x8000_0010, 0, 0], 0x6000_0010),
+    ] {
+        let writes = ask(&mut host, pool, &mut mailbox, message)?;
+        assert_eq!(rt; mailbox.read(0x200), Some(head));
+        assert_eq!(rt; writes.as_slice().len(), 0);
+    }
+    Ok(())
+}
+
+/// A function that may choose gets an address that nobody has, and not one that another has, be it the other's permanent one or
+/// one that it chose.
+#[test]
+fn addresses_are_one_functions(rt: HostRuntime) -> Result<(), Fail> {
+    let first = PoolId::new(0).ok_or("no such pool")?;
+    let second = PoolId::new(63).ok_or("no such pool")?;
+    let mut host = host()?;
+    host.admit(
+        first,
+        &Policy {
+            may_choose: true,
+            ..policy(0x10)
+        },
+    )?;
+    host.admit(
+        second,
+        &Policy {
+            may_choose: true,
+            ..policy(0x20)
+        },
+    )?;
+    let mut mailbox = Mailbox::new();
+    let _ = ask(&mut host, first, &mut mailbox, [1, 0, 0])?;
+    let _ = ask(&mut host, second, &mut mailbox, [1, 0, 0])?;
+    for (pool, message, head) in [
+        (first, [2, 0x9059_8202, 0x2000], 0x6000_0002),
+        (first, [2, 0x9059_8202, 0x3000], 0xA000_0002),
+        (second, [2, 0x9059_8202, 0x3000], 0x6000_0002),
+        (second, [0x1_0006, 0x9059_8202, 0x3000], 0x6001_0006),
+        (second, [0x1_0006, 0x9059_8202, 0x1000], 0x6001_0006),
+        (second, [0x1_0006, 0x9059_8202, 0x4000], 0xA001_0006),
+    ] {
+        let _ = ask(&mut host, pool, &mut mailbox, message)?;
+        assert_eq!(rt; mailbox.read(0x200), Some(head));
+    }
+    Ok(())
+}

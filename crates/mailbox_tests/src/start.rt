@@ -1,0 +1,101 @@
+//! A driver's start.
+use crate::driver::{ask, host, policy, words};
+use mailbox::{Mailbox, Write};
+use std::test::Fail;
+use wire_frame::PoolId;
+
+/// What ixgbevf says as it comes up, in its order, and what it is answered: reset; API 1.7, 1.6, 1.5 and 1.4, which are refused,
+/// and 1.3; queues; its own address; multicast mode 1; VLAN 0; the link. Then PFSTS and PFACK are read once, and VFU reads as it
+/// was written.
+#[test]
+fn starts(rt: HostRuntime) -> Result<(), Fail> {
+    let pool = PoolId::new(0).ok_or("no such pool")?;
+    let mut host = host()?;
+    host.admit(pool, &policy(0x10))?;
+    let mut mailbox = Mailbox::new();
+    for (message, reply) in [
+        ([1, 0, 0], [0x8000_0001, 0x9059_8202, 0x1000, 0, 0]),
+        ([8, 8, 0], [0x6000_0008, 8, 0, 0, 0]),
+        ([8, 7, 0], [0x6000_0008, 7, 0, 0, 0]),
+        ([8, 6, 0], [0x6000_0008, 6, 0, 0, 0]),
+        ([8, 5, 0], [0x6000_0008, 5, 0, 0, 0]),
+        ([8, 4, 0], [0xA000_0008, 4, 0, 0, 0]),
+        ([9, 0, 0], [0xA000_0009, 2, 2, 0, 0]),
+        (
+            [2, 0x9059_8202, 0x1000],
+            [0xA000_0002, 0x9059_8202, 0x1000, 0, 0],
+        ),
+        ([12, 1, 0], [0xA000_000C, 1, 0, 0, 0]),
+        ([0x1_0004, 0, 0], [0xA001_0004, 0, 0, 0, 0]),
+        ([16, 0, 0], [0xA000_0010, 1, 0, 0, 0]),
+    ] {
+        let _ = ask(&mut host, pool, &mut mailbox, message)?;
+        assert_eq!(rt; words(&mut mailbox), reply);
+    }
+    assert_eq!(rt; mailbox.read(0x2FC), Some(0x30));
+    assert_eq!(rt; mailbox.read(0x2FC), Some(0));
+    let _ = mailbox.write(0x2FC, 4);
+    assert_eq!(rt; mailbox.read(0x2FC), Some(4));
+    Ok(())
+}
+
+/// The writes after RESET of pool 7, and the word of VLVFB after it joined VLAN 100: RAH, RAL, RAH of entries 7 and 71, VMOLR,
+/// VMVIR, two words each of PFVFRE and PFVFTE, and VLVFB.
+#[test]
+fn writes_of_a_reset(rt: HostRuntime) -> Result<(), Fail> {
+    let pool = PoolId::new(7).ok_or("no such pool")?;
+    let mut host = host()?;
+    host.admit(pool, &policy(0x10))?;
+    let mut mailbox = Mailbox::new();
+    let writes = ask(&mut host, pool, &mut mailbox, [1, 0, 0])?;
+    let wanted = [
+        write(0xA23C, 0),
+        write(0xA238, 0x9059_8202),
+        write(0xA23C, 0x8000_1000),
+        write(0xA43C, 0),
+        write(0xA438, 0),
+        write(0xA43C, 0),
+        write(0xF01C, 0x0900_0000),
+        write(0x801C, 0),
+        write(0x51E0, 0x80),
+        write(0x51E4, 0),
+        write(0x8110, 0x80),
+        write(0x8114, 0),
+        write(0xF200, 0),
+        write(0xF204, 0),
+        write(0xF208, 0),
+        write(0xF20C, 0),
+        write(0xF210, 0),
+        write(0xF214, 0),
+    ];
+    assert!(rt; writes.as_slice() == wanted.as_slice());
+    let writes = ask(&mut host, pool, &mut mailbox, [0x1_0004, 100, 0])?;
+    assert_eq!(rt;
+        writes.as_slice().get(14).copied(),
+        Some(write(0xF208, 0x80))
+    );
+    Ok(())
+}
+
+fn write(offset: u32, value: u32) -> Write {
+    Write { offset, value }
+}
+
+/// After a reset from outside the driver reads RSTD once, and a word 0 that is a refusal without CTS; all that it asks before it
+/// resets is refused without CTS.
+#[test]
+fn begins_anew(rt: HostRuntime) -> Result<(), Fail> {
+    let pool = PoolId::new(0).ok_or("no such pool")?;
+    let mut host = host()?;
+    host.admit(pool, &policy(0x10))?;
+    let mut mailbox = Mailbox::new();
+    let _ = ask(&mut host, pool, &mut mailbox, [1, 0, 0])?;
+    let _ = host.reset(pool);
+    mailbox.reset();
+    assert_eq!(rt; mailbox.read(0x200), Some(0x4000_0100));
+    assert_eq!(rt; mailbox.read(0x2FC), Some(0x80));
+    assert_eq!(rt; mailbox.read(0x2FC), Some(0));
+    let _ = ask(&mut host, pool, &mut mailbox, [16, 0, 0])?;
+    assert_eq!(rt; mailbox.read(0x200), Some(0x4000_0010));
+    Ok(())
+}

@@ -17,7 +17,6 @@ pub mod device;
 pub mod event;
 pub mod laws;
 mod outcome;
-mod request;
 mod resets;
 mod service;
 mod span;
@@ -28,9 +27,8 @@ pub mod wire_out;
 
 pub use bytes::{MemBytes, MemSlice};
 pub use device::Device;
-pub use event::{Answer, Event, Reply};
+pub use event::{Answer, Event, Reply, Request};
 pub use outcome::{Acted, Outcome};
-pub use request::Request;
 pub use service::serve_queue;
 pub use span::Span;
 pub use taken::Taken;

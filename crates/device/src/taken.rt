@@ -1,7 +1,7 @@
 //! What came of an event, with its messages and the frame that it sent.
 ghost use Rattle.std.specs.Prelude.{◌≡◌, None};
 ghost use Rattle.irq_causes.specs.Messages.{no_messages};
-ghost use Rattle.device.specs.declared.outcome.Outcome.{Outcome};
+ghost use Rattle.device.specs.declared.event.Reply.{Reply};
 ghost use Rattle.device.specs.World.{World, silently};
 ghost use Rattle.device.specs.Outcome.{answer_in, done_or_refused, value_or_refused, messages_or_refused};
 
@@ -44,7 +44,7 @@ impl<'f> Taken<'f> {
     // beside them, and who reads a word would wait for the whole move.
     #[inline]
     pub(crate) fn done_with(messages: Messages) -> Taken<'f>
-        ensures outcome { result.outcome ≡ Outcome.Done }
+        ensures outcome { result.outcome ≡ Reply.Done }
         ensures messages { result.messages ≡ messages }
         ensures sent { result.sent ≡ None }
         ensures left { result.left ≡ None }
@@ -60,7 +60,7 @@ impl<'f> Taken<'f> {
     // A register that was read.
     #[inline]
     fn read(value: u32) -> Taken<'f>
-        ensures outcome { result.outcome ≡ Outcome.Value value }
+        ensures outcome { result.outcome ≡ Reply.Value value }
         ensures messages { result.messages ≡ no_messages }
         ensures sent { result.sent ≡ None }
         ensures left { result.left ≡ None }
@@ -76,7 +76,7 @@ impl<'f> Taken<'f> {
     // An event that was refused.
     #[inline]
     fn refused(fault: Fault) -> Taken<'f>
-        ensures outcome { result.outcome ≡ Outcome.Refused fault }
+        ensures outcome { result.outcome ≡ Reply.Refused fault }
         ensures messages { result.messages ≡ no_messages }
         ensures sent { result.sent ≡ None }
         ensures left { result.left ≡ None }

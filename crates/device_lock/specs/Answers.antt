@@ -1,6 +1,6 @@
 -- What a caller knows of an answer of a device that others ask too.
 use Rattle.std.specs.Prelude.{◌≡◌}
-use Rattle.device.specs.declared.event.Event.{Event}
+use Rattle.device.specs.Events.{Event}
 use Rattle.device.specs.declared.event.Answer.{Answer}
 use Rattle.device.specs.World.{World, step}
 use Rattle.recorder.specs.Held.{Mine, having_asked}

@@ -1,7 +1,7 @@
 -- A port's share made one call more, and so did the port.
 use Rattle.std.proofs.Common.{◌≡◌, List, [], ◌∷◌, ◌++◌, length, drop, refl, sym, ap, ◌∙◌, append_assoc}
 use Rattle.std.proofs.Math.Seq.{drop-append_seam}
-use Rattle.device.specs.declared.event.Event.{Event}
+use Rattle.device.specs.Events.{Event}
 use Rattle.device.specs.declared.event.Answer.{Answer}
 use Rattle.history.specs.Entries.{Entry, entry}
 use Rattle.recorder.specs.Held.{Mine, having_asked, having_calls}

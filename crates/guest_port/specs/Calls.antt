@@ -4,8 +4,8 @@ use Rattle.std.specs.Prelude.{◌≡◌, ℕ, ◌==◌, Bool, true, false, List,
 use Rattle.wire_frame.specs.Fault.{number_of}
 use Rattle.wire_frame.specs.declared.fault.Fault.{Fault}
 use Rattle.wire_frame.specs.declared.fault.Fault.TheVariants.{HistoryFull}
-use Rattle.device.specs.declared.event.Event.{Event}
-use Rattle.device.specs.declared.event.Reply.{Reply}
+use Rattle.device.specs.Events.{Event}
+use Rattle.device.specs.Replies.{Reply}
 use Rattle.device.specs.declared.event.Reply.TheVariants.{Done, Value, Bytes, Refused}
 use Rattle.device.specs.declared.event.Answer.{Answer}
 use Rattle.history.specs.Entries.{Entry, entry}

@@ -1,10 +1,10 @@
 //! A kept call without its bytes.
 ghost use Rattle.std.specs.Prelude.{◌≡◌, ◌≤◌, length};
 ghost use Rattle.device.specs.Request.{event_of};
-ghost use Rattle.history.specs.Heads.{asked_of, told_of, brought, IsSound};
+ghost use Rattle.history.specs.Heads.{asked_of, kind_of, brought, IsSound};
 
 use crate::caller::Caller;
-use device::{Outcome, Queue, Request};
+use device::{Outcome, Queue, Reply, Request};
 use irq_causes::Vectors;
 use std::marker::Model;
 
@@ -37,28 +37,8 @@ pub enum Asked {
     Wire,
 }
 
-/// What was replied, but for bytes.
-#[derive(Clone, Copy)]
-pub enum Told {
-    /// The call was done, and has no value.
-    Done,
-    /// A register's value.
-    Value(u32),
-    /// Bytes of a guest's memory.
-    Bytes,
-    /// The queue owned no descriptor.
-    Idle,
-    /// A descriptor was taken, and more of the frame is to come.
-    More,
-    /// A frame went out.
-    Sent,
-    /// A frame was dropped.
-    Dropped,
-    /// The queue faulted.
-    Faulted,
-    /// The call was refused, by the fault of this number.
-    Refused(u8),
-}
+/// What was replied, but for bytes; a fault stands by its number.
+pub type ReplyKind = Reply<()>;
 
 /// A caller in one byte.
 #[derive(Clone, Copy)]
@@ -110,7 +90,7 @@ pub struct Head {
     /// What was asked.
     pub asked: Asked,
     /// What was replied.
-    pub told: Told,
+    pub reply: ReplyKind,
     /// Where its bytes begin.
     pub start: u32,
     /// How many bytes it brought or read.
@@ -158,18 +138,11 @@ pub fn brought<'a>(request: Request<'a>) -> &'a [u8]
 
 /// What was replied, but for bytes.
 #[inline]
-pub fn told_of(outcome: Outcome) -> Told
-    ensures { result ≡ told_of outcome }
+pub fn kind_of(outcome: Outcome) -> ReplyKind
+    ensures { result ≡ kind_of outcome }
 {
     match outcome {
-        Outcome::Done => Told::Done,
-        Outcome::Value(value) => Told::Value(value),
-        Outcome::Bytes(_) => Told::Bytes,
-        Outcome::Idle => Told::Idle,
-        Outcome::More => Told::More,
-        Outcome::Sent => Told::Sent,
-        Outcome::Dropped => Told::Dropped,
-        Outcome::Faulted => Told::Faulted,
-        Outcome::Refused(fault) => Told::Refused(fault.number()),
+        Outcome::Refused(fault) => Reply::Refused(fault.number()),
+        other => other.with((), 0),
     }
 }

@@ -7,7 +7,7 @@ ghost use Rattle.history.specs.Entries.{entry, entry_at, is_cap, brings};
 
 use crate::bytes::{append_moved, part};
 use crate::caller::Caller;
-use crate::head::{Asked, Head, PackedCaller, asked_of, told_of};
+use crate::head::{Asked, Head, PackedCaller, asked_of, kind_of};
 use crate::reply::is_reply;
 use crate::words::{append_words, are_messages, words_len};
 use device::{Device, MemSlice, Request, Taken};
@@ -115,7 +115,7 @@ impl History {
         let vectors = append_words(&mut self.pool, taken.messages.words());
         self.heads.push_reserved(Head {
             asked: asked_of(request),
-            told: told_of(taken.outcome),
+            reply: kind_of(taken.outcome),
             start,
             count,
             caller: PackedCaller::new(caller),
@@ -184,7 +184,7 @@ impl History {
         let (start, count) = (head.start as usize, usize::from(head.count));
         let bytes = part(pool, start, count);
         let words = part(pool, start + count, words_len(head.vectors));
-        let same_reply = is_reply(head.told, bytes, device, taken.outcome, room);
+        let same_reply = is_reply(head.reply, bytes, device, taken.outcome, room);
         let same_messages = are_messages(taken.messages, head.vectors, words);
         same_reply && same_messages
     }

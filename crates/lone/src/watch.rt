@@ -5,7 +5,7 @@ ghost use Rattle.pool_filter.specs.Own.{own};
 ghost use Rattle.device.specs.World.{step};
 ghost use Rattle.device.specs.Request.{event_of};
 ghost use Rattle.device.specs.declared.event.Event.{Event};
-ghost use Rattle.device.specs.Lone.{kept, kept_of};
+ghost use Rattle.device.specs.Lone.{kept, kept_of, pool_of};
 ghost use Rattle.lone.specs.Kept.{item_of};
 
 use crate::item::{Given, Room};
@@ -60,7 +60,7 @@ impl<M: GuestMem> Watch<M> {
         ensures kept { option_map item_of result
             ≡ kept self.old.pool self.old.world (event_of request.entry) }
     {
-        if request.pool() == Some(self.pool.get()) {
+        if owner(request) == Some(self.pool.get()) {
             self.pass(request, &mut room.frame);
             return Some(Given::OwnEvent(request));
         }
@@ -149,4 +149,13 @@ impl<M: GuestMem> Watch<M> {
             None
         }
     }
+}
+
+// The number of the function whose own event a request is.
+#[inline]
+#[tactic(auto, using(crate::proofs::Requests::same_pool))]
+fn owner(request: Request<'_>) -> Option<u8>
+    ensures { result ≡ pool_of (event_of request.entry) }
+{
+    request.pool()
 }

@@ -3,7 +3,7 @@ use Rattle.std.proofs.Common.{◌≡◌, ℕ, suc, ◌<◌, ◌≤◌, List, [],
 use Rattle.std.proofs.lemmas.List.{length-replicate, get_or-replicate}
 use Rattle.std.specs.Prelude.{slice_index}
 use Rattle.std.specs.Io.KnownBytes.{Appends}
-use Rattle.device.specs.declared.event.Event.{Event}
+use Rattle.device.specs.Events.{Event}
 use Rattle.device.specs.World.{World, step, answers, world_after}
 use Rattle.device.specs.Lone.{Lone as LoneFunction, alone, keep, lone_of, lone_seen, lone_after}
 use Rattle.device.proofs.Unwinding.{fresh_sight, fresh_state}

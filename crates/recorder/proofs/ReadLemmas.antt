@@ -13,16 +13,14 @@ use Rattle.irq_causes.specs.Causes.{Change}
 use Rattle.vf_unit.specs.Unit.{Function, Closed, Open, size_of, is_open, bytes_at, serviced, service_outcome}
 use Rattle.pool_filter.specs.Own.{OwnSettings, own, port_vlan_of}
 use Rattle.anti_spoof.specs.Permitted.{permitted}
-use Rattle.device.specs.declared.event.Event.{Event}
+use Rattle.device.specs.Events.{Event}
 use Rattle.device.specs.declared.event.Event.TheVariants.{Open, End, VfRead, VfWrite, MemRead, MemWrite, Serve, Flr, PfRead, PfWrite, PfReset, Wire}
-use Rattle.device.specs.declared.event.Reply.{Reply}
-use Rattle.device.specs.declared.event.Reply.TheVariants.{Bytes}
+use Rattle.device.specs.Replies.{Reply, is_done}
+use Rattle.device.specs.declared.event.Reply.TheVariants.{Done, Value, Bytes, Idle, More, Sent, Dropped, Faulted, Refused}
 use Rattle.device.specs.declared.event.Answer.{Answer}
-use Rattle.device.specs.declared.outcome.Outcome.{Outcome}
-use Rattle.device.specs.declared.outcome.Outcome.TheVariants.{Done, Value, Bytes, Idle, More, Sent, Dropped, Faulted, Refused}
+use Rattle.device.specs.Outcome.{Outcome, reply_in, answer_in}
 use Rattle.device.specs.declared.taken.Taken.{Taken}
-use Rattle.device.specs.Act.{Service, act, performed, unless_refused, refusal, serve, unserved, concluded, is_done, is_bad_offset, opens, passes_end}
-use Rattle.device.specs.Outcome.{reply_in, answer_in}
+use Rattle.device.specs.Act.{Service, act, performed, unless_refused, refusal, serve, unserved, concluded, is_bad_offset, opens, passes_end}
 use Rattle.device.specs.World.{World, Stepped, step, own_step, function_of, served, service, flagged, refused}
 use Rattle.recorder.specs.Read.{bytes_asked, bytes_told}
 
@@ -115,7 +113,7 @@ unfolding serve count_of
 serve_len limit o (Closed size) q = refl
 serve_len limit o (Open s) q = by o.may_transmit
   where
-    by : (may : Bool) → count_of (if may then concluded o (serviced limit (port_vlan_of o.port_vlan) (Open s) q) (service_outcome limit (port_vlan_of o.port_vlan) (Open s) q) else unserved (Open s) Reply.Idle).reply ≡ 0
+    by : (may : Bool) → count_of (if may then concluded o (serviced limit (port_vlan_of o.port_vlan) (Open s) q) (service_outcome limit (port_vlan_of o.port_vlan) (Open s) q) else unserved (Open s) Idle).reply ≡ 0
     by true = concluded_len o _ (service_outcome limit (port_vlan_of o.port_vlan) (Open s) q)
     by false = refl
 

@@ -1,6 +1,6 @@
 -- What contracts see of a recorded device, and of a caller's share in it.
 use Rattle.std.specs.Prelude.{◌≡◌, ℕ, ◌+◌, ◌-◌, ◌<◌, Bool, List, [], ◌∷◌, ◌++◌, length, sum, slice_index, Option, Some, None, slice_get}
-use Rattle.device.specs.declared.event.Event.{Event}
+use Rattle.device.specs.Events.{Event}
 use Rattle.device.specs.declared.event.Answer.{Answer}
 use Rattle.device.specs.World.{World, step}
 use Rattle.irq_line.specs.Line.{DeviceEnd, raised}

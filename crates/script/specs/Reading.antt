@@ -3,7 +3,7 @@ use Rattle.std.specs.Prelude.{ℕ, ◌+◌, Bool, ◌&&◌, is_none, ◌==◌, L
 use Rattle.std.specs.Option.{option_map}
 use Rattle.std.specs.Str.{bytes_eq}
 use Rattle.guest_memory.specs.Memory.{is_memory_size}
-use Rattle.device.specs.declared.event.Event.{Event}
+use Rattle.device.specs.Events.{Event}
 use Rattle.device.specs.World.{is_frame_limit}
 use Rattle.script.specs.Numbers.{number_of}
 use Rattle.script.specs.Text.{parts}

@@ -8,9 +8,9 @@ use Rattle.guest_memory.specs.Memory.{is_memory_size}
 use Rattle.irq_causes.specs.Messages.{no_messages}
 use Rattle.vf_unit.specs.declared.registers.Queue.{Queue}
 use Rattle.vf_unit.specs.declared.registers.Queue.TheVariants.{Q0, Q1}
-use Rattle.device.specs.declared.event.Event.{Event}
+use Rattle.device.specs.Events.{Event}
 use Rattle.device.specs.declared.event.Event.TheVariants.{VfWrite, MemWrite, Serve, Wire}
-use Rattle.device.specs.declared.event.Reply.{Reply}
+use Rattle.device.specs.Replies.{Reply}
 use Rattle.device.specs.declared.event.Reply.TheVariants.{Done, Value, Bytes, Idle, More, Sent, Dropped, Faulted, Refused}
 use Rattle.device.specs.World.{World, step, answers, world_after, is_frame_limit}
 use Rattle.device.specs.Outcome.{left_by}

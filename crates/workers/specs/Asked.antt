@@ -1,7 +1,7 @@
 -- The calls of a share, with what came of them.
 use Rattle.std.specs.Prelude.{◌≡◌, List, Option, Some}
-use Rattle.device.specs.declared.event.Event.{Event}
-use Rattle.device.specs.declared.event.Reply.{Reply}
+use Rattle.device.specs.Events.{Event}
+use Rattle.device.specs.Replies.{Reply}
 use Rattle.device.specs.declared.event.Answer.{Answer}
 use Rattle.recorder.specs.Held.{HasAsked, Mine, having_asked}
 use Rattle.device_lock.specs.Answers.{MayAnswer}

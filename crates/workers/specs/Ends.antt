@@ -1,7 +1,7 @@
 -- The ends of ports that the service records when all workers have ended.
 use Rattle.std.specs.Prelude.{◌≡◌, ℕ, List, map}
 use Rattle.std.specs.List.{Contains}
-use Rattle.device.specs.declared.event.Event.{Event}
+use Rattle.device.specs.Events.{Event}
 use Rattle.device.specs.declared.event.Event.TheVariants.{End}
 use Rattle.history.specs.declared.caller.Caller.TheVariants.{Service}
 use Rattle.recorder.specs.Held.{HasAsked, Mine}

@@ -1,7 +1,7 @@
 -- What a sweep over notes of ports does.
 use Rattle.std.specs.Prelude.{◌≡◌, ℕ, true, false, Bool, not, List, [], ◌∷◌, ◌++◌, filter, map}
 use Rattle.std.specs.List.{All, Contains}
-use Rattle.device.specs.declared.event.Event.{Event}
+use Rattle.device.specs.Events.{Event}
 use Rattle.device.specs.declared.event.Event.TheVariants.{End}
 use Rattle.recorder.specs.Held.{HasAsked, Mine}
 use Rattle.guest_port.specs.Notes.{Known, knows}

@@ -1,6 +1,6 @@
 -- A read is kept as one of no more bytes than an entry names, which does the same.
 use Rattle.std.proofs.Common.{◌≡◌, ◌∙◌, length, ap, ◌++◌, ◌∷◌, []}
-use Rattle.device.specs.declared.event.Event.{Event}
+use Rattle.device.specs.Events.{Event}
 use Rattle.device.specs.declared.event.Event.TheVariants.{MemRead}
 use Rattle.device.specs.World.{Stepped, step}
 use Rattle.history.specs.declared.caller.Caller.TheVariants.{Driver}

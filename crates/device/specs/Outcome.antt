@@ -11,7 +11,7 @@ use Rattle.device.specs.declared.event.Reply.{Reply as ReplyOf}
 use Rattle.device.specs.declared.event.Reply.TheVariants.{Done, Value, Bytes, Idle, More, Sent, Dropped, Faulted, Refused}
 use Rattle.device.specs.declared.event.Answer.{Answer}
 use Rattle.device.specs.declared.span.Span.{Span}
-use Rattle.device.specs.declared.taken.Taken.{Taken}
+use Rattle.device.specs.declared.response.Response.{Response}
 use Rattle.device.specs.Replies.{Reply, replied}
 use Rattle.device.specs.World.{World, function_of, sent_by, silently}
 
@@ -37,7 +37,7 @@ abbrev pub reply_in : World → Outcome → Reply
 reply_in w = reply_by (λ span. bytes_in (function_of span.pool w) span)
 
 -- its answer
-abbrev pub answer_in : World → Taken → Answer
+abbrev pub answer_in : World → Response → Answer
 answer_in w taken = record { reply = reply_in w taken.outcome; raised = taken.messages }
 
 -- the reply is bytes of a memory

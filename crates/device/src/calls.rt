@@ -16,10 +16,10 @@ use crate::bytes::MemSlice;
 use crate::device::Device;
 use crate::outcome::{Acted, Outcome};
 use crate::resets::{clear_resets, read_resets};
+use crate::response::Response;
 use crate::service::serve_queue;
 use crate::span::Span;
 use crate::switching::end_all;
-use crate::taken::Taken;
 use guest_memory::GuestMem;
 use irq_causes::{Messages, Vectors};
 use local_switch::Source;
@@ -197,12 +197,12 @@ impl<M: GuestMem> Device<M> {
     /// The outcome is refused for [`Fault::NoSuchVf`], then for [`Fault::NotOpen`]; else it is idle, more, sent, dropped or
     /// faulted.
     #[inline(never)]
-    pub fn serve<'f>(&mut self, pool: u8, queue: Queue, frame: &'f mut FrameBuf) -> Taken<'f>
+    pub fn serve<'f>(&mut self, pool: u8, queue: Queue, frame: &'f mut FrameBuf) -> Response<'f>
         ensures { Takes self.old (Event.Serve pool queue) self.new result }
     {
         let index = usize::from(pool);
         if index >= self.units.len() {
-            return Taken::silent(Outcome::Refused(Fault::NoSuchVf));
+            return Response::silent(Outcome::Refused(Fault::NoSuchVf));
         }
         match PoolId::new(pool) {
             Some(sender) => self.serve_pool(sender, queue, frame),
@@ -211,13 +211,18 @@ impl<M: GuestMem> Device<M> {
     }
 
     // The service of a queue of a function that is there.
-    fn serve_pool<'f>(&mut self, pool: PoolId, queue: Queue, frame: &'f mut FrameBuf) -> Taken<'f>
+    fn serve_pool<'f>(
+        &mut self,
+        pool: PoolId,
+        queue: Queue,
+        frame: &'f mut FrameBuf,
+    ) -> Response<'f>
         requires there { pool < length self.old.functions }
         ensures { Takes self.old (Event.Serve pool queue) self.new result }
     {
         let acted = self.transmit(pool, queue, frame);
         if !acted.outcome.is_sent() {
-            return Taken {
+            return Response {
                 outcome: acted.outcome,
                 messages: Messages::of(pool, acted.vectors),
                 sent: None,
@@ -228,7 +233,7 @@ impl<M: GuestMem> Device<M> {
         let switched = self.switch(Source::Pool(pool), frame);
         let mut messages = switched.messages;
         messages.set(pool, acted.vectors);
-        Taken {
+        Response {
             outcome: acted.outcome,
             messages,
             sent: Some(frame),

@@ -12,8 +12,8 @@ use crate::bytes::{MemBytes, MemSlice};
 use crate::device::Device;
 use crate::event::{Answer, Event, Reply, Request};
 use crate::outcome::Outcome;
+use crate::response::Response;
 use crate::span::Span;
-use crate::taken::Taken;
 use guest_memory::GuestMem;
 use irq_causes::Messages;
 use std::alloc::Global;
@@ -25,7 +25,7 @@ impl<M: GuestMem> Device<M> {
     /// A frame that a service sends is put together in `frame`, and handed out from there. Bytes that are read stand in the
     /// memory still: the outcome says where, and [`read_span`](Device::read_span) copies them.
     #[inline]
-    pub fn take<'f>(&mut self, request: Request<'_>, frame: &'f mut FrameBuf) -> Taken<'f>
+    pub fn take<'f>(&mut self, request: Request<'_>, frame: &'f mut FrameBuf) -> Response<'f>
         ensures takes { Takes self.old (event_of request.entry) self.new result }
         // to each function the event is as if it were alone
         ensures isolated { (p : ℕ) → p < length self.old.functions → SeesAsAlone
@@ -40,7 +40,7 @@ impl<M: GuestMem> Device<M> {
 
     // The same, but for what each function sees of it.
     #[inline]
-    fn take_any<'f>(&mut self, request: Request<'_>, frame: &'f mut FrameBuf) -> Taken<'f>
+    fn take_any<'f>(&mut self, request: Request<'_>, frame: &'f mut FrameBuf) -> Response<'f>
         ensures { Takes self.old (event_of request.entry) self.new result }
     {
         match request {
@@ -63,97 +63,97 @@ impl<M: GuestMem> Device<M> {
 
     // A read of a function's register.
     #[inline]
-    fn take_vf_read<'f>(&mut self, pool: u8, offset: u32) -> Taken<'f>
+    fn take_vf_read<'f>(&mut self, pool: u8, offset: u32) -> Response<'f>
         ensures { Takes self.old (Event.VfRead pool offset) self.new result }
     {
-        Taken::value_or_refused(self.vf_read(pool, offset))
+        Response::value_or_refused(self.vf_read(pool, offset))
     }
 
     // A write of a function's register.
     #[inline]
-    fn take_vf_write<'f>(&mut self, pool: u8, offset: u32, value: u32) -> Taken<'f>
+    fn take_vf_write<'f>(&mut self, pool: u8, offset: u32, value: u32) -> Response<'f>
         ensures { Takes self.old (Event.VfWrite pool offset value) self.new result }
     {
-        Taken::issued(self.vf_write(pool, offset, value))
+        Response::issued(self.vf_write(pool, offset, value))
     }
 
     // A read of a function's memory.
     #[inline]
-    fn take_mem_read<'f>(&self, pool: u8, at: u64, count: u16) -> Taken<'f>
+    fn take_mem_read<'f>(&self, pool: u8, at: u64, count: u16) -> Response<'f>
         ensures { Takes self.now (Event.MemRead pool at count) self.now result }
     {
-        Taken::silent(self.find(pool, at, count))
+        Response::silent(self.find(pool, at, count))
     }
 
     // A write of a function's memory.
     #[inline]
-    fn take_mem_write<'f>(&mut self, pool: u8, at: u64, written: MemSlice<'_>) -> Taken<'f>
+    fn take_mem_write<'f>(&mut self, pool: u8, at: u64, written: MemSlice<'_>) -> Response<'f>
         ensures { Takes self.old (Event.MemWrite pool at written.entry.bytes.now) self.new result }
     {
-        Taken::done_or_refused(self.mem_write(pool, at, written))
+        Response::done_or_refused(self.mem_write(pool, at, written))
     }
 
     // A frame from the wire.
     #[inline]
-    fn take_wire<'f>(&mut self, frame: &FrameBuf) -> Taken<'f>
+    fn take_wire<'f>(&mut self, frame: &FrameBuf) -> Response<'f>
         ensures { Takes self.old (Event.Wire frame.now) self.new result }
     {
-        Taken::issued(self.wire(frame))
+        Response::issued(self.wire(frame))
     }
 
     // A read of a register of the physical function.
     #[inline]
-    fn take_pf_read<'f>(&self, offset: u32) -> Taken<'f>
+    fn take_pf_read<'f>(&self, offset: u32) -> Response<'f>
         ensures { Takes self.now (Event.PfRead offset) self.now result }
     {
-        Taken::value_or_refused(self.pf_read(offset))
+        Response::value_or_refused(self.pf_read(offset))
     }
 
     // A write of a register of the physical function.
     #[inline]
-    fn take_pf_write<'f>(&mut self, offset: u32, value: u32) -> Taken<'f>
+    fn take_pf_write<'f>(&mut self, offset: u32, value: u32) -> Response<'f>
         ensures { Takes self.old (Event.PfWrite offset value) self.new result }
     {
-        Taken::done_or_refused(self.pf_write(offset, value))
+        Response::done_or_refused(self.pf_write(offset, value))
     }
 
     // A function is opened.
     #[inline]
-    fn take_open<'f>(&mut self, pool: u8) -> Taken<'f>
+    fn take_open<'f>(&mut self, pool: u8) -> Response<'f>
         ensures { Takes self.old (Event.Open pool) self.new result }
     {
-        Taken::done_or_refused(self.open(pool))
+        Response::done_or_refused(self.open(pool))
     }
 
     // A function is closed.
     #[inline]
-    fn take_end<'f>(&mut self, pool: u8) -> Taken<'f>
+    fn take_end<'f>(&mut self, pool: u8) -> Response<'f>
         ensures { Takes self.old (Event.End pool) self.new result }
     {
-        Taken::done_or_refused(self.end(pool))
+        Response::done_or_refused(self.end(pool))
     }
 
     // A function is reset.
     #[inline]
-    fn take_flr<'f>(&mut self, pool: u8) -> Taken<'f>
+    fn take_flr<'f>(&mut self, pool: u8) -> Response<'f>
         ensures { Takes self.old (Event.Flr pool) self.new result }
     {
-        Taken::done_or_refused(self.flr(pool))
+        Response::done_or_refused(self.flr(pool))
     }
 
     // The device is reset.
     #[inline]
-    fn take_pf_reset<'f>(&mut self) -> Taken<'f>
+    fn take_pf_reset<'f>(&mut self) -> Response<'f>
         ensures { Takes self.old Event.PfReset self.new result }
     {
         self.reset();
-        Taken::done_with(Messages::none())
+        Response::done_with(Messages::none())
     }
 
-    /// The answer that a [`Taken`] stands for, right after it. It is inlined, so that no answer is made for who looks at
+    /// The answer that a [`Response`] stands for, right after it. It is inlined, so that no answer is made for who looks at
     /// none.
     #[inline(always)]
-    pub fn answer(&self, taken: &Taken<'_>) -> Answer
+    pub fn answer(&self, taken: &Response<'_>) -> Answer
         ensures { result ≡ answer_in self.now taken.now }
     {
         match taken.outcome {

@@ -8,7 +8,7 @@ use Rattle.device.specs.Replies.{Reply}
 use Rattle.device.specs.declared.event.Reply.TheVariants.{Done, Value, Bytes, Idle, More, Sent, Dropped, Faulted, Refused}
 use Rattle.device.specs.declared.event.Answer.{Answer}
 use Rattle.device.specs.Outcome.{Outcome, reads, reply_in, answer_in}
-use Rattle.device.specs.declared.taken.Taken.{Taken}
+use Rattle.device.specs.declared.response.Response.{Response}
 use Rattle.device.specs.Act.{act, unless_refused, refusal}
 use Rattle.device.specs.World.{World, Stepped, step, function_of}
 use Rattle.history.specs.Entries.{brings}
@@ -56,7 +56,7 @@ step_reads w (PfRead offset) is = absurd (cc)
 step_reads w (PfWrite offset x) is = absurd (cc)
 step_reads w PfReset is = absurd (cc)
 
-pub brings_or_reads : (w w' : World) (e : Event) (t : Taken) → answer_in w' t ≡ (step w e).answer → reads t.outcome ≡ true → brings e ≡ false
+pub brings_or_reads : (w w' : World) (e : Event) (t : Response) → answer_in w' t ≡ (step w e).answer → reads t.outcome ≡ true → brings e ≡ false
 brings_or_reads w w' e t same some = by (brings e) refl
   where
     by : (b : Bool) → brings e ≡ b → brings e ≡ false

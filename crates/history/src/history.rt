@@ -10,7 +10,7 @@ use crate::caller::Caller;
 use crate::head::{Asked, Head, PackedCaller, asked_of, kind_of};
 use crate::reply::is_reply;
 use crate::words::{append_words, are_messages, words_len};
-use device::{Device, MemSlice, Request, Taken};
+use device::{Device, MemSlice, Request, Response};
 use guest_memory::GuestMem;
 use std::alloc::{AllocError, Global};
 use std::marker::Model;
@@ -102,7 +102,7 @@ impl History {
         caller: Caller,
         request: Request<'_>,
         device: &Device<M>,
-        taken: &Taken<'_>,
+        taken: &Response<'_>,
     )
         requires room { length self.old.entries < self.old.cap }
         requires one { reads taken.now.outcome ≡ true → brings (event_of request) ≡ false }
@@ -172,7 +172,7 @@ impl History {
         &self,
         index: usize,
         device: &Device<M>,
-        taken: &Taken<'_>,
+        taken: &Response<'_>,
         room: &mut [u8; 2048],
     ) -> bool
         requires { index < length self.now.entries }

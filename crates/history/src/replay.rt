@@ -7,7 +7,7 @@ ghost use Rattle.history.specs.Entries.{entry, entry_at, events, given};
 
 use crate::caller::Caller;
 use crate::history::History;
-use device::{Device, Request, Taken};
+use device::{Device, Request, Response};
 use guest_memory::GuestMem;
 use wire_frame::FrameBuf;
 
@@ -47,7 +47,7 @@ impl History {
         request: Request<'_>,
         device: &mut Device<M>,
         frame: &'f mut FrameBuf,
-    ) -> Taken<'f>
+    ) -> Response<'f>
         requires { length self.old.entries < self.old.cap }
         ensures world { device.new ≡ (step device.old (event_of request.entry)).world }
         ensures answer { answer_in device.new result

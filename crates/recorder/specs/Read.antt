@@ -5,7 +5,7 @@ use Rattle.device.specs.declared.event.Event.TheVariants.{MemRead}
 use Rattle.device.specs.declared.event.Answer.{Answer}
 use Rattle.device.specs.declared.event.Reply.TheVariants.{Bytes}
 use Rattle.device.specs.Outcome.{Outcome, reply_by}
-use Rattle.device.specs.declared.taken.Taken.{Taken}
+use Rattle.device.specs.declared.response.Response.{Response}
 
 -- how many bytes an event reads at most; one that asks for more than 2048 is refused and reads none
 abbrev pub bytes_asked : Event → ℕ
@@ -18,5 +18,5 @@ bytes_told (Bytes span) = span.count
 bytes_told _ = 0
 
 -- the answer, where these are the bytes that were read
-abbrev pub answer_with : List ℕ → Taken → Answer
+abbrev pub answer_with : List ℕ → Response → Answer
 answer_with bytes taken = record { reply = reply_by (λ span. bytes) taken.outcome; raised = taken.messages }

@@ -17,7 +17,7 @@ ghost use Rattle.recorder.specs.Made.{IsFresh, begun};
 use crate::asked::Asked;
 use crate::share::CALLERS;
 use device::laws::isolation;
-use device::{Answer, Device, Request, Span, Taken};
+use device::{Answer, Device, Request, Response, Span};
 use guest_memory::GuestMem;
 use history::{Caller, History};
 use irq_causes::Messages;
@@ -87,7 +87,7 @@ impl<M: GuestMem> Journal<M> {
         caller: Caller,
         request: Request<'_>,
         frame: &'f mut FrameBuf,
-    ) -> Option<Taken<'f>>
+    ) -> Option<Response<'f>>
         requires may { may caller (event_of request) ≡ true }
         ensures answer { IfSome result (λ taken.
             answer_in self.new.live taken ≡ (step self.old.live (event_of request.entry)).answer) }
@@ -116,9 +116,9 @@ impl<M: GuestMem> Journal<M> {
         asked.and(&self.history)
     }
 
-    /// The answer that a [`Taken`] stands for, right after it.
+    /// The answer that a [`Response`] stands for, right after it.
     #[inline]
-    pub fn answer(&self, taken: &Taken<'_>) -> Answer
+    pub fn answer(&self, taken: &Response<'_>) -> Answer
         ensures { result ≡ answer_in self.now.live taken.now }
     {
         self.live.answer(taken)

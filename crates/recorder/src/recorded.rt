@@ -17,7 +17,7 @@ use crate::journal::Journal;
 use crate::makes::is_same_make;
 use crate::share::{CALLERS, Share};
 use crate::shares::Shares;
-use device::{Answer, Device, Event, Outcome, Request, Taken};
+use device::{Answer, Device, Event, Outcome, Request, Response};
 use guest_memory::GuestMem;
 use history::History;
 use irq_line::DeviceSeat;
@@ -128,7 +128,7 @@ impl<M: GuestMem, L: Ledger> Recorded<M, L> {
         share: &mut Share<L>,
         request: Request<'_>,
         frame: &'f mut FrameBuf,
-    ) -> Option<Taken<'f>>
+    ) -> Option<Response<'f>>
         requires may { may share.old.caller (event_of request) ≡ true }
         ensures answer { IfSome result (λ taken.
             answer_in self.new.live taken ≡ (step self.old.live (event_of request.entry)).answer) }
@@ -162,7 +162,7 @@ impl<M: GuestMem, L: Ledger> Recorded<M, L> {
         request: Request<'_>,
         frame: &'f mut FrameBuf,
         read: &mut [u8],
-    ) -> Option<Taken<'f>>
+    ) -> Option<Response<'f>>
         requires may { may share.old.caller (event_of request) ≡ true }
         requires room { bytes_asked (event_of request) ≤ length read.old }
         ensures answer { IfSome result (λ taken.

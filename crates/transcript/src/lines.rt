@@ -12,7 +12,7 @@ use crate::text::{
     MOST_MARK, MOST_READ, MOST_REPLY, put_bytes_reply, put_digits, put_mark, put_marks,
     put_plain_reply, put_word,
 };
-use device::{Device, Outcome, Span, Taken};
+use device::{Device, Outcome, Response, Span};
 use guest_memory::GuestMem;
 use lone::{Given, Lone, Seen};
 use wire_frame::PoolId;
@@ -37,7 +37,7 @@ impl Output {
         &mut self,
         number: u64,
         device: &Device<M>,
-        taken: &Taken<'_>,
+        taken: &Response<'_>,
     )
         requires { length self.old ≤ HELD }
         ensures text { self.new ≡ self.old ++ line number (answer_in device.now taken.now) }

@@ -18,14 +18,14 @@ use wire_frame::{FrameBuf, PoolId};
 
 /// A device that is watched for one of its pools.
 #[derive(Drop)]
-pub struct Watch<M: GuestMem> {
+pub struct PoolView<M: GuestMem> {
     device: Device<M>,
     pool: PoolId,
     // the pool's own settings, as they are now
     settings: Own,
 }
 
-impl<M: GuestMem> Model for Watch<M> {
+impl<M: GuestMem> Model for PoolView<M> {
     ghost use Rattle.std.specs.Prelude.{◌≡◌};
     ghost use Rattle.pool_filter.specs.Own.{own};
     ghost use Rattle.lone.specs.Kept.{Watched};
@@ -37,15 +37,15 @@ impl<M: GuestMem> Model for Watch<M> {
     ghost invariant = { λ w. w.settings ≡ own w.device.settings w.pool };
 }
 
-impl<M: GuestMem> Watch<M> {
+impl<M: GuestMem> PoolView<M> {
     /// The device, watched for a pool from now on.
-    pub fn new(device: Device<M>, pool: PoolId) -> Watch<M>
+    pub fn new(device: Device<M>, pool: PoolId) -> PoolView<M>
         ensures world { result.world ≡ device }
         ensures pool { result.pool ≡ pool }
     {
         let mut settings = Own::none();
         device.tables().own(pool, &mut settings);
-        Watch {
+        PoolView {
             device,
             pool,
             settings,

@@ -20,14 +20,14 @@ call g c = entry c.args.caller (event_of c.args.request) (step c.self.inside.liv
 
 -- what the history says of the device that the box lends, said of the box
 stepped : (g : given.Over) (c : goal.After-raise_all g) → c.record-taken.new.device ≡ (step c.self.inside.live.value (event_of c.args.request)).world
-stepped g c = c.record-taken.ensures.world ∙ ap (λ (w : World). (step w (event_of c.args.request)).world) c.deref_mut.ensures.value
+stepped g c = c.record-taken.ensures.takes.world ∙ ap (λ (w : World). (step w (event_of c.args.request)).world) c.deref_mut.ensures.value
 
 kept : (g : given.Over) (c : goal.After-raise_all g) → c.record-taken.new.self.entries ≡ c.self.inside.history.entries ++ call g c ∷ []
 kept g c = c.record-taken.ensures.entries
     ∙ ap (λ (w : World). c.self.inside.history.entries ++ entry c.args.caller (event_of c.args.request) (step w (event_of c.args.request)).answer ∷ []) c.deref_mut.ensures.value
 
 sizes : (g : given.Over) (c : goal.After-raise_all g) → sizes_of c.record-taken.new.device ≡ sizes_of c.self.inside.live.value
-sizes g c = c.record-taken.ensures.sizes ∙ ap sizes_of c.deref_mut.ensures.value
+sizes g c = c.record-taken.ensures.takes.sizes ∙ ap sizes_of c.deref_mut.ensures.value
 
 limit : (g : given.Over) (c : goal.After-raise_all g) → c.record-taken.new.device.limit ≡ c.self.inside.live.value.limit
 limit g c = ap (λ (w : World). w.limit) (stepped g c) ∙ (step_shape c.self.inside.live.value (event_of c.args.request)).limit
@@ -39,7 +39,7 @@ same_base g c = base_kept c.self.inside.twin c.self.inside.live.value c.record-t
 one_more : (g : given.Over) (c : goal.After-raise_all g) (p v : ℕ) → p < 64
     → raised p v c.raise_all.new.line.raises ≡ raised p v c.self.inside.line.raises + bit_at (slice_index (call g c).answer.raised p) v
 one_more g c p v low = c.raise_all.ensures.raised p v low
-    ∙ ap (λ (a : Answer). raised p v c.self.inside.line.raises + bit_at (slice_index a.raised p) v) c.record-taken.ensures.answer
+    ∙ ap (λ (a : Answer). raised p v c.self.inside.line.raises + bit_at (slice_index a.raised p) v) c.record-taken.ensures.takes.answer
     ∙ ap (λ (w : World). raised p v c.self.inside.line.raises + bit_at (slice_index (step w (event_of c.args.request)).answer.raised p) v) c.deref_mut.ensures.value
 
 kept_more : (g : given.Over) (c : goal.After-raise_all g) (p v : ℕ)

@@ -6,6 +6,7 @@ use Rattle.irq_line.specs.Line.{raised}
 use Rattle.device.specs.Events.{Event}
 use Rattle.device.specs.declared.event.Answer.{Answer}
 use Rattle.device.specs.Request.{event_of}
+use Rattle.device.specs.Takes.{Takes}
 use Rattle.device.specs.World.{World, step, fresh, sizes_of}
 use Rattle.device.proofs.Shape.{step_shape}
 use Rattle.history.specs.Entries.{Entry, entry}
@@ -66,14 +67,17 @@ invariant_of-self g c =
       raises = λ p v low. let r = one_more g c p v low in let k = kept_more g c p v in let o = old.raises p v low in (omega arith, omega arith);
     }
 
-pub returns-clause-kept : goal.returns-clause-kept
-returns-clause-kept g c = rw (← c.self.view_is) (record {
-  kept = kept g c;
-  live = stepped g c;
-  base = same_base g c;
-  cap = c.record-taken.ensures.cap;
-  has_twin = refl;
-  tallies = refl;
-  line = c.raise_all.ensures.line;
-  folded_raises = λ p v low. beside_kept _ _ (bit_at (slice_index (call g c).answer.raised p) v) _ _ (one_more g c p v low) (kept_more g c p v);
+pub returns-clause-recorded : goal.returns-clause-recorded
+returns-clause-recorded g c = rw (← c.self.view_is) (record {
+  takes = subst (λ (w : World). Takes w (event_of c.args.request) c.record-taken.new.device c.record-taken.result) c.deref_mut.ensures.value c.record-taken.ensures.takes;
+  keeps = record {
+    kept = kept g c;
+    live = stepped g c;
+    base = same_base g c;
+    cap = c.record-taken.ensures.cap;
+    has_twin = refl;
+    tallies = refl;
+    line = c.raise_all.ensures.line;
+    folded_raises = λ p v low. beside_kept _ _ (bit_at (slice_index (call g c).answer.raised p) v) _ _ (one_more g c p v low) (kept_more g c p v);
+  };
 })

@@ -14,7 +14,7 @@ function head(width, height, title) {
 }
 function box(x, y, wide, high, name, fill) {
     printf "<rect x=\"%d\" y=\"%d\" width=\"%d\" height=\"%d\" rx=\"6\" fill=\"%s\" stroke=\"#33475b\"/>\n", x, y, wide, high, fill
-    text(x + wide / 2, y + high / 2 + 5, "middle", name, "#1b2733")
+    if (name != "") text(x + wide / 2, y + high / 2 + 5, "middle", name, "#1b2733")
 }
 function text(x, y, anchor, words, fill) {
     printf "<text x=\"%d\" y=\"%d\" text-anchor=\"%s\" fill=\"%s\">%s</text>\n", x, y, anchor, fill, words
@@ -154,6 +154,8 @@ BEGIN {
         part(235, y, 210, 50, "virtual function " number[i], "registers, rings, interrupts", proved)
         line(445, y + 25, 500, y + 25, edge)
     }
+    text(95, 273, "middle", "...", "#51606e")
+    text(340, 273, "middle", "...", "#51606e")
     box(500, 140, 150, 190, "", proved)
     text(575, 230, "middle", "filters and switch", "#1b2733")
     text(575, 248, "middle", "who receives a frame", "#51606e")

@@ -17,6 +17,13 @@ fn main() {
     } else {
         println!("cargo:rustc-link-lib=static=vfdev_c");
         println!("cargo:rustc-link-lib=static=libc_c");
+        if !native.join("libvfdev_c.a").exists() {
+            println!(
+                "cargo:warning=there is no archive in {}: bindings/test makes it there, and VFDEV_NATIVE names another folder, \
+                 as lib of an installed vfdev",
+                native.display()
+            );
+        }
     }
     println!("cargo:rerun-if-changed={}", native.display());
     println!("cargo:rerun-if-env-changed=VFDEV_NATIVE");

@@ -396,16 +396,19 @@ mem_read_not limit words not = go_3 words (λ x. x) (at_most 0xFFFF) (λ p at n.
     (λ b x is. record { n = b; is = is }) (λ b x is. below 0xFFFF b x is) not
 
 -- two numbers, and bytes after them
+abbrev written : ℕ → ℕ → List ℕ → Option Event
+written p at bytes = Some (MemWrite p at bytes)
+
 pub mem_write_not : (limit : ℕ) (words : List (List ℕ)) → NotTwoAnd words → event_by limit MemWrite words ≡ None
 mem_write_not limit words not = go (three_of words) refl
   where
     go : (r : Option (List ℕ × (List ℕ × List ℕ))) → three_of words ≡ r
         → option_and_then (λ ws. option_and_then (λ p. option_and_then (λ at.
-        option_and_then (λ read. option_and_then (λ bytes. Some (MemWrite p at bytes)) (few 2048 read)) (bytes_of (ws.1.1)))
+        option_and_then (λ read. option_and_then (written p at) (few 2048 read)) (bytes_of (ws.1.1)))
         (number_of (ws.1.0))) (at_most 0xFF (number_of (ws.0)))) r ≡ None
     go None is = refl
     go (Some (a, (b, c))) is = chain_2 (at_most 0xFF (number_of a)) (number_of b)
-        (λ p at. option_and_then (λ read. option_and_then (λ bytes. Some (MemWrite p at bytes)) (few 2048 read)) (bytes_of c)) (λ m n one two.
+        (λ p at. option_and_then (λ read. option_and_then (written p at) (few 2048 read)) (bytes_of c)) (λ m n one two.
         let first = below 0xFF m (number_of a) one in
         not.not first.n n c (record { first = a; second = b; are = is; number = first.is; number_2 = two }))
 

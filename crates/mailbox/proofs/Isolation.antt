@@ -31,7 +31,7 @@ pub function_stays : (h : HostState) (p q : ℕ) (f : Function) → q ≢ p → 
 function_stays h p q f other = get_or-set_other h.functions p q f absent other
 
 -- an entry of pool q holds what it held
-entry_stays : (h : HostState) (p q e : ℕ) (f : Function) → q ≢ p → e < 128 → e % 64 ≡ q → entry (with_function h p f) e ≡ entry h e
+pub entry_stays : (h : HostState) (p q e : ℕ) (f : Function) → q ≢ p → e < 128 → e % 64 ≡ q → entry (with_function h p f) e ≡ entry h e
 entry_stays h p q e f other below is = go (ltb e 64) refl
   where
     k : HostState

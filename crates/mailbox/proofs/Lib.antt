@@ -1,5 +1,9 @@
 pub mod Alike
 pub mod Entries
+pub mod First
 pub mod Isolation
+pub mod Kept
 pub mod Masks
 pub mod Members
+pub mod Rows
+pub mod Settle

@@ -5,6 +5,7 @@ pub mod Mailbox
 pub mod Message
 pub mod Registers
 pub mod Replies
+pub mod Start
 pub mod Words
 pub mod Writes
 pub use Rattle.wire_frame.specs.Bits

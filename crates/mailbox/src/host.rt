@@ -248,7 +248,7 @@ impl Host {
     // The pools of all VLAN entries that have an id.
     fn put_members(&self, writes: &mut Writes)
         requires { length writes.old ≤ 12 }
-        ensures list { writes.new ≡ writes.old ++ member_writes self.now 0 (2 * length self.now.ids) }
+        ensures list { writes.new ≡ writes.old ++ member_writes self.now }
     {
         let count = 2 * self.ids().len() as u32;
         for i in 0..count {

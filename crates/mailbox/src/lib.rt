@@ -15,10 +15,12 @@
 
 pub mod function;
 pub mod host;
+pub mod laws;
 pub mod mailbox;
 pub mod message;
 pub mod policy;
 pub mod registers;
+pub mod start;
 pub mod words;
 pub mod writes;
 

@@ -7,3 +7,4 @@ pub mod Masks
 pub mod Members
 pub mod Rows
 pub mod Settle
+pub mod Turns

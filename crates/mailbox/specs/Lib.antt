@@ -6,6 +6,7 @@ pub mod Message
 pub mod Registers
 pub mod Replies
 pub mod Start
+pub mod Within
 pub mod Words
 pub mod Writes
 pub use Rattle.wire_frame.specs.Bits

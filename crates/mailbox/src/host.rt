@@ -6,7 +6,7 @@ ghost use Rattle.mailbox.specs.Isolation.{IsSameFor, IsSameForAll};
 ghost use Rattle.mailbox.specs.Message.{message_of};
 ghost use Rattle.mailbox.specs.Replies.{reply_to};
 ghost use Rattle.mailbox.specs.Words.{settings_of};
-ghost use Rattle.mailbox.specs.Writes.{entry_writes, up_writes, member_writes, writes_of, sets_registers, writes_after, writes_without};
+ghost use Rattle.mailbox.specs.Writes.{entry_writes, up_writes, member_writes, writes_of, after_writes, sets_registers, writes_after, writes_without};
 
 use crate::function::{Function, is_unicast};
 use crate::mailbox::Mailbox;
@@ -108,6 +108,13 @@ impl Host {
         self.ids.as_slice()
     }
 
+    /// The pool that takes what no pool accepts.
+    pub(crate) fn default_pool(&self) -> Option<PoolId>
+        ensures { result ≡ self.now.default_pool }
+    {
+        self.default_pool
+    }
+
     /// The function of a pool.
     pub(crate) fn function_at(&self, pool: u32) -> Function
         requires { pool < 64 }
@@ -141,7 +148,8 @@ impl Host {
     // What a message makes of the pool's function, or nothing where it is refused.
     #[tactic(auto, unfolding(crate::specs::Host::outcome))]
     fn outcome(&self, pool: PoolId, message: Message) -> Option<Function>
-        ensures { result ≡ outcome self.now pool message }
+        ensures value { result ≡ outcome self.now pool message }
+        ensures few { length self.now.ids ≤ 64 }
     {
         let taken = self.is_taken(pool, address_in(message));
         let function = self.functions[usize::from(pool.get())];
@@ -153,6 +161,7 @@ impl Host {
     fn grant(&mut self, pool: PoolId, message: Message) -> Option<Function>
         ensures function { result ≡ outcome self.old pool message }
         ensures host { self.new ≡ host_after self.old pool message }
+        ensures few { length self.old.ids ≤ 64 }
     {
         let outcome = self.outcome(pool, message);
         if let Some(function) = outcome {
@@ -164,7 +173,8 @@ impl Host {
     // Forgets what the pool's guest asked for.
     #[tactic(auto, unfolding(crate::specs::Host::host_without))]
     fn forget(&mut self, pool: PoolId)
-        ensures { self.new ≡ host_without self.old pool }
+        ensures host { self.new ≡ host_without self.old pool }
+        ensures pool { pool < 64 }
     {
         let p = usize::from(pool.get());
         self.functions[p] = self.functions[p].gone();
@@ -195,6 +205,7 @@ impl Host {
         ensures others { (q : ℕ) → q < 64 → q ≢ pool
             → IsSameFor (settings_of self.old) (settings_of self.new) q }
         ensures all { IsSameForAll (settings_of self.old) (settings_of self.new) }
+        ensures settings { after_writes (settings_of self.old) result ≡ settings_of self.new }
     {
         let message = mailbox.message();
         let function = self.function_at(u32::from(pool.get()));
@@ -213,6 +224,7 @@ impl Host {
         ensures others { (q : ℕ) → q < 64 → q ≢ pool
             → IsSameFor (settings_of self.old) (settings_of self.new) q }
         ensures all { IsSameForAll (settings_of self.old) (settings_of self.new) }
+        ensures settings { after_writes (settings_of self.old) result ≡ settings_of self.new }
     {
         self.forget(pool);
         self.writes_of(pool)
@@ -249,6 +261,7 @@ impl Host {
     fn put_members(&self, writes: &mut Writes)
         requires { length writes.old ≤ 12 }
         ensures list { writes.new ≡ writes.old ++ member_writes self.now }
+        ensures few { length self.now.ids ≤ 64 }
     {
         let count = 2 * self.ids().len() as u32;
         for i in 0..count {
@@ -259,7 +272,8 @@ impl Host {
     // All registers of the pool.
     #[tactic(auto, unfolding(crate::specs::Writes::writes_of))]
     fn writes_of(&self, pool: PoolId) -> Writes
-        ensures { result ≡ writes_of self.now pool }
+        ensures writes { result ≡ writes_of self.now pool }
+        ensures few { length self.now.ids ≤ 64 }
     {
         let p = u32::from(pool.get());
         let function = self.function_at(p);

@@ -3,7 +3,7 @@ ghost use Rattle.std.specs.Prelude.{◌≡◌, ◌<◌, nat_lt, is_some};
 ghost use Rattle.std.specs.List.{slice_get};
 ghost use Rattle.pool_filter.specs.Map.{one_row};
 ghost use Rattle.mailbox.specs.Start.{row_of, word_of, first_writes};
-ghost use Rattle.mailbox.specs.Words.{pool_word, control_word};
+ghost use Rattle.mailbox.specs.Words.{pool_word, id_word, control_word};
 
 use crate::host::Host;
 use crate::writes::Write;
@@ -97,6 +97,71 @@ impl Register {
     }
 }
 
+/// Bringing a device up.
+impl Host {
+    /// How many first writes there are.
+    pub const FIRST_WRITES: u32 = 1108;
+
+    /// The i-th of the first writes, counted from 0, or `None` where there are no more. Done in their order they give every
+    /// register of the physical function the word that it has for this host, whatever it held: the source checks are turned on
+    /// first, and who may receive and transmit comes last.
+    #[tactic(auto, unfolding(crate::specs::Start::first_writes))]
+    pub fn first_write(&self, i: u32) -> Option<Write>
+        ensures write { result ≡ slice_get (first_writes self.now) i }
+        ensures count { is_some result ≡ nat_lt i 1108 }
+    {
+        let mut place = i;
+        for register in REGISTERS {
+            let row = register.row();
+            if place < row.count {
+                return Some(Write {
+                    offset: row.first + row.stride * place,
+                    value: self.word(register, place),
+                });
+            }
+            place -= row.count;
+        }
+        None
+    }
+
+    // The register's word at a place.
+    fn word(&self, register: Register, place: u32) -> u32
+        requires { place < (row_of register).count }
+        ensures { result ≡ word_of self.now register place }
+    {
+        match register {
+            Register::SourceChecks => 0xFFFF,
+            Register::LowAddress => self.low_word(place),
+            Register::HighAddress => self.high_word(place),
+            Register::AddressPools => pool_word(place),
+            Register::MulticastTable | Register::MulticastControl => 0,
+            Register::VlanControl => 0x4000_0000,
+            Register::VlanTable => self.table_word(place),
+            Register::VlanIds => self.id_word(place),
+            Register::VlanPools => self.member_word(place),
+            Register::PoolControl => control_word(self.default_pool()),
+            Register::PortVlans => self.function_at(place).port_word(),
+            Register::Loopback => 1,
+            Register::PoolFlags => self.function_at(place).flags_word(),
+            Register::ReceiveEnable | Register::TransmitEnable => self.up_word(place),
+        }
+    }
+
+    // VLVF, word k: VI_En and the id, where there is one.
+    fn id_word(&self, k: u32) -> u32
+        requires { k < 64 }
+        ensures { result ≡ id_word self.now k }
+    {
+        let ids = self.ids();
+        let k = k as usize;
+        if k < ids.len() {
+            0x8000_0000 + u32::from(ids[k] % 4096)
+        } else {
+            0
+        }
+    }
+}
+
 // A register of one word.
 fn one_row(first: u32) -> Row
     ensures { result ≡ one_row first }
@@ -106,5 +171,27 @@ fn one_row(first: u32) -> Row
         count: 1,
         stride: 4,
         mask: 0xFFFF_FFFF,
+    }
+}
+
+// MPSAR, word i: entry e is pool e % 64's alone.
+fn pool_word(i: u32) -> u32
+    ensures { result ≡ pool_word i }
+{
+    let pool = i / 2 % 64;
+    if pool / 32 == i % 2 {
+        1 << (pool % 32)
+    } else {
+        0
+    }
+}
+
+// PF_VT_CTL, with the default pool or with none.
+fn control_word(default_pool: Option<PoolId>) -> u32
+    ensures { result ≡ control_word default_pool }
+{
+    match default_pool {
+        None => 0x6000_0001,
+        Some(pool) => 0x4000_0001 + u32::from(pool.get() % 64) * 0x80,
     }
 }

@@ -1,5 +1,12 @@
 -- Nothing of another pool's is changed, by the theorem on hosts.
+use Rattle.std.proofs.Common.{arith, ◌≡◌, ◌&&◌, cond, Bool, [], sym, ap, ◌∙◌}
+use Rattle.std.specs.Option.{is_some}
+use Rattle.mailbox.specs.Host.{HostState, host_after, host_with, outcome}
+use Rattle.mailbox.specs.Message.{message_of}
+use Rattle.mailbox.specs.Words.{settings_of}
+use Rattle.mailbox.specs.Writes.{after_writes, writes_of, sets_registers, writes_after}
 use Rattle.mailbox.proofs.Isolation.{message_others, message_all}
+use Rattle.mailbox.proofs.Turns.{after_message, writes_by}
 use Rattle.mailbox.proofs.host.Host.answer.Goals as goal
 
 pub returns-clause-others : goal.returns-clause-others
@@ -7,3 +14,17 @@ returns-clause-others c = λ q small other. rw c.grant-granted.ensures.host (rw 
 
 pub returns-clause-all : goal.returns-clause-all
 returns-clause-all c = rw c.grant-granted.ensures.host (rw c.message-message.ensures (message_all c.args.self.now c.args.pool _))
+
+-- and the writes make the settings
+pub returns-clause-settings : goal.returns-clause-settings
+unfolding host_after writes_after
+returns-clause-settings c =
+    let message = c.message-message.ensures in
+    let granted = c.is_some.ensures ∙ ap is_some (c.grant-granted.ensures.function ∙ ap (outcome c.args.self.now c.args.pool) message) in
+    let host = c.grant-granted.ensures.host ∙ ap (host_after c.args.self.now c.args.pool) message in
+    ap (after_writes (settings_of c.args.self.now))
+    (c.writes_for.ensures
+    ∙ (λ i. cond (granted i && sets_registers (message i)) (writes_of (host i) c.args.pool) [])
+    ∙ writes_by c.args.self.now c.args.pool (message_of c.args.mailbox.now.words) (outcome c.args.self.now c.args.pool (message_of c.args.mailbox.now.words)))
+    ∙ after_message c.args.self.now c.args.pool (message_of c.args.mailbox.now.words) (omega (arith, c.get.ensures.below, c.get.ensures.value)) c.grant-granted.ensures.few
+    ∙ ap settings_of (sym host)

@@ -1,9 +1,9 @@
 -- The first writes make the settings of a host, whatever the registers were.
-use Rattle.std.proofs.Common.{arith, ◌≡◌, ℕ, ◌+◌, ◌*◌, ◌^◌, ◌<◌, ◌≤◌, Bool, true, List, [], ◌∷◌, ◌++◌, length, take, drop, replicate, get_or, refl, sym, ap, ◌∙◌, bit_and, inl, inr, ◌⊎◌}
+use Rattle.std.proofs.Common.{arith, ◌≡◌, ℕ, ◌+◌, ◌*◌, ◌^◌, ◌<◌, ◌≤◌, Bool, true, List, [], ◌∷◌, ◌++◌, zero, suc, ◌-◌, length, set, cond, false, Some, None, Option, take, drop, replicate, get_or, refl, sym, ap, ◌∙◌, bit_and, inl, inr, ◌⊎◌}
 use Rattle.wire_frame.specs.declared.row.Row.{Row}
-use Rattle.addr_tables.specs.Registers.{MCSTCTRL, MCSTCTRL_KEPT}
-use Rattle.vlan_table.specs.Registers.{VLNCTRL, VLNCTRL_KEPT}
-use Rattle.pool_filter.specs.Registers.{PF_VT_CTL, PFDTXGSWC, PFDTXGSWC_KEPT}
+use Rattle.addr_tables.specs.Registers.{RAL, RAH, MPSAR, MTA, MCSTCTRL, MCSTCTRL_KEPT}
+use Rattle.vlan_table.specs.Registers.{VFTA, VLVF, VLVFB, VLNCTRL, VLNCTRL_KEPT}
+use Rattle.pool_filter.specs.Registers.{PFVFRE, PFVFTE, VMVIR, PFVFSPOOF, VMOLR, PF_VT_CTL, PFDTXGSWC, PFDTXGSWC_KEPT}
 use Rattle.pool_filter.specs.Map.{one_row}
 use Rattle.pool_filter.specs.Settings.{Settings, initial_settings, settings_after}
 use Rattle.addr_tables.specs.Addresses.{initial_addresses, addresses_after}
@@ -13,7 +13,11 @@ use Rattle.mailbox.specs.declared.start.Register.TheVariants.{SourceChecks, LowA
 use Rattle.mailbox.specs.Host.{HostState, function_at}
 use Rattle.mailbox.specs.Start.{registers, row_of, word_of, register_writes, writes_to, first_writes, IsWhole}
 use Rattle.mailbox.specs.Words.{table, is_up, table_word, control_word, addresses_of, vlans_of, settings_of}
-use Rattle.mailbox.specs.Writes.{after_writes}
+use Rattle.std.specs.List.{slice_get}
+use Rattle.std.proofs.lemmas.List.{length-append, length-set}
+use Rattle.wire_frame.specs.Row.{is_in, place, words_after}
+use Rattle.mailbox.specs.declared.writes.Write.{Write}
+use Rattle.mailbox.specs.Writes.{write_at, writes_from, after_writes}
 use Rattle.pool_filter.specs.Own.{contains}
 use Rattle.mailbox.proofs.Kept.{kept_low, kept_high, kept_flags, kept_port, kept_mask, kept_members, kept_id, kept_pools, kept_control}
 use Rattle.mailbox.proofs.Rows.{row_after, word_after, table_of, Part, writes_in, AllFit, all_far, parts_make, parts_keep}
@@ -112,3 +116,93 @@ first_settled h s whole =
     by_rows s (writes_to h registers)
     ∙ ap (rows_after s) (in_parts h registers)
     ∙ rows_first h s whole
+
+-- ---- how many there are, and which is which
+
+length_from : (row : Row) (word : ℕ → ℕ) (i n : ℕ) → length (writes_from row word i n) ≡ n
+length_from row word i zero = refl
+length_from row word i (suc n) = ap suc (length_from row word (suc i) n)
+
+pub length_of : (h : HostState) (r : Register) → length (register_writes h r) ≡ (row_of r).count
+length_of h r = length_from (row_of r) (word_of h r) 0 (row_of r).count
+
+counts : (h : HostState) (rs : List Register) → ℕ
+counts h [] = 0
+counts h (r ∷ rs) = (row_of r).count + counts h rs
+
+length_to : (h : HostState) (rs : List Register) → length (writes_to h rs) ≡ counts h rs
+unfolding counts
+length_to h [] = refl
+length_to h (r ∷ rs) = length-append (register_writes h r) (writes_to h rs) ∙ (λ i. length_of h r i + length_to h rs i)
+
+pub first_count : (h : HostState) → length (first_writes h) ≡ 1104
+unfolding first_writes counts
+first_count h = length_to h registers
+
+get_front : (xs ys : List Write) (i : ℕ) → i < length xs → slice_get (xs ++ ys) i ≡ slice_get xs i
+get_front [] ys i small = absurd (omega (arith, small))
+get_front (x ∷ xs) ys zero small = refl
+get_front (x ∷ xs) ys (suc i) small = get_front xs ys i (omega (arith, small))
+
+get_back : (xs ys : List Write) (i : ℕ) → length xs ≤ i → slice_get (xs ++ ys) i ≡ slice_get ys (i - length xs)
+get_back [] ys i past = let same : i ≡ i - 0 = omega arith in ap (slice_get ys) same
+get_back (x ∷ xs) ys zero past = absurd (omega (arith, past))
+get_back (x ∷ xs) ys (suc i) past =
+    let same : i - length xs ≡ suc i - suc (length xs) = omega arith in
+    get_back xs ys i (omega (arith, past)) ∙ ap (slice_get ys) same
+
+get_from : (row : Row) (word : ℕ → ℕ) (from n i : ℕ) → i < n → slice_get (writes_from row word from n) i ≡ Some (write_at row (from + i) (word (from + i)))
+get_from row word from zero i small = absurd (omega (arith, small))
+get_from row word from (suc n) zero small = let same : from ≡ from + 0 = omega arith in ap (λ j. Some (write_at row j (word j))) same
+get_from row word from (suc n) (suc i) small =
+    let same : suc from + i ≡ from + suc i = omega arith in
+    get_from row word (suc from) n i (omega (arith, small)) ∙ ap (λ j. Some (write_at row j (word j))) same
+
+-- a place of the first register
+pub turn_here : (h : HostState) (r : Register) (rest : List Register) (at : ℕ) → at < (row_of r).count → slice_get (writes_to h (r ∷ rest)) at ≡ Some (write_at (row_of r) at (word_of h r at))
+turn_here h r rest at small =
+    let same : 0 + at ≡ at = omega arith in
+    get_front (register_writes h r) (writes_to h rest) at (omega (arith, small, length_of h r))
+    ∙ get_from (row_of r) (word_of h r) 0 (row_of r).count at small
+    ∙ ap (λ j. Some (write_at (row_of r) j (word_of h r j))) same
+
+-- a place past it
+pub turn_next : (h : HostState) (r : Register) (rest : List Register) (at : ℕ) → (row_of r).count ≤ at → slice_get (writes_to h (r ∷ rest)) at ≡ slice_get (writes_to h rest) (at - (row_of r).count)
+turn_next h r rest at past =
+    get_back (register_writes h r) (writes_to h rest) at (omega (arith, past, length_of h r))
+    ∙ ap (λ n. slice_get (writes_to h rest) (at - n)) (length_of h r)
+
+-- ---- tables are whole
+
+pub whole_at_first : IsWhole initial_settings
+unfolding initial_settings initial_addresses initial_vlans
+whole_at_first = record {
+  low = refl; high = refl; address_pools = refl; hashes = refl;
+  vlan_table = refl; vlan_entries = refl; vlan_pools = refl;
+  receive_enable = refl; transmit_enable = refl; port_vlans = refl; sender_checks = refl; pool_flags = refl;
+}
+
+length_after : (row : Row) (words : List ℕ) (offset x : ℕ) → length (words_after row words offset x) ≡ length words
+unfolding words_after
+length_after row words offset x = go (is_in row offset)
+  where
+    go : (b : Bool) → length (cond b (set words (place row offset) (bit_and x row.mask)) words) ≡ length words
+    go true = length-set words (place row offset) (bit_and x row.mask)
+    go false = refl
+
+pub whole_after : (s : Settings) (offset value : ℕ) → IsWhole s → IsWhole (settings_after s offset value)
+unfolding settings_after addresses_after vlans_after
+whole_after s offset x whole = record {
+  low = length_after RAL s.addresses.low offset x ∙ whole.low;
+  high = length_after RAH s.addresses.high offset x ∙ whole.high;
+  address_pools = length_after MPSAR s.addresses.pools offset x ∙ whole.address_pools;
+  hashes = length_after MTA s.addresses.hashes offset x ∙ whole.hashes;
+  vlan_table = length_after VFTA s.vlans.table offset x ∙ whole.vlan_table;
+  vlan_entries = length_after VLVF s.vlans.entries offset x ∙ whole.vlan_entries;
+  vlan_pools = length_after VLVFB s.vlans.pools offset x ∙ whole.vlan_pools;
+  receive_enable = length_after PFVFRE s.receive_enable offset x ∙ whole.receive_enable;
+  transmit_enable = length_after PFVFTE s.transmit_enable offset x ∙ whole.transmit_enable;
+  port_vlans = length_after VMVIR s.port_vlans offset x ∙ whole.port_vlans;
+  sender_checks = length_after PFVFSPOOF s.sender_checks offset x ∙ whole.sender_checks;
+  pool_flags = length_after VMOLR s.pool_flags offset x ∙ whole.pool_flags;
+}

@@ -16,6 +16,11 @@ pub fn writes_make_the_settings()
 
 /// The first writes, done in their order, make the settings of the host, whatever the registers held.
 pub fn first_writes_make_the_settings()
-    ensures { (h : HostState) (s : Settings) → IsWhole s →
+    ensures settings { (h : HostState) (s : Settings) → IsWhole s →
         after_writes s (first_writes h) ≡ settings_of h }
+    ensures count { (h : HostState) → length (first_writes h) ≡ 1104 }
+    // the tables of a device are whole from the first on
+    ensures whole_at_first { IsWhole initial_settings }
+    ensures whole_after { (s : Settings) (offset value : ℕ) → IsWhole s →
+        IsWhole (settings_after s offset value) }
 {}

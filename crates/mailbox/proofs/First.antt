@@ -14,6 +14,7 @@ use Rattle.mailbox.specs.Host.{HostState, function_at}
 use Rattle.mailbox.specs.Start.{registers, row_of, word_of, register_writes, writes_to, first_writes, IsWhole}
 use Rattle.mailbox.specs.Words.{table, is_up, table_word, control_word, addresses_of, vlans_of, settings_of}
 use Rattle.std.specs.List.{slice_get}
+use Rattle.std.proofs.Math.Seq.{drop-cons}
 use Rattle.std.proofs.lemmas.List.{length-append, length-set}
 use Rattle.wire_frame.specs.Row.{is_in, place, words_after}
 use Rattle.mailbox.specs.declared.writes.Write.{Write}
@@ -206,3 +207,27 @@ whole_after s offset x whole = record {
   sender_checks = length_after PFVFSPOOF s.sender_checks offset x ∙ whole.sender_checks;
   pool_flags = length_after VMOLR s.pool_flags offset x ∙ whole.pool_flags;
 }
+
+-- ---- a loop over the registers
+
+next : (k : ℕ) (d : Register) → k < 16 → drop k registers ≡ get_or registers k d ∷ drop (k + 1) registers
+next k d small = let more : suc k ≡ k + 1 = omega arith in drop-cons registers k d small ∙ ap (λ n. get_or registers k d ∷ drop n registers) more
+
+pub turn_found : (h : HostState) (k at i : ℕ) (d : Register) (row : Row) (value : ℕ) → k < 16 → slice_get (writes_to h (drop k registers)) at ≡ slice_get (writes_to h registers) i
+    → row ≡ row_of (get_or registers k d) → at < row.count → value ≡ word_of h (get_or registers k d) at
+    → Some (record { offset = row.first + row.stride * at; value = value }) ≡ slice_get (first_writes h) i
+unfolding first_writes
+turn_found h k at i d row value small before is below word =
+    (λ j. Some (record { offset = (is j).first + (is j).stride * at; value = word j }))
+    ∙ sym (turn_here h (get_or registers k d) (drop (k + 1) registers) at (omega (arith, below, ap (λ r. r.count) is)))
+    ∙ ap (λ rs. slice_get (writes_to h rs) at) (sym (next k d small))
+    ∙ before
+
+pub turn_goes_on : (h : HostState) (k at i : ℕ) (d : Register) (row : Row) → k < 16 → slice_get (writes_to h (drop k registers)) at ≡ slice_get (writes_to h registers) i
+    → row ≡ row_of (get_or registers k d) → row.count ≤ at
+    → slice_get (writes_to h (drop (k + 1) registers)) (at - row.count) ≡ slice_get (writes_to h registers) i
+turn_goes_on h k at i d row small before is past =
+    ap (λ r. slice_get (writes_to h (drop (k + 1) registers)) (at - r.count)) is
+    ∙ sym (turn_next h (get_or registers k d) (drop (k + 1) registers) at (omega (arith, past, ap (λ r. r.count) is)))
+    ∙ ap (λ rs. slice_get (writes_to h rs) at) (sym (next k d small))
+    ∙ before

@@ -5,6 +5,7 @@ pub mod Isolation
 pub mod Kept
 pub mod Masks
 pub mod Members
+pub mod Policies
 pub mod Rows
 pub mod Settle
 pub mod Turns

@@ -16,14 +16,14 @@ use Rattle.mailbox.proofs.Masks.{mask_same}
 use Rattle.mailbox.proofs.Rows.{table_same}
 use Rattle.mailbox.proofs.Settle.{settled}
 
-some_is : {X : Type 0} {x y : X} → Some x ≡ Some y → x ≡ y
+pub some_is : {X : Type 0} {x y : X} → Some x ≡ Some y → x ≡ y
 some_is {X} {x} same = ap (unwrap_to x) same
   where
     unwrap_to : X → Option X → X
     unwrap_to d None = d
     unwrap_to d (Some z) = z
 
-none_is : {X : Type 0} {x : X} → None ≡ Some x → ⊥
+pub none_is : {X : Type 0} {x : X} → None ≡ Some x → ⊥
 none_is {X} {x} same = true≢false (ap is_none same)
 
 -- ---- functions that make the same registers
@@ -55,7 +55,7 @@ alike_at h p f j alike = go (eqb j p) refl
     go false is = rw (function_stays h p j f (eqb-false j p is)) (alike_itself (function_at h j))
 
 -- hosts whose functions all make the same registers stand for the same settings
-settings_alike : (h : HostState) (p : ℕ) (f : Function) → IsAlike (function_at h p) f → settings_of h ≡ settings_of (with_function h p f)
+pub settings_alike : (h : HostState) (p : ℕ) (f : Function) → IsAlike (function_at h p) f → settings_of h ≡ settings_of (with_function h p f)
 unfolding settings_of addresses_of vlans_of
 settings_alike h p f alike = λ i. record {
   addresses = record {

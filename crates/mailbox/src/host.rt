@@ -5,6 +5,7 @@ ghost use Rattle.mailbox.specs.Function.{absent};
 ghost use Rattle.mailbox.specs.Isolation.{IsSameFor, IsSameForAll};
 ghost use Rattle.mailbox.specs.Message.{message_of};
 ghost use Rattle.mailbox.specs.Replies.{reply_to};
+ghost use Rattle.mailbox.specs.Within.{IsWithin, KeepsPolicies};
 ghost use Rattle.mailbox.specs.Words.{settings_of};
 ghost use Rattle.mailbox.specs.Writes.{entry_writes, up_writes, member_writes, writes_of, after_writes, sets_registers, writes_after, writes_without};
 
@@ -54,6 +55,7 @@ impl Host {
           default_pool = default_pool;
           limit = limit;
         }) }
+        ensures within { IfSome result IsWithin }
     {
         if ids.len() > 64 {
             return None;
@@ -76,11 +78,14 @@ impl Host {
     pub fn admit(&mut self, pool: PoolId, policy: &Policy) -> Result<(), Fault>
         ensures host { self.new ≡ host_admitting self.old pool policy.now }
         ensures variant { is_ok result ≡ is_admitted self.old pool policy.now }
+        ensures within { IsWithin self.old → IsWithin self.new }
+        ensures settings { IsWithin self.old → settings_of self.new ≡ settings_of self.old }
     {
+        let p = usize::from(pool.get());
         if !self.is_admitted(pool, policy) {
             return Err(Fault::BadMake);
         }
-        self.functions[usize::from(pool.get())] = policy.function(self.ids.as_slice());
+        self.functions[p] = policy.function(self.ids.as_slice());
         Ok(())
     }
 
@@ -206,6 +211,8 @@ impl Host {
             → IsSameFor (settings_of self.old) (settings_of self.new) q }
         ensures all { IsSameForAll (settings_of self.old) (settings_of self.new) }
         ensures settings { after_writes (settings_of self.old) result ≡ settings_of self.new }
+        ensures within { IsWithin self.old → IsWithin self.new }
+        ensures policies { IsWithin self.old → KeepsPolicies self.old self.new }
     {
         let message = mailbox.message();
         let function = self.function_at(u32::from(pool.get()));
@@ -225,6 +232,8 @@ impl Host {
             → IsSameFor (settings_of self.old) (settings_of self.new) q }
         ensures all { IsSameForAll (settings_of self.old) (settings_of self.new) }
         ensures settings { after_writes (settings_of self.old) result ≡ settings_of self.new }
+        ensures within { IsWithin self.old → IsWithin self.new }
+        ensures policies { IsWithin self.old → KeepsPolicies self.old self.new }
     {
         self.forget(pool);
         self.writes_of(pool)

@@ -24,3 +24,4 @@ pub fn first_writes_make_the_settings()
     ensures whole_after { (s : Settings) (offset value : ℕ) → IsWhole s →
         IsWhole (settings_after s offset value) }
 {}
+

@@ -6,6 +6,7 @@ use Rattle.mailbox.specs.Message.{message_of}
 use Rattle.mailbox.specs.Words.{settings_of}
 use Rattle.mailbox.specs.Writes.{after_writes, writes_of, sets_registers, writes_after}
 use Rattle.mailbox.proofs.Isolation.{message_others, message_all}
+use Rattle.mailbox.proofs.Policies.{message_within, message_policies}
 use Rattle.mailbox.proofs.Turns.{after_message, writes_by}
 use Rattle.mailbox.proofs.host.Host.answer.Goals as goal
 
@@ -28,3 +29,10 @@ returns-clause-settings c =
     ∙ writes_by c.args.self.now c.args.pool (message_of c.args.mailbox.now.words) (outcome c.args.self.now c.args.pool (message_of c.args.mailbox.now.words)))
     ∙ after_message c.args.self.now c.args.pool (message_of c.args.mailbox.now.words) (omega (arith, c.get.ensures.below, c.get.ensures.value)) c.grant-granted.ensures.few
     ∙ ap settings_of (sym host)
+
+-- and nobody has more than its policy
+pub returns-clause-within : goal.returns-clause-within
+returns-clause-within c = λ w. rw c.grant-granted.ensures.host (message_within c.args.self.now c.args.pool c.message-message.result (omega (arith, c.get.ensures.below, c.get.ensures.value)) w)
+
+pub returns-clause-policies : goal.returns-clause-policies
+returns-clause-policies c = λ w. rw c.grant-granted.ensures.host (message_policies c.args.self.now c.args.pool c.message-message.result (omega (arith, c.get.ensures.below, c.get.ensures.value)) w)

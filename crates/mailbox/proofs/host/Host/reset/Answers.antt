@@ -4,6 +4,7 @@ use Rattle.mailbox.specs.Host.{HostState, host_without}
 use Rattle.mailbox.specs.Words.{settings_of}
 use Rattle.mailbox.specs.Writes.{after_writes, writes_of, writes_without}
 use Rattle.mailbox.proofs.Isolation.{reset_others, reset_all}
+use Rattle.mailbox.proofs.Policies.{reset_within, reset_policies}
 use Rattle.mailbox.proofs.Turns.{after_reset}
 use Rattle.mailbox.proofs.host.Host.reset.Goals as goal
 
@@ -20,3 +21,10 @@ returns-clause-settings c =
     ap (after_writes (settings_of c.args.self.now)) (c.writes_of.ensures.writes ∙ ap (λ h. writes_of h c.args.pool) c.forget.ensures.host)
     ∙ after_reset c.args.self.now c.args.pool c.forget.ensures.pool (subst (λ (h : HostState). length h.ids ≤ 64) c.forget.ensures.host c.writes_of.ensures.few)
     ∙ ap settings_of (sym c.forget.ensures.host)
+
+-- and nobody has more than its policy
+pub returns-clause-within : goal.returns-clause-within
+returns-clause-within c = λ w. rw c.forget.ensures.host (reset_within c.args.self.now c.args.pool c.forget.ensures.pool w)
+
+pub returns-clause-policies : goal.returns-clause-policies
+returns-clause-policies c = λ w. rw c.forget.ensures.host (reset_policies c.args.self.now c.args.pool)

@@ -64,22 +64,45 @@ impl Host {
         for id in ids {
             numbers.push(id.get());
         }
-        Some(Host {
+        Some(Host::blank(numbers, default_pool, limit.get()))
+    }
+
+    // The host of these ids, of which no policy names a function.
+    fn blank(ids: ArrayVec<u16, 64>, default_pool: Option<PoolId>, limit: u16) -> Host
+        ensures { result ≡ record {
+          functions = replicate 64 absent;
+          ids = ids.items;
+          default_pool = default_pool;
+          limit = limit;
+        } }
+    {
+        Host {
             functions: [Function::ABSENT; 64],
-            ids: numbers,
+            ids,
             default_pool,
-            limit: limit.get(),
-        })
+            limit,
+        }
     }
 
     /// Gives a function its policy. It is refused, and nothing changes, where the address is not one station's or another
     /// function holds it, where the place of a port VLAN is none of the ids', and where the function is up.
-    #[tactic(auto, unfolding(crate::specs::Host::host_admitting))]
+    ///
+    /// A function that is not up makes no register, so that nothing is to be written.
     pub fn admit(&mut self, pool: PoolId, policy: &Policy) -> Result<(), Fault>
         ensures host { self.new ≡ host_admitting self.old pool policy.now }
         ensures variant { is_ok result ≡ is_admitted self.old pool policy.now }
         ensures within { IsWithin self.old → IsWithin self.new }
         ensures settings { IsWithin self.old → settings_of self.new ≡ settings_of self.old }
+    {
+        self.take(pool, policy)
+    }
+
+    // The same, by its definition.
+    #[tactic(auto, unfolding(crate::specs::Host::host_admitting))]
+    fn take(&mut self, pool: PoolId, policy: &Policy) -> Result<(), Fault>
+        ensures host { self.new ≡ host_admitting self.old pool policy.now }
+        ensures variant { is_ok result ≡ is_admitted self.old pool policy.now }
+        ensures pool { pool < 64 }
     {
         let p = usize::from(pool.get());
         if !self.is_admitted(pool, policy) {

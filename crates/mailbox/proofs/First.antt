@@ -178,9 +178,18 @@ turn_next h r rest at past =
 pub whole_at_first : IsWhole initial_settings
 unfolding initial_settings initial_addresses initial_vlans
 whole_at_first = record {
-  low = refl; high = refl; address_pools = refl; hashes = refl;
-  vlan_table = refl; vlan_entries = refl; vlan_pools = refl;
-  receive_enable = refl; transmit_enable = refl; port_vlans = refl; sender_checks = refl; pool_flags = refl;
+  low = refl;
+  high = refl;
+  address_pools = refl;
+  hashes = refl;
+  vlan_table = refl;
+  vlan_entries = refl;
+  vlan_pools = refl;
+  receive_enable = refl;
+  transmit_enable = refl;
+  port_vlans = refl;
+  sender_checks = refl;
+  pool_flags = refl;
 }
 
 length_after : (row : Row) (words : List ℕ) (offset x : ℕ) → length (words_after row words offset x) ≡ length words

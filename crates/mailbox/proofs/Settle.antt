@@ -62,7 +62,6 @@ unfolding settings_after addresses_after vlans_after pool_control_after one_afte
 by_rows s [] = refl
 by_rows s (w ∷ ws) = by_rows (settings_after s w.offset w.value) ws
 
-
 -- ---- the writes of a pool, in parts
 
 abbrev pub closing : ℕ → Part

@@ -1,5 +1,6 @@
 //! The host.
-ghost use Rattle.std.specs.Prelude.{◌≡◌, ◌≢◌, ℕ, ◌+◌, ◌*◌, ◌<◌, ◌≤◌, ◌++◌, ◌&&◌, [], IfSome, nat_le, is_some, length, replicate, is_ok, true, if◌then◌else◌};
+ghost use Rattle.std.specs.Prelude.{◌≡◌, ◌≢◌, ℕ, ◌+◌, ◌*◌, ◌<◌, ◌≤◌, ◌++◌, ◌&&◌, [], IfSome, List, nat_le, is_some, length, replicate, is_ok, true, if◌then◌else◌};
+ghost use Rattle.mailbox.specs.declared.writes.Write.{Write};
 ghost use Rattle.mailbox.specs.Host.{function_at, other_holds, is_taken, address_in, outcome, host_after, host_without, is_admitted, host_admitting, is_placed};
 ghost use Rattle.mailbox.specs.Function.{absent};
 ghost use Rattle.mailbox.specs.Isolation.{IsSameFor, IsSameForAll};
@@ -234,6 +235,9 @@ impl Host {
             → IsSameFor (settings_of self.old) (settings_of self.new) q }
         ensures all { IsSameForAll (settings_of self.old) (settings_of self.new) }
         ensures settings { after_writes (settings_of self.old) result ≡ settings_of self.new }
+        ensures meanwhile { (q : ℕ) (done left : List Write) → q < 64 → q ≢ pool
+            → done ++ left ≡ result
+            → IsSameFor (settings_of self.old) (after_writes (settings_of self.old) done) q }
         ensures within { IsWithin self.old → IsWithin self.new }
         ensures policies { IsWithin self.old → KeepsPolicies self.old self.new }
     {
@@ -255,6 +259,9 @@ impl Host {
             → IsSameFor (settings_of self.old) (settings_of self.new) q }
         ensures all { IsSameForAll (settings_of self.old) (settings_of self.new) }
         ensures settings { after_writes (settings_of self.old) result ≡ settings_of self.new }
+        ensures meanwhile { (q : ℕ) (done left : List Write) → q < 64 → q ≢ pool
+            → done ++ left ≡ result
+            → IsSameFor (settings_of self.old) (after_writes (settings_of self.old) done) q }
         ensures within { IsWithin self.old → IsWithin self.new }
         ensures policies { IsWithin self.old → KeepsPolicies self.old self.new }
     {

@@ -8,9 +8,7 @@ ghost use Rattle.mailbox.specs.Words.{pool_word, id_word, control_word};
 use crate::host::Host;
 use crate::writes::Write;
 use addr_tables::registers::{MCSTCTRL, MPSAR, MTA, RAH, RAL};
-use pool_filter::registers::{
-    PF_VT_CTL, PFDTXGSWC, PFVFRE, PFVFSPOOF, PFVFTE, VMOLR, VMVIR,
-};
+use pool_filter::registers::{PF_VT_CTL, PFDTXGSWC, PFVFRE, PFVFSPOOF, PFVFTE, VMOLR, VMVIR};
 use vlan_table::registers::{VFTA, VLNCTRL, VLVF, VLVFB};
 use wire_frame::{PoolId, Row};
 

@@ -1,5 +1,5 @@
 -- The first writes make the settings of a host, whatever the registers were.
-use Rattle.std.proofs.Common.{arith, ◌≡◌, ℕ, ◌+◌, ◌*◌, ◌^◌, ◌<◌, ◌≤◌, Bool, true, List, [], ◌∷◌, ◌++◌, zero, suc, ◌-◌, length, set, cond, false, Some, None, Option, take, drop, replicate, get_or, refl, sym, ap, ◌∙◌, bit_and, inl, inr, ◌⊎◌}
+use Rattle.std.proofs.Common.{arith, ◌≡◌, ℕ, ◌+◌, ◌*◌, ◌^◌, ◌<◌, ◌≤◌, Bool, true, List, [], ◌∷◌, ◌++◌, zero, suc, ◌-◌, length, set, cond, false, Some, take, drop, get_or, refl, sym, ap, ◌∙◌, bit_and, inl, inr, ◌⊎◌}
 use Rattle.wire_frame.specs.declared.row.Row.{Row}
 use Rattle.addr_tables.specs.Registers.{RAL, RAH, MPSAR, MTA, MCSTCTRL, MCSTCTRL_KEPT}
 use Rattle.vlan_table.specs.Registers.{VFTA, VLVF, VLVFB, VLNCTRL, VLNCTRL_KEPT}
@@ -12,7 +12,7 @@ use Rattle.mailbox.specs.declared.start.Register.{Register}
 use Rattle.mailbox.specs.declared.start.Register.TheVariants.{SourceChecks, LowAddress, HighAddress, AddressPools, MulticastTable, MulticastControl, VlanControl, VlanTable, VlanIds, VlanPools, PoolControl, PortVlans, Loopback, PoolFlags, ReceiveEnable, TransmitEnable}
 use Rattle.mailbox.specs.Host.{HostState, function_at}
 use Rattle.mailbox.specs.Start.{registers, row_of, word_of, register_writes, writes_to, first_writes, IsWhole}
-use Rattle.mailbox.specs.Words.{table, is_up, table_word, control_word, addresses_of, vlans_of, settings_of}
+use Rattle.mailbox.specs.Words.{table, is_up, control_word, addresses_of, vlans_of, settings_of}
 use Rattle.std.specs.List.{slice_get}
 use Rattle.std.proofs.Math.Seq.{drop-cons}
 use Rattle.std.proofs.lemmas.List.{length-append, length-set}

@@ -1,5 +1,5 @@
 -- Settings that agree at one pool's words are the same for the pool.
-use Rattle.std.proofs.Common.{arith, ◌≡◌, ◌≢◌, ℕ, ◌+◌, ◌-◌, ◌*◌, ◌/◌, ◌%◌, ◌^◌, ◌<◌, Bool, true, false, cond, not, ◌&&◌, ◌||◌, List, length, get_or, map, Option, Some, None, refl, sym, ap, ◌∙◌, eqb, eqb-true, ltb}
+use Rattle.std.proofs.Common.{arith, ◌≡◌, ◌≢◌, ℕ, ◌+◌, ◌-◌, ◌*◌, ◌/◌, ◌%◌, ◌^◌, ◌<◌, Bool, true, false, cond, not, ◌&&◌, ◌||◌, List, get_or, map, refl, sym, ap, ◌∙◌, eqb, eqb-true, ltb}
 use Rattle.std.specs.List.{filter, range_with_len}
 use Rattle.std.proofs.lemmas.Bool.{and_parts, ltb-true, ltb-false}
 use Rattle.std.proofs.lemmas.List.{get_or-set_other}
@@ -10,7 +10,7 @@ use Rattle.wire_frame.specs.Address.{kind_of}
 use Rattle.wire_frame.specs.Bits.{has_bit, has_bit_in, two_words}
 use Rattle.wire_frame.specs.Frame.{destination, is_tagged, vlan_id}
 use Rattle.addr_tables.specs.Addresses.{entry_address, entry_has_pool as address_has_pool, has_address, multicast_hit}
-use Rattle.vlan_table.specs.Vlans.{entry_id, entry_has_pool as vlan_has_pool, has_vlan, is_filtering}
+use Rattle.vlan_table.specs.Vlans.{entry_id, entry_has_pool as vlan_has_pool, has_vlan}
 use Rattle.pool_filter.specs.Settings.{Settings}
 use Rattle.pool_filter.specs.Own.{addresses_of as own_addresses, vlan_ids_of as own_ids, rising, contains, own}
 use Rattle.pool_filter.specs.Accepts.{flags_of, takes_kind, takes_group, is_in_vlan, accepts}

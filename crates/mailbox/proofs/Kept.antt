@@ -1,13 +1,13 @@
 -- The words of a host are words that their registers keep.
-use Rattle.std.proofs.Common.{arith, ◌≡◌, ℕ, zero, suc, ◌+◌, ◌*◌, ◌/◌, ◌%◌, ◌^◌, ◌<◌, ◌≤◌, Bool, true, false, cond, ◌&&◌, ◌||◌, Option, Some, None, is_none, length, get_or, refl, sym, ap, ◌∙◌, eqb, eqb-true, ltb, bit_and, bit_or}
+use Rattle.std.proofs.Common.{arith, ◌≡◌, ℕ, zero, suc, ◌+◌, ◌*◌, ◌/◌, ◌%◌, ◌^◌, ◌<◌, ◌≤◌, Bool, true, false, cond, ◌||◌, Option, Some, None, is_none, length, get_or, refl, ap, ◌∙◌, eqb, eqb-true, ltb, bit_and, bit_or}
 use Rattle.std.specs.List.{list_all, range_with_len}
 use Rattle.std.proofs.Math.Nat.{pow-le-pow_right}
 use Rattle.std.proofs.lemmas.Bool.{and_parts}
 use Rattle.std.proofs.lemmas.Nat.{and_mask, and_block}
 use Rattle.mailbox.specs.declared.function.Function.{Function}
-use Rattle.mailbox.specs.Function.{low_part, high_part}
-use Rattle.mailbox.specs.Host.{HostState, function_at}
-use Rattle.mailbox.specs.Words.{mask_from, entry, low_word, valid, high_word, pool_word, id_word, table_word, member_word, has_joined, up_word, flags_word, inserted, port_word, control_word}
+use Rattle.mailbox.specs.Function.{low_part}
+use Rattle.mailbox.specs.Host.{HostState}
+use Rattle.mailbox.specs.Words.{mask_from, entry, low_word, valid, high_word, pool_word, id_word, member_word, has_joined, flags_word, inserted, port_word, control_word}
 use Rattle.mailbox.proofs.Masks.{mask_below}
 
 -- ---- masks

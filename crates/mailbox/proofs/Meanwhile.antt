@@ -1,17 +1,12 @@
 -- After each of the writes of one pool every other pool has what it had.
-use Rattle.std.proofs.Common.{arith, ◌≡◌, ◌≢◌, ℕ, zero, suc, ◌+◌, ◌*◌, ◌/◌, ◌%◌, ◌^◌, ◌<◌, ◌≤◌, Bool, true, false, cond, ◌&&◌, List, [], ◌∷◌, ◌++◌, length, set, get_or, Option, Some, None, refl, sym, ap, subst, ◌∙◌, true≢false, eqb, eqb-true, ltb, bit_and, ◌⊎◌, inl, inr}
+use Rattle.std.proofs.Common.{arith, ◌≡◌, ℕ, zero, suc, ◌+◌, ◌*◌, ◌<◌, ◌≤◌, Bool, true, false, cond, List, [], ◌∷◌, ◌++◌, length, set, get_or, refl, sym, ap, subst, ◌∙◌, true≢false, eqb, eqb-true, ltb, bit_and}
 use Rattle.std.specs.Bool.{⊤}
 use Rattle.std.proofs.lemmas.Bool.{and_parts, eqb-false, ltb-true, ltb-false}
-use Rattle.std.proofs.lemmas.Bool.Decides.{nat_tests}
 use Rattle.std.proofs.lemmas.List.{get_or-set_same, get_or-set_other, get_or_past, length-set}
 use Rattle.wire_frame.specs.declared.row.Row.{Row}
-use Rattle.wire_frame.specs.Bits.{has_bit, has_bit_in, two_words}
 use Rattle.wire_frame.specs.Row.{is_in, place, words_after}
 use Rattle.wire_frame.specs.Apart.{apart}
 use Rattle.pool_filter.specs.Map.{one_row}
-use Rattle.addr_tables.specs.Registers.{RAL, RAH, MPSAR, MTA, MCSTCTRL}
-use Rattle.vlan_table.specs.Registers.{VLNCTRL, VFTA, VLVF, VLVFB}
-use Rattle.pool_filter.specs.Registers.{PF_VT_CTL, PFVFRE, PFVFTE, VMVIR, PFVFSPOOF, PFDTXGSWC, VMOLR}
 use Rattle.mailbox.specs.declared.writes.Write.{Write}
 use Rattle.mailbox.specs.Writes.{write_at, writes_from}
 use Rattle.mailbox.proofs.Rows.{row_after, word_after, not_in, is_in_at, place_at, word_misses, Part, writes_in, Fits, AllFit, all_far}

@@ -1,5 +1,5 @@
 -- While the writes of one pool are done, every other pool has what it had.
-use Rattle.std.proofs.Common.{arith, ◌≡◌, ◌≢◌, ℕ, suc, ◌+◌, ◌*◌, ◌/◌, ◌%◌, ◌^◌, ◌<◌, ◌≤◌, Bool, true, false, cond, ◌&&◌, List, [], ◌∷◌, ◌++◌, length, replicate, get_or, Option, Some, None, refl, sym, ap, subst, ◌∙◌, eqb, ltb, bit_and}
+use Rattle.std.proofs.Common.{arith, ◌≡◌, ◌≢◌, ℕ, suc, ◌+◌, ◌*◌, ◌/◌, ◌%◌, ◌^◌, ◌<◌, ◌≤◌, Bool, true, false, cond, ◌&&◌, List, [], ◌∷◌, ◌++◌, length, replicate, get_or, Option, Some, None, refl, sym, ap, subst, ◌∙◌, ltb, bit_and}
 use Rattle.std.specs.Bool.{⊤}
 use Rattle.std.proofs.lemmas.List.{append-nil}
 use Rattle.std.proofs.lemmas.Bool.{and_parts}
@@ -19,9 +19,9 @@ use Rattle.mailbox.specs.declared.writes.Write.{Write}
 use Rattle.mailbox.specs.Function.{gone}
 use Rattle.mailbox.specs.Host.{HostState, function_at, with_function, outcome, host_with, host_after, host_without}
 use Rattle.mailbox.specs.Isolation.{IsSameFor, IsSameForAll}
-use Rattle.mailbox.specs.Words.{table, mask_from, low_word, high_word, valid, entry, pool_word, table_word, id_word, member_word, has_joined, is_up, up_word, flags_word, port_word, control_word, addresses_of, vlans_of, settings_of}
+use Rattle.mailbox.specs.Words.{table, low_word, high_word, pool_word, table_word, id_word, member_word, has_joined, is_up, up_word, flags_word, port_word, control_word, addresses_of, vlans_of, settings_of}
 use Rattle.mailbox.specs.Writes.{writes_from, writes_of, after_writes, sets_registers, writes_with, writes_after, writes_without}
-use Rattle.mailbox.proofs.Entries.{table_at, entry_pool, entry_member, up_bit, two_words_at, mask_or_none}
+use Rattle.mailbox.proofs.Entries.{table_at, entry_pool, two_words_at, mask_or_none}
 use Rattle.mailbox.proofs.Isolation.{function_stays, Agrees, agrees_same}
 use Rattle.mailbox.proofs.Kept.{kept_mask, kept_members}
 use Rattle.mailbox.proofs.Masks.{has_bit_mask}

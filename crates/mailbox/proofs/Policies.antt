@@ -1,6 +1,6 @@
 -- No function has more than its policy grants, and no two hold one address: what a host keeps from the first on.
-use Rattle.std.proofs.Common.{arith, ◌≡◌, ◌≢◌, ℕ, zero, suc, ◌+◌, ◌-◌, ◌%◌, ◌^◌, ◌<◌, ◌≤◌, Bool, true, false, cond, not, ◌&&◌, ◌||◌, List, [], ◌∷◌, replicate, length, get_or, Option, Some, None, is_none, refl, sym, ap, subst, ◌∙◌, true≢false, eqb, eqb-true, leb, ltb, bit_and, bit_or, ⊎_elim, ◌⊎◌, inl, inr}
-use Rattle.std.specs.List.{list_any, range_with_len}
+use Rattle.std.proofs.Common.{arith, ◌≡◌, ◌≢◌, ℕ, ◌+◌, ◌^◌, ◌<◌, Bool, true, false, cond, not, ◌&&◌, ◌||◌, List, replicate, length, get_or, Option, Some, None, is_none, refl, sym, ap, subst, ◌∙◌, true≢false, eqb, eqb-true, leb, ltb, ⊎_elim, ◌⊎◌, inl, inr}
+use Rattle.std.specs.List.{range_with_len}
 use Rattle.std.specs.Int.{bit_not, w64}
 use Rattle.std.proofs.Math.Bool.{or-true}
 use Rattle.std.proofs.lemmas.Bool.{eqb-false, ltb-true, ltb-false, and_parts, or_cases, not-true, false_from_ne_true}

@@ -14,7 +14,7 @@ use Rattle.wire_frame.proofs.RowLemmas.{in_one_row}
 use Rattle.pool_filter.specs.Map.{one_row}
 use Rattle.mailbox.specs.declared.writes.Write.{Write}
 use Rattle.mailbox.specs.Words.{table}
-use Rattle.mailbox.specs.Writes.{write_at, writes_from}
+use Rattle.mailbox.specs.Writes.{writes_from}
 use Rattle.mailbox.proofs.Entries.{table_at}
 
 -- ---- tables

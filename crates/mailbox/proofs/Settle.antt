@@ -1,14 +1,13 @@
 -- The writes of one pool make the settings of a host into those of the host with another function there.
-use Rattle.std.proofs.Common.{arith, ◌≡◌, ◌≢◌, ℕ, zero, suc, ◌+◌, ◌-◌, ◌*◌, ◌/◌, ◌%◌, ◌^◌, ◌<◌, ◌≤◌, length, refl, sym, ap, ◌∙◌, Bool, true, false, cond, ◌||◌, is_none, Option, Some, None, List, [], ◌∷◌, ◌++◌, replicate, set, get_or, eqb, eqb-true, leb, ltb, bit_and, bit_or, inl, inr, ◌⊎◌}
-use Rattle.std.proofs.lemmas.Bool.{eqb-false, ltb-false}
+use Rattle.std.proofs.Common.{arith, ◌≡◌, ℕ, ◌+◌, ◌*◌, ◌/◌, ◌%◌, ◌^◌, ◌<◌, ◌≤◌, length, refl, sym, ap, ◌∙◌, Bool, true, false, cond, Option, List, [], ◌∷◌, ◌++◌, replicate, eqb, eqb-true, ltb, bit_and, bit_or, inl, inr, ◌⊎◌}
+use Rattle.std.proofs.lemmas.Bool.{eqb-false}
 use Rattle.std.proofs.lemmas.Bool.Decides.{nat_tests}
-use Rattle.std.proofs.lemmas.Nat.{and_mask}
 use Rattle.std.proofs.lemmas.List.{append-nil}
 use Rattle.addr_tables.specs.Registers.{RAL, RAH, MPSAR, MTA, MCSTCTRL, MCSTCTRL_KEPT}
 use Rattle.vlan_table.specs.Registers.{VLNCTRL, VLNCTRL_KEPT, VFTA, VLVF, VLVFB}
 use Rattle.pool_filter.specs.Registers.{PF_VT_CTL, PF_VT_CTL_KEPT, PF_VT_CTL_SET, PFVFRE, PFVFTE, VMVIR, PFVFSPOOF, PFDTXGSWC, PFDTXGSWC_KEPT, VMOLR}
-use Rattle.addr_tables.specs.Addresses.{Addresses, addresses_after}
-use Rattle.vlan_table.specs.Vlans.{Vlans, vlans_after}
+use Rattle.addr_tables.specs.Addresses.{addresses_after}
+use Rattle.vlan_table.specs.Vlans.{vlans_after}
 use Rattle.pool_filter.specs.Settings.{Settings, settings_after, pool_control_after}
 use Rattle.wire_frame.specs.declared.row.Row.{Row}
 use Rattle.wire_frame.specs.Row.{one_after}
@@ -16,13 +15,11 @@ use Rattle.pool_filter.specs.Map.{one_row}
 use Rattle.mailbox.specs.declared.function.Function.{Function}
 use Rattle.mailbox.specs.declared.writes.Write.{Write}
 use Rattle.mailbox.specs.Host.{HostState, function_at, with_function}
-use Rattle.mailbox.specs.Function.{low_part, high_part}
-use Rattle.mailbox.specs.Words.{table, mask_from, entry, low_word, valid, high_word, pool_word, table_word, id_word, control_word, member_word, has_joined, is_up, up_word, flags_word, inserted, port_word, addresses_of, vlans_of, settings_of}
+use Rattle.mailbox.specs.Function.{low_part}
+use Rattle.mailbox.specs.Words.{table, mask_from, entry, low_word, valid, high_word, pool_word, table_word, id_word, control_word, member_word, has_joined, is_up, up_word, flags_word, port_word, addresses_of, vlans_of, settings_of}
 use Rattle.mailbox.specs.Writes.{writes_from, writes_of, after_writes}
-use Rattle.mailbox.proofs.Entries.{table_at}
 use Rattle.mailbox.proofs.Isolation.{function_stays, entry_stays}
-use Rattle.mailbox.proofs.Masks.{mask_below, mask_same}
-use Rattle.mailbox.proofs.Rows.{row_after, word_after, table_same, Part, writes_in, Fits, AllFit, all_far, parts_skip, parts_spare, parts_append, parts_make}
+use Rattle.mailbox.proofs.Rows.{row_after, word_after, table_same, Part, writes_in, AllFit, all_far, parts_skip, parts_spare, parts_append, parts_make}
 use Rattle.mailbox.proofs.Kept.{kept_low, kept_high, kept_flags, kept_port, kept_mask, kept_members}
 
 -- ---- each row by itself

@@ -1,7 +1,7 @@
 -- Nothing of another pool's is changed, by the theorem on hosts.
-use Rattle.std.proofs.Common.{arith, ◌≡◌, ◌&&◌, cond, Bool, [], sym, ap, ◌∙◌}
+use Rattle.std.proofs.Common.{arith, ◌≡◌, ◌&&◌, cond, [], sym, ap, ◌∙◌}
 use Rattle.std.specs.Option.{is_some}
-use Rattle.mailbox.specs.Host.{HostState, host_after, host_with, outcome}
+use Rattle.mailbox.specs.Host.{host_after, outcome}
 use Rattle.mailbox.specs.Message.{message_of}
 use Rattle.mailbox.specs.Words.{settings_of}
 use Rattle.mailbox.specs.Writes.{after_writes, writes_of, sets_registers, writes_after}

@@ -3,12 +3,10 @@ use Rattle.std.proofs.Common.{◌≡◌, ◌≤◌, ℕ, true, false, List, None
 use Rattle.std.proofs.lemmas.List.{length-replicate, get_or_past}
 use Rattle.vf_unit.specs.Unit.{Function, Closed, Open, has_range, bytes_at}
 use Rattle.device.specs.declared.event.Event.TheVariants.{MemRead}
-use Rattle.device.specs.declared.event.Reply.TheVariants.{Bytes}
-use Rattle.device.specs.declared.outcome.Outcome.{Outcome}
-use Rattle.device.specs.declared.outcome.Outcome.TheVariants.{Done, Value, Bytes, Idle, More, Sent, Dropped, Faulted, Refused}
+use Rattle.device.specs.declared.event.Reply.TheVariants.{Done, Value, Bytes, Idle, More, Sent, Dropped, Faulted, Refused}
+use Rattle.device.specs.Outcome.{Outcome, IsOf, bytes_in, reply_of, reply_in}
 use Rattle.device.specs.Act.{refusal, act}
 use Rattle.device.specs.World.{World, function_of}
-use Rattle.device.specs.Outcome.{IsOf, bytes_in, reply_of, reply_in}
 
 read_over : (f : Function) (at : ℕ) (a b : List ℕ) → has_range f at (length a) ≡ true → length b ≡ length a → bytes_at f at a ≡ bytes_at f at b
 unfolding bytes_at

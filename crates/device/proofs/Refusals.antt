@@ -12,11 +12,11 @@ use Rattle.vf_unit.specs.Unit.{Function, Closed, Open, serviced}
 use Rattle.pool_filter.specs.Own.{OwnSettings, own, port_vlan_of}
 use Rattle.anti_spoof.specs.Permitted.{permitted}
 use Rattle.device.specs.Limits.{PF_SPACE}
-use Rattle.device.specs.declared.event.Event.{Event}
+use Rattle.device.specs.Events.{Event}
 use Rattle.device.specs.declared.event.Event.TheVariants.{Open, End, VfRead, VfWrite, MemRead, MemWrite, Serve, Flr, PfRead, PfWrite, PfReset, Wire}
-use Rattle.device.specs.declared.event.Reply.{Reply}
+use Rattle.device.specs.Replies.{Reply, is_done}
 use Rattle.device.specs.declared.event.Reply.TheVariants.{Done, Value, Bytes, Idle, More, Sent, Dropped, Faulted, Refused}
-use Rattle.device.specs.Act.{Service, performed, unless_refused, refusal, act, concluded, unserved, serve, is_bad_offset, is_done}
+use Rattle.device.specs.Act.{Service, performed, unless_refused, refusal, act, concluded, unserved, serve, is_bad_offset}
 use Rattle.device.specs.World.{World, Stepped, function_of, with_function, own_step, flagged, service, served, step}
 use Rattle.device.proofs.Arrivals.{raised_nothing}
 

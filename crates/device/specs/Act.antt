@@ -12,9 +12,9 @@ use Rattle.vf_unit.specs.Unit.{Function, size_of, is_open, opened, ended, reset,
 use Rattle.pool_filter.specs.Own.{OwnSettings, port_vlan_of}
 use Rattle.anti_spoof.specs.Permitted.{permitted}
 use Rattle.device.specs.Limits.{VF_SPACE, MOST_BYTES}
-use Rattle.device.specs.declared.event.Event.{Event}
+use Rattle.device.specs.Events.{Event}
 use Rattle.device.specs.declared.event.Event.TheVariants.{Open, End, VfRead, VfWrite, MemRead, MemWrite, Flr}
-use Rattle.device.specs.declared.event.Reply.{Reply}
+use Rattle.device.specs.Replies.{Reply}
 use Rattle.device.specs.declared.event.Reply.TheVariants.{Done, Value, Bytes, Idle, More, Sent, Dropped, Faulted, Refused}
 
 -- ---- refusals
@@ -82,10 +82,6 @@ unless_refused None f e = performed f e
 unfoldable pub act : Function → Event → Acted
 act f e = unless_refused (refusal f e) f e
 
-abbrev pub is_done : Reply → Bool
-is_done Done = true
-is_done _ = false
-
 -- ---- services
 
 -- the function after a service of one of its queues, with the frame that it sent, if any
@@ -119,7 +115,3 @@ serve limit o f q = if is_open f
     then concluded o (serviced limit (port_vlan_of o.port_vlan) f q) (service_outcome limit (port_vlan_of o.port_vlan) f q)
     else unserved f Idle)
     else unserved f (Refused (number_of NotOpen))
-
-abbrev pub is_sent : Reply → Bool
-is_sent Sent = true
-is_sent _ = false

@@ -1,8 +1,11 @@
 pub mod Act
+pub mod Events
 pub mod Limits
 pub mod Lone
 pub mod Outcome
+pub mod Replies
 pub mod Request
 pub mod Resets
 pub mod Slots
+pub mod Takes
 pub mod World

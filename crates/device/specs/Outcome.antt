@@ -5,30 +5,24 @@ use Rattle.wire_frame.specs.declared.fault.Fault.{Fault}
 use Rattle.vf_unit.specs.Unit.{Function, bytes_at}
 use Rattle.local_switch.specs.declared.ways.Source.TheVariants.{Pool}
 use Rattle.local_switch.specs.Switch.{leaves}
-use Rattle.device.specs.declared.event.Event.{Event}
+use Rattle.device.specs.Events.{Event}
 use Rattle.device.specs.declared.event.Event.TheVariants.{Serve}
-use Rattle.device.specs.declared.event.Reply.{Reply}
+use Rattle.device.specs.declared.event.Reply.{Reply as ReplyOf}
 use Rattle.device.specs.declared.event.Reply.TheVariants.{Done, Value, Bytes, Idle, More, Sent, Dropped, Faulted, Refused}
 use Rattle.device.specs.declared.event.Answer.{Answer}
-use Rattle.device.specs.declared.outcome.Outcome.{Outcome}
-use Rattle.device.specs.declared.outcome.Outcome.TheVariants.{Done, Value, Bytes, Idle, More, Sent, Dropped, Faulted, Refused}
 use Rattle.device.specs.declared.span.Span.{Span}
-use Rattle.device.specs.declared.taken.Taken.{Taken}
+use Rattle.device.specs.declared.response.Response.{Response}
+use Rattle.device.specs.Replies.{Reply, replied}
 use Rattle.device.specs.World.{World, function_of, sent_by, silently}
 
 -- ---- what an outcome stands for
 
+abbrev pub Outcome : Type 0
+Outcome = ReplyOf Span Fault
+
 -- the reply, where these are the bytes of a span
 abbrev pub reply_by : (Span → List ℕ) → Outcome → Reply
-reply_by bytes Done = Done
-reply_by bytes (Value x) = Value x
-reply_by bytes (Bytes span) = Bytes (bytes span)
-reply_by bytes Idle = Idle
-reply_by bytes More = More
-reply_by bytes Sent = Sent
-reply_by bytes Dropped = Dropped
-reply_by bytes Faulted = Faulted
-reply_by bytes (Refused fault) = Refused (number_of fault)
+reply_by bytes = replied bytes number_of
 
 -- the bytes of a span of a function's memory, zeros where it has none there
 abbrev pub bytes_in : Function → Span → List ℕ
@@ -43,12 +37,8 @@ abbrev pub reply_in : World → Outcome → Reply
 reply_in w = reply_by (λ span. bytes_in (function_of span.pool w) span)
 
 -- its answer
-abbrev pub answer_in : World → Taken → Answer
+abbrev pub answer_in : World → Response → Answer
 answer_in w taken = record { reply = reply_in w taken.outcome; raised = taken.messages }
-
-abbrev pub went_out : Outcome → Bool
-went_out Sent = true
-went_out _ = false
 
 -- the reply is bytes of a memory
 abbrev pub reads : Outcome → Bool

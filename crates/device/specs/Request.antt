@@ -1,19 +1,12 @@
--- The event that a request stands for.
-use Rattle.device.specs.declared.event.Event.{Event}
-use Rattle.device.specs.declared.event.Event.TheVariants.{Open, End, VfRead, VfWrite, MemRead, MemWrite, Serve, Flr, PfRead, PfWrite, PfReset, Wire}
-use Rattle.device.specs.declared.request.Request.{Request}
-use Rattle.device.specs.declared.request.Request.TheVariants.{Open, End, VfRead, VfWrite, MemRead, MemWrite, Serve, Flr, PfRead, PfWrite, PfReset, Wire}
+-- An event whose bytes and whose frame stand elsewhere, and the event that it stands for.
+use denote.Bor.{Bor}
+use Rattle.std.specs.Prelude.{ℕ, List}
+use Rattle.device.specs.declared.bytes.MemSlice.{MemSlice}
+use Rattle.device.specs.declared.event.Event.{Event as EventOf}
+use Rattle.device.specs.Events.{Event, mapped}
+
+abbrev pub Request : Type 0
+Request = EventOf MemSlice (Bor (List ℕ))
 
 abbrev pub event_of : Request → Event
-event_of (Open p) = Open p
-event_of (End p) = End p
-event_of (VfRead p offset) = VfRead p offset
-event_of (VfWrite p offset x) = VfWrite p offset x
-event_of (MemRead p at count) = MemRead p at count
-event_of (MemWrite p at written) = MemWrite p at written.bytes.now
-event_of (Serve p q) = Serve p q
-event_of (Flr p) = Flr p
-event_of (PfRead offset) = PfRead offset
-event_of (PfWrite offset x) = PfWrite offset x
-event_of PfReset = PfReset
-event_of (Wire frame) = Wire frame.now
+event_of = mapped (λ written. written.bytes.now) (λ frame. frame.now)

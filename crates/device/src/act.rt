@@ -10,8 +10,8 @@ ghost use Rattle.device.specs.Outcome.{IsOf, issued, reply_of, done_or_refused, 
 ghost use Rattle.device.specs.Request.{event_of};
 
 use crate::bytes::{MOST_BYTES, MemSlice};
+use crate::event::Request;
 use crate::outcome::{Acted, Outcome};
-use crate::request::Request;
 use crate::span::Span;
 use guest_memory::GuestMem;
 use irq_causes::Vectors;

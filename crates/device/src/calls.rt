@@ -1,12 +1,14 @@
 //! The calls by name, one for each kind of event, for who embeds a device.
-ghost use Rattle.std.specs.Prelude.{◌≡◌, ◌<◌, ℕ, List, length, replicate, slice_set, option_copied, Some, None, OnErr, if◌then◌else◌};
+ghost use Rattle.std.specs.Prelude.{◌≡◌, ◌<◌, ℕ, List, length, replicate, slice_set, Some, None, OnErr, if◌then◌else◌};
 ghost use Rattle.irq_causes.specs.Messages.{no_messages};
 ghost use Rattle.vf_unit.specs.Unit.{bytes_at};
 ghost use Rattle.device.specs.declared.event.Event.{Event};
 ghost use Rattle.device.specs.declared.event.Reply.{Reply};
 ghost use Rattle.device.specs.declared.span.Span.{Span};
-ghost use Rattle.device.specs.World.{silently, function_of, with_function, service, step, sent_by, sizes_of};
-ghost use Rattle.device.specs.Outcome.{reply_by, went_out, done_or_refused, value_or_refused, bytes_or_refused, messages_or_refused, reply_in, answer_in, left_by};
+ghost use Rattle.device.specs.World.{silently, function_of, with_function, service, step, sizes_of};
+ghost use Rattle.device.specs.Replies.{is_sent};
+ghost use Rattle.device.specs.Takes.{Takes};
+ghost use Rattle.device.specs.Outcome.{reply_by, done_or_refused, value_or_refused, bytes_or_refused, messages_or_refused, reply_in};
 
 use crate::act;
 use crate::act::{PF_SPACE, is_bad_offset};
@@ -14,10 +16,10 @@ use crate::bytes::MemSlice;
 use crate::device::Device;
 use crate::outcome::{Acted, Outcome};
 use crate::resets::{clear_resets, read_resets};
+use crate::response::Response;
 use crate::service::serve_queue;
 use crate::span::Span;
 use crate::switching::end_all;
-use crate::taken::Taken;
 use guest_memory::GuestMem;
 use irq_causes::{Messages, Vectors};
 use local_switch::Source;
@@ -195,17 +197,12 @@ impl<M: GuestMem> Device<M> {
     /// The outcome is refused for [`Fault::NoSuchVf`], then for [`Fault::NotOpen`]; else it is idle, more, sent, dropped or
     /// faulted.
     #[inline(never)]
-    pub fn serve<'f>(&mut self, pool: u8, queue: Queue, frame: &'f mut FrameBuf) -> Taken<'f>
-        ensures world { self.new ≡ (step self.old (Event.Serve pool queue)).world }
-        ensures answer { answer_in self.new result
-            ≡ (step self.old (Event.Serve pool queue)).answer }
-        ensures sizes { sizes_of self.new ≡ sizes_of self.old }
-        ensures sent { option_copied result.sent ≡ sent_by self.old (Event.Serve pool queue) }
-        ensures left { option_copied result.left ≡ left_by self.old (Event.Serve pool queue) }
+    pub fn serve<'f>(&mut self, pool: u8, queue: Queue, frame: &'f mut FrameBuf) -> Response<'f>
+        ensures { Takes self.old (Event.Serve pool queue) self.new result }
     {
         let index = usize::from(pool);
         if index >= self.units.len() {
-            return Taken::silent(Outcome::Refused(Fault::NoSuchVf));
+            return Response::silent(Outcome::Refused(Fault::NoSuchVf));
         }
         match PoolId::new(pool) {
             Some(sender) => self.serve_pool(sender, queue, frame),
@@ -214,18 +211,18 @@ impl<M: GuestMem> Device<M> {
     }
 
     // The service of a queue of a function that is there.
-    fn serve_pool<'f>(&mut self, pool: PoolId, queue: Queue, frame: &'f mut FrameBuf) -> Taken<'f>
+    fn serve_pool<'f>(
+        &mut self,
+        pool: PoolId,
+        queue: Queue,
+        frame: &'f mut FrameBuf,
+    ) -> Response<'f>
         requires there { pool < length self.old.functions }
-        ensures world { self.new ≡ (step self.old (Event.Serve pool queue)).world }
-        ensures answer { answer_in self.new result
-            ≡ (step self.old (Event.Serve pool queue)).answer }
-        ensures sizes { sizes_of self.new ≡ sizes_of self.old }
-        ensures sent { option_copied result.sent ≡ sent_by self.old (Event.Serve pool queue) }
-        ensures left { option_copied result.left ≡ left_by self.old (Event.Serve pool queue) }
+        ensures { Takes self.old (Event.Serve pool queue) self.new result }
     {
         let acted = self.transmit(pool, queue, frame);
         if !acted.outcome.is_sent() {
-            return Taken {
+            return Response {
                 outcome: acted.outcome,
                 messages: Messages::of(pool, acted.vectors),
                 sent: None,
@@ -236,7 +233,7 @@ impl<M: GuestMem> Device<M> {
         let switched = self.switch(Source::Pool(pool), frame);
         let mut messages = switched.messages;
         messages.set(pool, acted.vectors);
-        Taken {
+        Response {
             outcome: acted.outcome,
             messages,
             sent: Some(frame),
@@ -254,7 +251,7 @@ impl<M: GuestMem> Device<M> {
             → reply_by bytes result.outcome ≡ (service self.old pool queue).reply }
         ensures messages { result.vectors ≡ (service self.old pool queue).messages }
         ensures sent { (service self.old pool queue).sent
-            ≡ (if went_out result.outcome then Some frame.new else None) }
+            ≡ (if is_sent result.outcome then Some frame.new else None) }
     {
         let rules = PoolRules {
             tables: &self.tables,

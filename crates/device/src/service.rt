@@ -3,7 +3,8 @@ ghost use Rattle.std.specs.Prelude.{◌≡◌, ℕ, List, Some, None, if◌then�
 ghost use Rattle.vf_unit.specs.Unit.{size_of};
 ghost use Rattle.device.specs.declared.span.Span.{Span};
 ghost use Rattle.device.specs.Act.{serve};
-ghost use Rattle.device.specs.Outcome.{reply_by, went_out};
+ghost use Rattle.device.specs.Replies.{is_sent};
+ghost use Rattle.device.specs.Outcome.{reply_by};
 
 use crate::outcome::{Acted, Outcome};
 use anti_spoof::honest_by;
@@ -28,7 +29,7 @@ pub fn serve_queue<R: SenderRules, M: GuestMem>(
         → reply_by bytes result.outcome ≡ (serve limit (R.rules rules.now) unit.old queue).reply }
     ensures messages { result.vectors ≡ (serve limit (R.rules rules.now) unit.old queue).messages }
     ensures sent { (serve limit (R.rules rules.now) unit.old queue).sent
-        ≡ (if went_out result.outcome then Some frame.new else None) }
+        ≡ (if is_sent result.outcome then Some frame.new else None) }
     ensures size { size_of unit.new ≡ size_of unit.old }
 {
     if !rules.may_transmit() {

@@ -1,19 +1,19 @@
 //! The events that a device takes, one at a time and in a list.
-ghost use Rattle.std.specs.Prelude.{◌≡◌, ℕ, List, false, ◌+◌, ◌<◌, [], ◌∷◌, ◌++◌, length, option_copied, vec_len, vec_capacity, IfOk, IfErr, OnOk, OnErr, None};
+ghost use Rattle.std.specs.Prelude.{◌≡◌, ℕ, List, false, ◌+◌, ◌<◌, [], ◌∷◌, ◌++◌, length, vec_len, vec_capacity, IfOk, IfErr, OnOk, OnErr};
 ghost use Rattle.device.specs.declared.event.Event.{Event};
 ghost use Rattle.device.specs.declared.span.Span.{Span};
-ghost use Rattle.device.specs.World.{step, sent_by, sizes_of, answers, world_after};
-ghost use Rattle.device.specs.Lone.{keep, lone_of, lone_seen, lone_after, seen_by};
-ghost use Rattle.device.specs.Outcome.{reads, bytes_in, reply_by, answer_in, left_by};
+ghost use Rattle.device.specs.World.{step, sent_by, answers, world_after};
+ghost use Rattle.device.specs.Lone.{SeesAsAlone, EndsAsAlone};
+ghost use Rattle.device.specs.Outcome.{reads, reply_by, answer_in};
+ghost use Rattle.device.specs.Takes.{Takes};
 ghost use Rattle.device.specs.Request.{event_of};
 
 use crate::bytes::{MemBytes, MemSlice};
 use crate::device::Device;
-use crate::event::{Answer, Event, Reply};
+use crate::event::{Answer, Event, Reply, Request};
 use crate::outcome::Outcome;
-use crate::request::Request;
+use crate::response::Response;
 use crate::span::Span;
-use crate::taken::Taken;
 use guest_memory::GuestMem;
 use irq_causes::Messages;
 use std::alloc::Global;
@@ -25,20 +25,13 @@ impl<M: GuestMem> Device<M> {
     /// A frame that a service sends is put together in `frame`, and handed out from there. Bytes that are read stand in the
     /// memory still: the outcome says where, and [`read_span`](Device::read_span) copies them.
     #[inline]
-    pub fn take<'f>(&mut self, request: Request<'_>, frame: &'f mut FrameBuf) -> Taken<'f>
-        ensures world { self.new ≡ (step self.old (event_of request.entry)).world }
-        ensures answer { answer_in self.new result
-            ≡ (step self.old (event_of request.entry)).answer }
-        ensures sent { option_copied result.sent ≡ sent_by self.old (event_of request.entry) }
-        ensures left { option_copied result.left ≡ left_by self.old (event_of request.entry) }
-        ensures sizes { sizes_of self.new ≡ sizes_of self.old }
+    pub fn take<'f>(&mut self, request: Request<'_>, frame: &'f mut FrameBuf) -> Response<'f>
+        ensures takes { Takes self.old (event_of request.entry) self.new result }
         // to each function the event is as if it were alone
-        ensures isolated { (p : ℕ) → p < length self.old.functions →
-            seen_by p (event_of request.entry ∷ []) (answer_in self.new result ∷ [])
-            ≡ lone_seen (lone_of p self.old) (keep p self.old (event_of request.entry ∷ [])) }
-        ensures isolated_state { (p : ℕ) → p < length self.old.functions →
-            lone_of p self.new
-            ≡ lone_after (lone_of p self.old) (keep p self.old (event_of request.entry ∷ [])) }
+        ensures isolated { (p : ℕ) → p < length self.old.functions → SeesAsAlone
+            p self.old (event_of request.entry ∷ []) (answer_in self.new result ∷ []) }
+        ensures isolated_state { (p : ℕ) → p < length self.old.functions → EndsAsAlone
+            p self.old (event_of request.entry ∷ []) self.new }
     {
         let count = self.functions();
         prove!(count <= usize::from(PoolId::COUNT));
@@ -47,13 +40,8 @@ impl<M: GuestMem> Device<M> {
 
     // The same, but for what each function sees of it.
     #[inline]
-    fn take_any<'f>(&mut self, request: Request<'_>, frame: &'f mut FrameBuf) -> Taken<'f>
-        ensures world { self.new ≡ (step self.old (event_of request.entry)).world }
-        ensures answer { answer_in self.new result
-            ≡ (step self.old (event_of request.entry)).answer }
-        ensures sent { option_copied result.sent ≡ sent_by self.old (event_of request.entry) }
-        ensures left { option_copied result.left ≡ left_by self.old (event_of request.entry) }
-        ensures sizes { sizes_of self.new ≡ sizes_of self.old }
+    fn take_any<'f>(&mut self, request: Request<'_>, frame: &'f mut FrameBuf) -> Response<'f>
+        ensures { Takes self.old (event_of request.entry) self.new result }
     {
         match request {
             Request::VfRead(pool, offset) => self.take_vf_read(pool, offset),
@@ -75,145 +63,97 @@ impl<M: GuestMem> Device<M> {
 
     // A read of a function's register.
     #[inline]
-    fn take_vf_read<'f>(&mut self, pool: u8, offset: u32) -> Taken<'f>
-        ensures world { self.new ≡ (step self.old (Event.VfRead pool offset)).world }
-        ensures answer { answer_in self.new result
-            ≡ (step self.old (Event.VfRead pool offset)).answer }
-        ensures sizes { sizes_of self.new ≡ sizes_of self.old }
-        ensures sent { result.sent ≡ None }
-        ensures left { result.left ≡ None }
+    fn take_vf_read<'f>(&mut self, pool: u8, offset: u32) -> Response<'f>
+        ensures { Takes self.old (Event.VfRead pool offset) self.new result }
     {
-        Taken::value_or_refused(self.vf_read(pool, offset))
+        Response::value_or_refused(self.vf_read(pool, offset))
     }
 
     // A write of a function's register.
     #[inline]
-    fn take_vf_write<'f>(&mut self, pool: u8, offset: u32, value: u32) -> Taken<'f>
-        ensures world { self.new ≡ (step self.old (Event.VfWrite pool offset value)).world }
-        ensures answer { answer_in self.new result
-            ≡ (step self.old (Event.VfWrite pool offset value)).answer }
-        ensures sizes { sizes_of self.new ≡ sizes_of self.old }
-        ensures sent { result.sent ≡ None }
-        ensures left { result.left ≡ None }
+    fn take_vf_write<'f>(&mut self, pool: u8, offset: u32, value: u32) -> Response<'f>
+        ensures { Takes self.old (Event.VfWrite pool offset value) self.new result }
     {
-        Taken::issued(self.vf_write(pool, offset, value))
+        Response::issued(self.vf_write(pool, offset, value))
     }
 
     // A read of a function's memory.
     #[inline]
-    fn take_mem_read<'f>(&self, pool: u8, at: u64, count: u16) -> Taken<'f>
-        ensures world { self.now ≡ (step self.now (Event.MemRead pool at count)).world }
-        ensures answer { answer_in self.now result
-            ≡ (step self.now (Event.MemRead pool at count)).answer }
-        ensures sent { result.sent ≡ None }
-        ensures left { result.left ≡ None }
+    fn take_mem_read<'f>(&self, pool: u8, at: u64, count: u16) -> Response<'f>
+        ensures { Takes self.now (Event.MemRead pool at count) self.now result }
     {
-        Taken::silent(self.find(pool, at, count))
+        Response::silent(self.find(pool, at, count))
     }
 
     // A write of a function's memory.
     #[inline]
-    fn take_mem_write<'f>(&mut self, pool: u8, at: u64, written: MemSlice<'_>) -> Taken<'f>
-        ensures world { self.new
-            ≡ (step self.old (Event.MemWrite pool at written.entry.bytes.now)).world }
-        ensures answer { answer_in self.new result
-            ≡ (step self.old (Event.MemWrite pool at written.entry.bytes.now)).answer }
-        ensures sizes { sizes_of self.new ≡ sizes_of self.old }
-        ensures sent { result.sent ≡ None }
-        ensures left { result.left ≡ None }
+    fn take_mem_write<'f>(&mut self, pool: u8, at: u64, written: MemSlice<'_>) -> Response<'f>
+        ensures { Takes self.old (Event.MemWrite pool at written.entry.bytes.now) self.new result }
     {
-        Taken::done_or_refused(self.mem_write(pool, at, written))
+        Response::done_or_refused(self.mem_write(pool, at, written))
     }
 
     // A frame from the wire.
     #[inline]
-    fn take_wire<'f>(&mut self, frame: &FrameBuf) -> Taken<'f>
-        ensures world { self.new ≡ (step self.old (Event.Wire frame.now)).world }
-        ensures answer { answer_in self.new result ≡ (step self.old (Event.Wire frame.now)).answer }
-        ensures sizes { sizes_of self.new ≡ sizes_of self.old }
-        ensures sent { result.sent ≡ None }
-        ensures left { result.left ≡ None }
+    fn take_wire<'f>(&mut self, frame: &FrameBuf) -> Response<'f>
+        ensures { Takes self.old (Event.Wire frame.now) self.new result }
     {
-        Taken::issued(self.wire(frame))
+        Response::issued(self.wire(frame))
     }
 
     // A read of a register of the physical function.
     #[inline]
-    fn take_pf_read<'f>(&self, offset: u32) -> Taken<'f>
-        ensures world { self.now ≡ (step self.now (Event.PfRead offset)).world }
-        ensures answer { answer_in self.now result ≡ (step self.now (Event.PfRead offset)).answer }
-        ensures sent { result.sent ≡ None }
-        ensures left { result.left ≡ None }
+    fn take_pf_read<'f>(&self, offset: u32) -> Response<'f>
+        ensures { Takes self.now (Event.PfRead offset) self.now result }
     {
-        Taken::value_or_refused(self.pf_read(offset))
+        Response::value_or_refused(self.pf_read(offset))
     }
 
     // A write of a register of the physical function.
     #[inline]
-    fn take_pf_write<'f>(&mut self, offset: u32, value: u32) -> Taken<'f>
-        ensures world { self.new ≡ (step self.old (Event.PfWrite offset value)).world }
-        ensures answer { answer_in self.new result
-            ≡ (step self.old (Event.PfWrite offset value)).answer }
-        ensures sizes { sizes_of self.new ≡ sizes_of self.old }
-        ensures sent { result.sent ≡ None }
-        ensures left { result.left ≡ None }
+    fn take_pf_write<'f>(&mut self, offset: u32, value: u32) -> Response<'f>
+        ensures { Takes self.old (Event.PfWrite offset value) self.new result }
     {
-        Taken::done_or_refused(self.pf_write(offset, value))
+        Response::done_or_refused(self.pf_write(offset, value))
     }
 
     // A function is opened.
     #[inline]
-    fn take_open<'f>(&mut self, pool: u8) -> Taken<'f>
-        ensures world { self.new ≡ (step self.old (Event.Open pool)).world }
-        ensures answer { answer_in self.new result ≡ (step self.old (Event.Open pool)).answer }
-        ensures sizes { sizes_of self.new ≡ sizes_of self.old }
-        ensures sent { result.sent ≡ None }
-        ensures left { result.left ≡ None }
+    fn take_open<'f>(&mut self, pool: u8) -> Response<'f>
+        ensures { Takes self.old (Event.Open pool) self.new result }
     {
-        Taken::done_or_refused(self.open(pool))
+        Response::done_or_refused(self.open(pool))
     }
 
     // A function is closed.
     #[inline]
-    fn take_end<'f>(&mut self, pool: u8) -> Taken<'f>
-        ensures world { self.new ≡ (step self.old (Event.End pool)).world }
-        ensures answer { answer_in self.new result ≡ (step self.old (Event.End pool)).answer }
-        ensures sizes { sizes_of self.new ≡ sizes_of self.old }
-        ensures sent { result.sent ≡ None }
-        ensures left { result.left ≡ None }
+    fn take_end<'f>(&mut self, pool: u8) -> Response<'f>
+        ensures { Takes self.old (Event.End pool) self.new result }
     {
-        Taken::done_or_refused(self.end(pool))
+        Response::done_or_refused(self.end(pool))
     }
 
     // A function is reset.
     #[inline]
-    fn take_flr<'f>(&mut self, pool: u8) -> Taken<'f>
-        ensures world { self.new ≡ (step self.old (Event.Flr pool)).world }
-        ensures answer { answer_in self.new result ≡ (step self.old (Event.Flr pool)).answer }
-        ensures sizes { sizes_of self.new ≡ sizes_of self.old }
-        ensures sent { result.sent ≡ None }
-        ensures left { result.left ≡ None }
+    fn take_flr<'f>(&mut self, pool: u8) -> Response<'f>
+        ensures { Takes self.old (Event.Flr pool) self.new result }
     {
-        Taken::done_or_refused(self.flr(pool))
+        Response::done_or_refused(self.flr(pool))
     }
 
     // The device is reset.
     #[inline]
-    fn take_pf_reset<'f>(&mut self) -> Taken<'f>
-        ensures world { self.new ≡ (step self.old Event.PfReset).world }
-        ensures answer { answer_in self.new result ≡ (step self.old Event.PfReset).answer }
-        ensures sizes { sizes_of self.new ≡ sizes_of self.old }
-        ensures sent { result.sent ≡ None }
-        ensures left { result.left ≡ None }
+    fn take_pf_reset<'f>(&mut self) -> Response<'f>
+        ensures { Takes self.old Event.PfReset self.new result }
     {
         self.reset();
-        Taken::done_with(Messages::none())
+        Response::done_with(Messages::none())
     }
 
-    /// The answer that a [`Taken`] stands for, right after it. It is inlined, so that no answer is made for who looks at
+    /// The answer that a [`Response`] stands for, right after it. It is inlined, so that no answer is made for who looks at
     /// none.
     #[inline(always)]
-    pub fn answer(&self, taken: &Taken<'_>) -> Answer
+    pub fn answer(&self, taken: &Response<'_>) -> Answer
         ensures { result ≡ answer_in self.now taken.now }
     {
         match taken.outcome {
@@ -262,11 +202,10 @@ impl<M: GuestMem> Device<M> {
         ensures unchanged { OnErr result (self.new ≡ self.old) }
         // each function sees what it would see alone
         ensures isolated { IfOk result (λ given. (p : ℕ) → p < length self.old.functions →
-            seen_by p events.now given.items
-            ≡ lone_seen (lone_of p self.old) (keep p self.old events.now)) }
+            SeesAsAlone p self.old events.now given.items) }
         // and is left as it would be left alone
         ensures isolated_state { OnOk result ((p : ℕ) → p < length self.old.functions →
-            lone_of p self.new ≡ lone_after (lone_of p self.old) (keep p self.old events.now)) }
+            EndsAsAlone p self.old events.now self.new) }
     {
         let count = self.functions();
         prove!(count <= usize::from(PoolId::COUNT));
@@ -312,14 +251,7 @@ fn plain_reply(outcome: Outcome) -> Reply
     ensures { (bytes : Span → List ℕ) → result ≡ reply_by bytes outcome }
 {
     match outcome {
-        Outcome::Done => Reply::Done,
-        Outcome::Value(value) => Reply::Value(value),
-        Outcome::Bytes(_) => unreachable!(),
-        Outcome::Idle => Reply::Idle,
-        Outcome::More => Reply::More,
-        Outcome::Sent => Reply::Sent,
-        Outcome::Dropped => Reply::Dropped,
-        Outcome::Faulted => Reply::Faulted,
         Outcome::Refused(fault) => Reply::Refused(fault.number()),
+        other => other.with(MemBytes::new(), 0),
     }
 }

@@ -10,7 +10,7 @@ ghost use Rattle.recorder.specs.Callers.{may};
 ghost use Rattle.recorder.specs.Held.{having_asked, count_of};
 ghost use Rattle.recorder.specs.Read.{bytes_asked, bytes_told, answer_with};
 
-use device::{Answer, Device, Event, Request, Taken};
+use device::{Answer, Device, Event, Request, Response};
 use guest_memory::GuestMem;
 use recorder::{Full, Recorded, Share, Tally};
 use std::alloc::Global;
@@ -70,7 +70,7 @@ impl<M: GuestMem, L: Ledger> LockedDevice<M, L> {
         request: Request<'_>,
         frame: &'f mut FrameBuf,
         read: &mut [u8],
-    ) -> Option<Taken<'f>>
+    ) -> Option<Response<'f>>
         requires may { may share.old.caller (event_of request) ≡ true }
         requires room { bytes_asked (event_of request) ≤ length read.old }
         ensures answer { IfSome result (λ taken. (w : World)

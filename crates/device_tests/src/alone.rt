@@ -3,7 +3,7 @@ use crate::compare::{assert_equal, assert_equal_at};
 use device::{Device, MemSlice, Outcome, Queue, Request, Span};
 use guest_memory::FlatMem;
 use lone::follow::follow;
-use lone::{Given, Lone, Room, Seen, Watch};
+use lone::{Given, Lone, PoolView, Room, Seen};
 use pool_filter::{Own, Tables};
 use std::alloc::Global;
 use std::process::Abort;
@@ -56,9 +56,9 @@ fn frame_to(to: u8) -> Result<FrameBuf, Fault> {
 }
 
 // A device of two functions that is watched for pool 0.
-fn watch_pair(alloc: Global) -> Result<Watch<FlatMem>, Fail> {
+fn watch_pair(alloc: Global) -> Result<PoolView<FlatMem>, Fail> {
     let pool = PoolId::new(0).ok_or("a pool")?;
-    Ok(Watch::new(Device::new(alloc, memories(alloc, 2, 65536)?)?, pool))
+    Ok(PoolView::new(Device::new(alloc, memories(alloc, 2, 65536)?)?, pool))
 }
 
 // A function by itself with as much memory.
@@ -88,7 +88,7 @@ fn kind_of(given: Option<Given<'_>>) -> Kind {
 }
 
 // Whether a frame from the wire is left for the pool, as it is and as one of the wire.
-fn is_offered(watch: &mut Watch<FlatMem>, frame: &FrameBuf, room: &mut Room) -> bool {
+fn is_offered(watch: &mut PoolView<FlatMem>, frame: &FrameBuf, room: &mut Room) -> bool {
     match watch.step(Request::Wire(frame), room) {
         Some(Given::Offer(given, false)) => given.bytes() == frame.bytes(),
         _ => false,
@@ -262,7 +262,7 @@ fn a_function_by_itself(rt: HostRuntime) -> Result<(), Fail> {
 // An event of function 1 on the device: nothing is seen of function 0.
 fn unseen<R: Abort>(
     rt: &R,
-    watch: &mut Watch<FlatMem>,
+    watch: &mut PoolView<FlatMem>,
     lone: &mut Lone<FlatMem>,
     request: Request<'_>,
     room: &mut Room,

@@ -1,5 +1,5 @@
 //! Values from outside: calls as a host would make them, and what a second device answers.
-use device::{Device, MemSlice, Queue, Request, Taken};
+use device::{Device, MemSlice, Queue, Request, Response};
 use guest_memory::{FlatMem, GuestMem};
 use history::head::Head;
 use history::{Caller, History, Room};
@@ -47,7 +47,7 @@ fn keep<'f, R: Abort, M: GuestMem>(
     caller: Caller,
     request: Request<'_>,
     frame: &'f mut FrameBuf,
-) -> Taken<'f> {
+) -> Response<'f> {
     assert!(rt; !history.is_full());
     history.record(caller, request, device, frame)
 }

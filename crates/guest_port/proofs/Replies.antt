@@ -8,16 +8,14 @@ use Rattle.wire_frame.specs.Fault.{number_of}
 use Rattle.wire_frame.specs.declared.fault.Fault.{Fault}
 use Rattle.wire_frame.specs.declared.fault.Fault.TheVariants.{NoSuchVf, NotOpen, BadOffset, BadRange, TooLong, AlreadyOpen}
 use Rattle.vf_unit.specs.Unit.{Function, Closed, Open, size_of, is_open, bytes_at}
-use Rattle.device.specs.declared.event.Event.{Event}
+use Rattle.device.specs.Events.{Event}
 use Rattle.device.specs.declared.event.Event.TheVariants.{VfRead, VfWrite, MemRead, MemWrite, Flr}
 use Rattle.device.specs.declared.event.Answer.{Answer}
-use Rattle.device.specs.declared.event.Reply.{Reply}
-use Rattle.device.specs.declared.event.Reply.TheVariants.{Bytes, Refused}
-use Rattle.device.specs.declared.outcome.Outcome.{Outcome}
-use Rattle.device.specs.declared.outcome.Outcome.TheVariants.{Done, Value, Bytes, Idle, More, Sent, Dropped, Faulted, Refused}
+use Rattle.device.specs.Replies.{Reply, is_done}
+use Rattle.device.specs.declared.event.Reply.TheVariants.{Done, Value, Bytes, Idle, More, Sent, Dropped, Faulted, Refused}
+use Rattle.device.specs.Outcome.{Outcome, reply_by}
 use Rattle.device.specs.declared.span.Span.{Span}
-use Rattle.device.specs.Outcome.{reply_by}
-use Rattle.device.specs.Act.{opens, names_bad_offset, is_too_long, passes_end, performed, unless_refused, refusal, act, is_done}
+use Rattle.device.specs.Act.{opens, names_bad_offset, is_too_long, passes_end, performed, unless_refused, refusal, act}
 use Rattle.device.specs.World.{World, Stepped, step, function_of, own_step, flagged}
 use Rattle.guest_port.specs.Calls.{CallingPort, HasCalled, IsRefusal, IsDone, IsValue, IsRead}
 

@@ -4,12 +4,12 @@ use Rattle.std.specs.Prelude.{◌≡◌, ℕ, ◌==◌, Bool, true, false, List,
 use Rattle.wire_frame.specs.Fault.{number_of}
 use Rattle.wire_frame.specs.declared.fault.Fault.{Fault}
 use Rattle.wire_frame.specs.declared.fault.Fault.TheVariants.{HistoryFull}
-use Rattle.device.specs.declared.event.Event.{Event}
-use Rattle.device.specs.declared.event.Reply.{Reply}
+use Rattle.device.specs.Events.{Event}
+use Rattle.device.specs.Replies.{Reply}
 use Rattle.device.specs.declared.event.Reply.TheVariants.{Done, Value, Bytes, Refused}
 use Rattle.device.specs.declared.event.Answer.{Answer}
 use Rattle.history.specs.Entries.{Entry, entry}
-use Rattle.recorder.specs.Held.{Mine}
+use Rattle.recorder.specs.Held.{CallerLog}
 use Rattle.device_lock.specs.Answers.{MayAnswer}
 use Rattle.guest_port.specs.Port.{Port}
 
@@ -17,12 +17,12 @@ use Rattle.guest_port.specs.Port.{Port}
 pub record CallingPort : Type 0 where
   pub port : Port
   -- its share as it was when the port was made
-  pub made : Mine
+  pub made : CallerLog
   -- its calls, the oldest first, each with its event and its answer: those that were kept, with the refused ones
   pub calls : List Entry
 
 -- the calls of a share since it was another
-abbrev pub asked_since : Mine → Mine → List Entry
+abbrev pub asked_since : CallerLog → CallerLog → List Entry
 asked_since old new = drop (length old.asked) new.asked
 
 -- a port once it asked one more event, which got this answer

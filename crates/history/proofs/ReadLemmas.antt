@@ -2,17 +2,15 @@
 use Rattle.std.proofs.Common.{◌≡◌, ℕ, Bool, true, false, Option, Some, None, List, length, nat_lt, if◌then◌else◌, refl, ap}
 use Rattle.wire_frame.specs.declared.fault.Fault.{Fault}
 use Rattle.vf_unit.specs.Unit.{Function}
-use Rattle.device.specs.declared.event.Event.{Event}
+use Rattle.device.specs.Events.{Event}
 use Rattle.device.specs.declared.event.Event.TheVariants.{Open, End, VfRead, VfWrite, MemRead, MemWrite, Serve, Flr, PfRead, PfWrite, PfReset, Wire}
-use Rattle.device.specs.declared.event.Reply.{Reply}
-use Rattle.device.specs.declared.event.Reply.TheVariants.{Bytes}
+use Rattle.device.specs.Replies.{Reply}
+use Rattle.device.specs.declared.event.Reply.TheVariants.{Done, Value, Bytes, Idle, More, Sent, Dropped, Faulted, Refused}
 use Rattle.device.specs.declared.event.Answer.{Answer}
-use Rattle.device.specs.declared.outcome.Outcome.{Outcome}
-use Rattle.device.specs.declared.outcome.Outcome.TheVariants.{Done, Value, Bytes, Idle, More, Sent, Dropped, Faulted, Refused}
-use Rattle.device.specs.declared.taken.Taken.{Taken}
+use Rattle.device.specs.Outcome.{Outcome, reads, reply_in, answer_in}
+use Rattle.device.specs.declared.response.Response.{Response}
 use Rattle.device.specs.Act.{act, unless_refused, refusal}
 use Rattle.device.specs.World.{World, Stepped, step, function_of}
-use Rattle.device.specs.Outcome.{reads, reply_in, answer_in}
 use Rattle.history.specs.Entries.{brings}
 
 is_bytes : Reply → Bool
@@ -58,7 +56,7 @@ step_reads w (PfRead offset) is = absurd (cc)
 step_reads w (PfWrite offset x) is = absurd (cc)
 step_reads w PfReset is = absurd (cc)
 
-pub brings_or_reads : (w w' : World) (e : Event) (t : Taken) → answer_in w' t ≡ (step w e).answer → reads t.outcome ≡ true → brings e ≡ false
+pub brings_or_reads : (w w' : World) (e : Event) (t : Response) → answer_in w' t ≡ (step w e).answer → reads t.outcome ≡ true → brings e ≡ false
 brings_or_reads w w' e t same some = by (brings e) refl
   where
     by : (b : Bool) → brings e ≡ b → brings e ≡ false

@@ -5,7 +5,7 @@ use Rattle.std.proofs.Math.Seq.{drop-cons}
 use Rattle.std.proofs.lemmas.List.{map-append}
 use mathlib.Core.Logic.{◌↔◌}
 use Rattle.vf_unit.specs.Unit.{Closed, size_of}
-use Rattle.device.specs.declared.event.Event.{Event}
+use Rattle.device.specs.Events.{Event}
 use Rattle.device.specs.World.{World, step, fresh, sizes_of, answers, world_after}
 use Rattle.device.proofs.Append.{answers_append, world_after_append}
 use Rattle.history.specs.declared.caller.Caller.{Caller}

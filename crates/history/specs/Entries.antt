@@ -1,6 +1,6 @@
 -- What a history has of each call.
 use Rattle.std.specs.Prelude.{◌≡◌, ℕ, Bool, true, false, ◌&&◌, nat_le, List, [], map, slice_index_or}
-use Rattle.device.specs.declared.event.Event.{Event}
+use Rattle.device.specs.Events.{Event}
 use Rattle.device.specs.declared.event.Event.TheVariants.{MemWrite, PfReset, Wire}
 use Rattle.device.specs.declared.event.Reply.TheVariants.{Idle}
 use Rattle.device.specs.declared.event.Answer.{Answer}

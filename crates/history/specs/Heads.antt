@@ -7,39 +7,36 @@ use Rattle.wire_frame.specs.Bits.{has_bit}
 use Rattle.wire_frame.specs.Fault.{number_of}
 use Rattle.wire_frame.specs.Frame.{IsFrame}
 use Rattle.irq_causes.specs.Messages.{masks}
-use Rattle.device.specs.declared.event.Event.{Event}
+use Rattle.device.specs.Events.{Event}
 use Rattle.device.specs.declared.event.Event.TheVariants.{Open, End, VfRead, VfWrite, MemRead, MemWrite, Serve, Flr, PfRead, PfWrite, PfReset, Wire}
-use Rattle.device.specs.declared.event.Reply.{Reply}
-use Rattle.device.specs.declared.event.Reply.TheVariants.{Done, Value, Bytes, Idle, More, Sent, Dropped, Faulted, Refused}
-use Rattle.device.specs.declared.outcome.Outcome.{Outcome}
-use Rattle.device.specs.declared.outcome.Outcome.TheVariants.{Done, Value, Bytes, Idle, More, Sent, Dropped, Faulted, Refused}
+use Rattle.device.specs.declared.event.Reply.{Reply as ReplyOf}
+use Rattle.device.specs.Replies.{Reply, replied}
+use Rattle.device.specs.declared.event.Reply.TheVariants.{Bytes}
+use Rattle.device.specs.Outcome.{Outcome, reads, bytes_in}
 use Rattle.device.specs.World.{World, function_of}
-use Rattle.device.specs.Outcome.{reads, bytes_in}
-use Rattle.history.specs.declared.head.Asked.{Asked}
-use Rattle.history.specs.declared.head.Asked.TheVariants.{Open, End, VfRead, VfWrite, MemRead, MemWrite, Serve, Flr, PfRead, PfWrite, PfReset, Wire}
-use Rattle.history.specs.declared.head.Told.{Told}
-use Rattle.history.specs.declared.head.Told.TheVariants.{Done, Value, Bytes, Idle, More, Sent, Dropped, Faulted, Refused}
+use Rattle.history.specs.declared.head.EventHead.{EventHead}
+use Rattle.history.specs.declared.head.EventHead.TheVariants.{Open, End, VfRead, VfWrite, MemRead, MemWrite, Serve, Flr, PfRead, PfWrite, PfReset, Wire}
 use Rattle.history.specs.declared.head.Head.{Head}
 use Rattle.history.specs.Entries.{Entry, entry}
 
 -- ---- events and replies without their bytes
 
-abbrev pub asked_of : Event → Asked
-asked_of (Open p) = Open p
-asked_of (End p) = End p
-asked_of (VfRead p offset) = VfRead p offset
-asked_of (VfWrite p offset x) = VfWrite p offset x
-asked_of (MemRead p at count) = MemRead p count at
-asked_of (MemWrite p at bytes) = MemWrite p at
-asked_of (Serve p q) = Serve p q
-asked_of (Flr p) = Flr p
-asked_of (PfRead offset) = PfRead offset
-asked_of (PfWrite offset x) = PfWrite offset x
-asked_of PfReset = PfReset
-asked_of (Wire frame) = Wire
+abbrev pub head_of : Event → EventHead
+head_of (Open p) = Open p
+head_of (End p) = End p
+head_of (VfRead p offset) = VfRead p offset
+head_of (VfWrite p offset x) = VfWrite p offset x
+head_of (MemRead p at count) = MemRead p count at
+head_of (MemWrite p at bytes) = MemWrite p at
+head_of (Serve p q) = Serve p q
+head_of (Flr p) = Flr p
+head_of (PfRead offset) = PfRead offset
+head_of (PfWrite offset x) = PfWrite offset x
+head_of PfReset = PfReset
+head_of (Wire frame) = Wire
 
 -- the event, where these are the bytes that it brings
-abbrev pub event_with : List ℕ → Asked → Event
+abbrev pub event_with : List ℕ → EventHead → Event
 event_with bytes (Open p) = Open p
 event_with bytes (End p) = End p
 event_with bytes (VfRead p offset) = VfRead p offset
@@ -53,28 +50,16 @@ event_with bytes (PfWrite offset x) = PfWrite offset x
 event_with bytes PfReset = PfReset
 event_with bytes Wire = Wire bytes
 
-abbrev pub told_of : Outcome → Told
-told_of Done = Done
-told_of (Value x) = Value x
-told_of (Bytes span) = Bytes
-told_of Idle = Idle
-told_of More = More
-told_of Sent = Sent
-told_of Dropped = Dropped
-told_of Faulted = Faulted
-told_of (Refused fault) = Refused (number_of fault)
+-- what was replied, but for bytes
+abbrev pub ReplyKind : Type 0
+ReplyKind = ReplyOf (Unit {0}) ℕ
+
+abbrev pub kind_of : Outcome → ReplyKind
+kind_of = replied (λ _. tt) number_of
 
 -- the reply, where these are the bytes that it gives
-abbrev pub reply_with : List ℕ → Told → Reply
-reply_with bytes Done = Done
-reply_with bytes (Value x) = Value x
-reply_with bytes Bytes = Bytes bytes
-reply_with bytes Idle = Idle
-reply_with bytes More = More
-reply_with bytes Sent = Sent
-reply_with bytes Dropped = Dropped
-reply_with bytes Faulted = Faulted
-reply_with bytes (Refused n) = Refused n
+abbrev pub reply_with : List ℕ → ReplyKind → Reply
+reply_with bytes = replied (λ _. bytes) (λ number. number)
 
 -- ---- the bytes of a call
 
@@ -140,10 +125,10 @@ abbrev pub words_of : List ℕ → Head → List ℕ
 words_of pool h = part pool (h.start + h.count) (words_len h.vectors)
 
 abbrev pub entry_of : List ℕ → Head → Entry
-entry_of pool h = entry h.caller (event_with (moved_of pool h) h.asked)
-    (record { reply = reply_with (moved_of pool h) h.told; raised = messages_with h.vectors (words_of pool h) })
+entry_of pool h = entry h.caller (event_with (moved_of pool h) h.event)
+    (record { reply = reply_with (moved_of pool h) h.reply; raised = messages_with h.vectors (words_of pool h) })
 
 -- the head's bytes stand in the pool
 pub record Stands (pool : List ℕ) (h : Head) : Type 0 where
   pub inside : h.start + h.count + words_len h.vectors ≤ length pool
-  pub sound : IsSound (event_with (moved_of pool h) h.asked)
+  pub sound : IsSound (event_with (moved_of pool h) h.event)

@@ -1,16 +1,16 @@
 //! A kept call without its bytes.
 ghost use Rattle.std.specs.Prelude.{◌≡◌, ◌≤◌, length};
 ghost use Rattle.device.specs.Request.{event_of};
-ghost use Rattle.history.specs.Heads.{asked_of, told_of, brought, IsSound};
+ghost use Rattle.history.specs.Heads.{head_of, kind_of, brought, IsSound};
 
 use crate::caller::Caller;
-use device::{Outcome, Queue, Request};
+use device::{Outcome, Queue, Reply, Request};
 use irq_causes::Vectors;
 use std::marker::Model;
 
-/// What was asked, but for bytes.
+/// An event without its bytes and its frame, in 16 bytes. As an `Event<(), ()>` it would take 24, and a [`Head`] 40.
 #[derive(Clone, Copy)]
-pub enum Asked {
+pub enum EventHead {
     /// The open of a pool's function.
     Open(u8),
     /// The end of a pool's function.
@@ -37,28 +37,8 @@ pub enum Asked {
     Wire,
 }
 
-/// What was replied, but for bytes.
-#[derive(Clone, Copy)]
-pub enum Told {
-    /// The call was done, and has no value.
-    Done,
-    /// A register's value.
-    Value(u32),
-    /// Bytes of a guest's memory.
-    Bytes,
-    /// The queue owned no descriptor.
-    Idle,
-    /// A descriptor was taken, and more of the frame is to come.
-    More,
-    /// A frame went out.
-    Sent,
-    /// A frame was dropped.
-    Dropped,
-    /// The queue faulted.
-    Faulted,
-    /// The call was refused, by the fault of this number.
-    Refused(u8),
-}
+/// What was replied, but for bytes; a fault stands by its number.
+pub type ReplyKind = Reply<()>;
 
 /// A caller in one byte.
 #[derive(Clone, Copy)]
@@ -107,10 +87,10 @@ impl PackedCaller {
 /// those of the words of its messages.
 #[derive(Clone, Copy)]
 pub struct Head {
-    /// What was asked.
-    pub asked: Asked,
+    /// The event.
+    pub event: EventHead,
     /// What was replied.
-    pub told: Told,
+    pub reply: ReplyKind,
     /// Where its bytes begin.
     pub start: u32,
     /// How many bytes it brought or read.
@@ -121,24 +101,24 @@ pub struct Head {
     pub vectors: Vectors,
 }
 
-/// What was asked, but for bytes.
+/// The event that a request stands for, without its bytes and its frame.
 #[inline]
-pub fn asked_of(request: Request<'_>) -> Asked
-    ensures { result ≡ asked_of (event_of request.entry) }
+pub fn head_of(request: Request<'_>) -> EventHead
+    ensures { result ≡ head_of (event_of request.entry) }
 {
     match request {
-        Request::Open(pool) => Asked::Open(pool),
-        Request::End(pool) => Asked::End(pool),
-        Request::VfRead(pool, offset) => Asked::VfRead(pool, offset),
-        Request::VfWrite(pool, offset, value) => Asked::VfWrite(pool, offset, value),
-        Request::MemRead(pool, at, count) => Asked::MemRead(pool, count, at),
-        Request::MemWrite(pool, at, _) => Asked::MemWrite(pool, at),
-        Request::Serve(pool, queue) => Asked::Serve(pool, queue),
-        Request::Flr(pool) => Asked::Flr(pool),
-        Request::PfRead(offset) => Asked::PfRead(offset),
-        Request::PfWrite(offset, value) => Asked::PfWrite(offset, value),
-        Request::PfReset => Asked::PfReset,
-        Request::Wire(_) => Asked::Wire,
+        Request::Open(pool) => EventHead::Open(pool),
+        Request::End(pool) => EventHead::End(pool),
+        Request::VfRead(pool, offset) => EventHead::VfRead(pool, offset),
+        Request::VfWrite(pool, offset, value) => EventHead::VfWrite(pool, offset, value),
+        Request::MemRead(pool, at, count) => EventHead::MemRead(pool, count, at),
+        Request::MemWrite(pool, at, _) => EventHead::MemWrite(pool, at),
+        Request::Serve(pool, queue) => EventHead::Serve(pool, queue),
+        Request::Flr(pool) => EventHead::Flr(pool),
+        Request::PfRead(offset) => EventHead::PfRead(offset),
+        Request::PfWrite(offset, value) => EventHead::PfWrite(offset, value),
+        Request::PfReset => EventHead::PfReset,
+        Request::Wire(_) => EventHead::Wire,
     }
 }
 
@@ -158,18 +138,11 @@ pub fn brought<'a>(request: Request<'a>) -> &'a [u8]
 
 /// What was replied, but for bytes.
 #[inline]
-pub fn told_of(outcome: Outcome) -> Told
-    ensures { result ≡ told_of outcome }
+pub fn kind_of(outcome: Outcome) -> ReplyKind
+    ensures { result ≡ kind_of outcome }
 {
     match outcome {
-        Outcome::Done => Told::Done,
-        Outcome::Value(value) => Told::Value(value),
-        Outcome::Bytes(_) => Told::Bytes,
-        Outcome::Idle => Told::Idle,
-        Outcome::More => Told::More,
-        Outcome::Sent => Told::Sent,
-        Outcome::Dropped => Told::Dropped,
-        Outcome::Faulted => Told::Faulted,
-        Outcome::Refused(fault) => Told::Refused(fault.number()),
+        Outcome::Refused(fault) => Reply::Refused(fault.number()),
+        other => other.with((), 0),
     }
 }

@@ -7,10 +7,10 @@ ghost use Rattle.history.specs.Entries.{entry, entry_at, is_cap, brings};
 
 use crate::bytes::{append_moved, part};
 use crate::caller::Caller;
-use crate::head::{Asked, Head, PackedCaller, asked_of, told_of};
+use crate::head::{EventHead, Head, PackedCaller, head_of, kind_of};
 use crate::reply::is_reply;
 use crate::words::{append_words, are_messages, words_len};
-use device::{Device, MemSlice, Request, Taken};
+use device::{Device, MemSlice, Request, Response};
 use guest_memory::GuestMem;
 use std::alloc::{AllocError, Global};
 use std::marker::Model;
@@ -102,7 +102,7 @@ impl History {
         caller: Caller,
         request: Request<'_>,
         device: &Device<M>,
-        taken: &Taken<'_>,
+        taken: &Response<'_>,
     )
         requires room { length self.old.entries < self.old.cap }
         requires one { reads taken.now.outcome ≡ true → brings (event_of request) ≡ false }
@@ -114,8 +114,8 @@ impl History {
         let count = append_moved(&mut self.pool, request, device, taken.outcome);
         let vectors = append_words(&mut self.pool, taken.messages.words());
         self.heads.push_reserved(Head {
-            asked: asked_of(request),
-            told: told_of(taken.outcome),
+            event: head_of(request),
+            reply: kind_of(taken.outcome),
             start,
             count,
             caller: PackedCaller::new(caller),
@@ -150,19 +150,19 @@ impl History {
         let head = self.heads[index];
         let start = head.start as usize;
         let bytes = part(self.pool.as_slice(), start, usize::from(head.count));
-        match head.asked {
-            Asked::Open(pool) => Request::Open(pool),
-            Asked::End(pool) => Request::End(pool),
-            Asked::VfRead(pool, offset) => Request::VfRead(pool, offset),
-            Asked::VfWrite(pool, offset, value) => Request::VfWrite(pool, offset, value),
-            Asked::MemRead(pool, count, at) => Request::MemRead(pool, at, count),
-            Asked::MemWrite(pool, at) => Request::MemWrite(pool, at, written(bytes)),
-            Asked::Serve(pool, queue) => Request::Serve(pool, queue),
-            Asked::Flr(pool) => Request::Flr(pool),
-            Asked::PfRead(offset) => Request::PfRead(offset),
-            Asked::PfWrite(offset, value) => Request::PfWrite(offset, value),
-            Asked::PfReset => Request::PfReset,
-            Asked::Wire => Request::Wire(laid(bytes, frame)),
+        match head.event {
+            EventHead::Open(pool) => Request::Open(pool),
+            EventHead::End(pool) => Request::End(pool),
+            EventHead::VfRead(pool, offset) => Request::VfRead(pool, offset),
+            EventHead::VfWrite(pool, offset, value) => Request::VfWrite(pool, offset, value),
+            EventHead::MemRead(pool, count, at) => Request::MemRead(pool, at, count),
+            EventHead::MemWrite(pool, at) => Request::MemWrite(pool, at, written(bytes)),
+            EventHead::Serve(pool, queue) => Request::Serve(pool, queue),
+            EventHead::Flr(pool) => Request::Flr(pool),
+            EventHead::PfRead(offset) => Request::PfRead(offset),
+            EventHead::PfWrite(offset, value) => Request::PfWrite(offset, value),
+            EventHead::PfReset => Request::PfReset,
+            EventHead::Wire => Request::Wire(laid(bytes, frame)),
         }
     }
 
@@ -172,7 +172,7 @@ impl History {
         &self,
         index: usize,
         device: &Device<M>,
-        taken: &Taken<'_>,
+        taken: &Response<'_>,
         room: &mut [u8; 2048],
     ) -> bool
         requires { index < length self.now.entries }
@@ -184,7 +184,7 @@ impl History {
         let (start, count) = (head.start as usize, usize::from(head.count));
         let bytes = part(pool, start, count);
         let words = part(pool, start + count, words_len(head.vectors));
-        let same_reply = is_reply(head.told, bytes, device, taken.outcome, room);
+        let same_reply = is_reply(head.reply, bytes, device, taken.outcome, room);
         let same_messages = are_messages(taken.messages, head.vectors, words);
         same_reply && same_messages
     }

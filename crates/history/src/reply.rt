@@ -4,32 +4,26 @@ ghost use Rattle.device.specs.World.{function_of};
 ghost use Rattle.device.specs.Outcome.{bytes_in, reply_in};
 ghost use Rattle.history.specs.Heads.{reply_with};
 
-use crate::head::Told;
+use crate::head::{ReplyKind, kind_of};
 use device::{Device, Outcome, Span};
 use guest_memory::GuestMem;
 
 /// Whether the reply of a device to its last event is this one, of these bytes.
 #[inline]
 pub fn is_reply<M: GuestMem>(
-    told: Told,
+    kind: ReplyKind,
     bytes: &[u8],
     device: &Device<M>,
     outcome: Outcome,
     room: &mut [u8; 2048],
 ) -> bool
-    ensures { IsTrue result ↔ (reply_in device.now outcome ≡ reply_with bytes.now told) }
+    ensures { IsTrue result ↔ (reply_in device.now outcome ≡ reply_with bytes.now kind) }
 {
-    match (told, outcome) {
-        (Told::Done, Outcome::Done) => true,
-        (Told::Value(x), Outcome::Value(y)) => x == y,
-        (Told::Bytes, Outcome::Bytes(span)) => are_read(bytes, device, span, room),
-        (Told::Idle, Outcome::Idle) => true,
-        (Told::More, Outcome::More) => true,
-        (Told::Sent, Outcome::Sent) => true,
-        (Told::Dropped, Outcome::Dropped) => true,
-        (Told::Faulted, Outcome::Faulted) => true,
-        (Told::Refused(number), Outcome::Refused(fault)) => number == fault.number(),
-        _ => false,
+    match outcome {
+        Outcome::Bytes(span) => {
+            matches!(kind, ReplyKind::Bytes(_)) && are_read(bytes, device, span, room)
+        }
+        _ => kind == kind_of(outcome),
     }
 }
 

@@ -1,6 +1,6 @@
 -- A lone function that is as its pool's part of a device stays so, and shows what the device shows of the pool.
 use Rattle.std.proofs.Common.{◌≡◌, ◌<◌, ◌≤◌, Option, Some, None, sym, ap, ◌∙◌, arith, length}
-use Rattle.device.specs.declared.event.Event.{Event}
+use Rattle.device.specs.Events.{Event}
 use Rattle.device.specs.World.{step}
 use Rattle.device.specs.Lone.{Item, Observation, Lone, lone_of, kept, seen_of}
 use Rattle.device.proofs.Steps.{Follows, step_follows}

@@ -8,7 +8,7 @@ ghost use Rattle.lone.specs.Kept.{observation_of, moved_by_kept, shown_by_kept, 
 
 use crate::item::{Room, Seen};
 use crate::lone::Lone;
-use crate::watch::Watch;
+use crate::pool_view::PoolView;
 use device::Request;
 use guest_memory::GuestMem;
 
@@ -18,7 +18,7 @@ use guest_memory::GuestMem;
 /// A function that is as the pool's part of the device stays so, and what is seen of it is what the device shows of the
 /// pool: the isolation law, of the code on either side of it.
 pub fn follow<M: GuestMem>(
-    watch: &mut Watch<M>,
+    watch: &mut PoolView<M>,
     lone: &mut Lone<M>,
     request: Request<'_>,
     room: &mut Room,
@@ -45,7 +45,7 @@ pub fn follow<M: GuestMem>(
 
 // The same, but for what the two have in common.
 fn hand_on<M: GuestMem>(
-    watch: &mut Watch<M>,
+    watch: &mut PoolView<M>,
     lone: &mut Lone<M>,
     request: Request<'_>,
     room: &mut Room,

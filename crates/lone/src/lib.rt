@@ -1,6 +1,6 @@
 //! A virtual function alone: what a device keeps for it, and the function by itself that is given no more than that.
 //!
-//! A [`Watch`] steps a device and gives at once what each event leaves for one pool: an event of the pool's own, own
+//! A [`PoolView`] steps a device and gives at once what each event leaves for one pool: an event of the pool's own, own
 //! settings that a write changed, that the device was reset, or a frame that the pool's filters accept or that falls to it.
 //! A [`Lone`] function is one unit with own settings: no other pool, no table, no switch. It takes these items and tells
 //! what is seen of it. That a run shows the pool the same is what `device` promises of its runs; here it is promised that
@@ -11,8 +11,8 @@ pub mod follow;
 pub mod item;
 pub mod laws;
 pub mod lone;
-pub mod watch;
+pub mod pool_view;
 
 pub use item::{Given, Room, Seen};
 pub use lone::Lone;
-pub use watch::Watch;
+pub use pool_view::PoolView;

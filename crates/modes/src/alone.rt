@@ -10,10 +10,10 @@ ghost use Rattle.modes.specs.Faults.{is_late};
 ghost use Rattle.modes.specs.Program.{alone_of, device_of};
 
 use crate::fault::Fault;
-use crate::making::{is_of_size, make_device, make_lone, make_room, make_watch, put_away};
+use crate::making::{drop_boxed, is_of_size, make_device, make_lone, make_room, make_watch};
 use guest_memory::GuestMem;
 use lone::follow::follow;
-use lone::{Lone, Seen, Watch};
+use lone::{Lone, PoolView, Seen};
 use script::{Room, Script};
 use std::alloc::Global;
 use std::io::Write;
@@ -49,7 +49,7 @@ pub fn lone_function<M: GuestMem, W: Write>(
     let told = perform(
         alloc, limit, memory, &mut watch, pool, script, output, writer,
     );
-    put_away(watch);
+    drop_boxed(watch);
     told
 }
 
@@ -59,7 +59,7 @@ fn perform<M: GuestMem, W: Write>(
     alloc: Global,
     limit: FrameLimit,
     memory: M,
-    watch: &mut Watch<M>,
+    watch: &mut PoolView<M>,
     pool: PoolId,
     script: &Script,
     output: &mut Output,
@@ -76,14 +76,14 @@ fn perform<M: GuestMem, W: Write>(
 {
     let mut lone = make_lone(alloc, memory, limit)?;
     let told = observe(alloc, watch, &mut lone, pool, script, output, writer);
-    put_away(lone);
+    drop_boxed(lone);
     told
 }
 
 // Makes the room for the events, and gives them to the watched device and what is seen of the lone function to the output.
 fn observe<M: GuestMem, W: Write>(
     alloc: Global,
-    watch: &mut Watch<M>,
+    watch: &mut PoolView<M>,
     lone: &mut Lone<M>,
     pool: PoolId,
     script: &Script,
@@ -99,7 +99,7 @@ fn observe<M: GuestMem, W: Write>(
 {
     let mut room = make_room(alloc)?;
     let told = observations(watch, lone, pool, script, &mut room, output, writer);
-    put_away(room);
+    drop_boxed(room);
     Ok(told?)
 }
 
@@ -107,7 +107,7 @@ fn observe<M: GuestMem, W: Write>(
 // to the output.
 #[inline(never)]
 fn observations<M: GuestMem, W: Write>(
-    watch: &mut Watch<M>,
+    watch: &mut PoolView<M>,
     lone: &mut Lone<M>,
     pool: PoolId,
     script: &Script,

@@ -12,7 +12,7 @@ ghost use Rattle.modes.specs.Program.{device_of, text_of, BeganToWrite, Says, St
 use crate::alone::lone_function;
 use crate::fault::Fault;
 use crate::keep::keep;
-use crate::making::put_away;
+use crate::making::drop_boxed;
 use crate::mode::{Mode, Task};
 use crate::run::run;
 use guest_memory::{FlatMem, GuestMem};
@@ -159,6 +159,6 @@ fn run_and_end<M: GuestMem, W: Write>(
         (output.old ++ run_text (device_of script.now.device) script.now.events)) }
     ensures late { IfErr result (λ e. is_late e ≡ true) }
 {
-    put_away(run(alloc, script, memories, output, writer)?);
+    drop_boxed(run(alloc, script, memories, output, writer)?);
     Ok(())
 }

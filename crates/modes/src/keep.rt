@@ -9,9 +9,9 @@ ghost use Rattle.modes.specs.Faults.{is_late};
 ghost use Rattle.modes.specs.Program.{device_of};
 
 use crate::fault::Fault;
-use crate::making::{make_device, make_room, make_watch, put_away};
+use crate::making::{drop_boxed, make_device, make_room, make_watch};
 use guest_memory::GuestMem;
-use lone::{Given, Watch};
+use lone::{Given, PoolView};
 use script::{Room, Script};
 use std::alloc::Global;
 use std::io::Write;
@@ -38,14 +38,14 @@ pub fn keep<M: GuestMem, W: Write>(
     let device = make_device(alloc, script.shape(), memories)?;
     let mut watch = make_watch(alloc, device, pool)?;
     let told = perform(alloc, &mut watch, script, output, writer);
-    put_away(watch);
+    drop_boxed(watch);
     told
 }
 
 // Makes the room for the events, and gives them to the watched device and what they leave to the output.
 fn perform<M: GuestMem, W: Write>(
     alloc: Global,
-    watch: &mut Watch<M>,
+    watch: &mut PoolView<M>,
     script: &Script,
     output: &mut Output,
     writer: &mut W,
@@ -58,14 +58,14 @@ fn perform<M: GuestMem, W: Write>(
 {
     let mut room = make_room(alloc)?;
     let told = items(watch, script, &mut room, output, writer);
-    put_away(room);
+    drop_boxed(room);
     Ok(told?)
 }
 
 // Gives the events to the watched device, and the lines of what they leave to the output.
 #[inline(never)]
 fn items<M: GuestMem, W: Write>(
-    watch: &mut Watch<M>,
+    watch: &mut PoolView<M>,
     script: &Script,
     room: &mut Room,
     output: &mut Output,

@@ -16,5 +16,5 @@ pub mod run;
 pub mod status;
 
 pub use fault::Fault;
-pub use making::{make_device, put_away};
+pub use making::{drop_boxed, make_device};
 pub use mode::{Command, Mode};

@@ -9,7 +9,7 @@ ghost use Rattle.modes.specs.Program.{device_of};
 use crate::fault::Fault;
 use device::Device;
 use guest_memory::GuestMem;
-use lone::{Lone, Watch};
+use lone::{Lone, PoolView};
 use script::{Room, Shape};
 use std::alloc::{AllocError, Global};
 use wire_frame::{FrameLimit, PoolId};
@@ -57,7 +57,7 @@ pub fn is_of_size<M: GuestMem>(memory: &M, size: u64) -> bool
 
 /// Ends what is in a box. For that it is moved to the stack, where whoever calls this has no room for it then.
 #[inline(never)]
-pub fn put_away<T: Drop>(boxed: Box<T>) {
+pub fn drop_boxed<T: Drop>(boxed: Box<T>) {
     let _ = boxed;
 }
 
@@ -73,11 +73,11 @@ pub fn make_watch<M: GuestMem>(
     alloc: Global,
     device: Box<Device<M>>,
     pool: PoolId,
-) -> Result<Box<Watch<M>>, Fault>
+) -> Result<Box<PoolView<M>>, Fault>
     ensures ok { IfOk result (λ w. w.value ≡ record { world = device.value; pool = pool }) }
     ensures err { IfErr result (λ e. is_late e ≡ true) }
 {
-    Ok(Box::new(alloc, Watch::new(Box::into_inner(device), pool))?)
+    Ok(Box::new(alloc, PoolView::new(Box::into_inner(device), pool))?)
 }
 
 /// A lone function.

@@ -8,7 +8,7 @@ ghost use Rattle.modes.specs.Isolation.{AreLeftAsAlone, SentIsolated};
 ghost use Rattle.modes.specs.Program.{device_of};
 
 use crate::fault::Fault;
-use crate::making::{make_device, make_room, put_away};
+use crate::making::{drop_boxed, make_device, make_room};
 use device::Device;
 use guest_memory::GuestMem;
 use script::{Room, Script};
@@ -50,7 +50,7 @@ pub fn run<M: GuestMem, W: Write>(
     match told {
         Ok(()) => Ok(device),
         Err(fault) => {
-            put_away(device);
+            drop_boxed(device);
             Err(fault)
         }
     }
@@ -73,7 +73,7 @@ fn perform<M: GuestMem, W: Write>(
 {
     let mut room = make_room(alloc)?;
     let told = answers(device, script, &mut room, output, writer);
-    put_away(room);
+    drop_boxed(room);
     told?;
     Ok(frames(device, output, writer)?)
 }

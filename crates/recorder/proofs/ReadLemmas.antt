@@ -13,16 +13,14 @@ use Rattle.irq_causes.specs.Causes.{Change}
 use Rattle.vf_unit.specs.Unit.{Function, Closed, Open, size_of, is_open, bytes_at, serviced, service_outcome}
 use Rattle.pool_filter.specs.Own.{OwnSettings, own, port_vlan_of}
 use Rattle.anti_spoof.specs.Permitted.{permitted}
-use Rattle.device.specs.declared.event.Event.{Event}
+use Rattle.device.specs.Events.{Event}
 use Rattle.device.specs.declared.event.Event.TheVariants.{Open, End, VfRead, VfWrite, MemRead, MemWrite, Serve, Flr, PfRead, PfWrite, PfReset, Wire}
-use Rattle.device.specs.declared.event.Reply.{Reply}
-use Rattle.device.specs.declared.event.Reply.TheVariants.{Bytes}
+use Rattle.device.specs.Replies.{Reply, is_done}
+use Rattle.device.specs.declared.event.Reply.TheVariants.{Done, Value, Bytes, Idle, More, Sent, Dropped, Faulted, Refused}
 use Rattle.device.specs.declared.event.Answer.{Answer}
-use Rattle.device.specs.declared.outcome.Outcome.{Outcome}
-use Rattle.device.specs.declared.outcome.Outcome.TheVariants.{Done, Value, Bytes, Idle, More, Sent, Dropped, Faulted, Refused}
-use Rattle.device.specs.declared.taken.Taken.{Taken}
-use Rattle.device.specs.Act.{Service, act, performed, unless_refused, refusal, serve, unserved, concluded, is_done, is_bad_offset, opens, passes_end}
-use Rattle.device.specs.Outcome.{reply_in, answer_in}
+use Rattle.device.specs.Outcome.{Outcome, reply_in, answer_in}
+use Rattle.device.specs.declared.response.Response.{Response}
+use Rattle.device.specs.Act.{Service, act, performed, unless_refused, refusal, serve, unserved, concluded, is_bad_offset, opens, passes_end}
 use Rattle.device.specs.World.{World, Stepped, step, own_step, function_of, served, service, flagged, refused}
 use Rattle.recorder.specs.Read.{bytes_asked, bytes_told}
 
@@ -115,7 +113,7 @@ unfolding serve count_of
 serve_len limit o (Closed size) q = refl
 serve_len limit o (Open s) q = by o.may_transmit
   where
-    by : (may : Bool) → count_of (if may then concluded o (serviced limit (port_vlan_of o.port_vlan) (Open s) q) (service_outcome limit (port_vlan_of o.port_vlan) (Open s) q) else unserved (Open s) Reply.Idle).reply ≡ 0
+    by : (may : Bool) → count_of (if may then concluded o (serviced limit (port_vlan_of o.port_vlan) (Open s) q) (service_outcome limit (port_vlan_of o.port_vlan) (Open s) q) else unserved (Open s) Idle).reply ≡ 0
     by true = concluded_len o _ (service_outcome limit (port_vlan_of o.port_vlan) (Open s) q)
     by false = refl
 
@@ -147,6 +145,6 @@ step_len w (PfWrite offset x) = either (is_bad_offset 0x20000 offset) _ _ 0 (ome
 step_len w PfReset = omega arith
 step_len w (Wire frame) = either (nat_lt w.limit (length frame)) _ _ 0 (omega arith) (omega arith)
 
-pub room_is_enough : (w w' : World) (e : Event) (t : Taken) (room : ℕ) → answer_in w' t ≡ (step w e).answer → bytes_asked e ≤ room → bytes_told t.outcome ≤ room
+pub room_is_enough : (w w' : World) (e : Event) (t : Response) (room : ℕ) → answer_in w' t ≡ (step w e).answer → bytes_asked e ≤ room → bytes_told t.outcome ≤ room
 room_is_enough w w' e t room same enough =
     omega (arith, told w' t.outcome, ap (λ (a : Answer). count_of a.reply) same, step_len w e, enough)

@@ -1,6 +1,6 @@
 -- Which caller may make which event.
 use Rattle.std.specs.Prelude.{ℕ, Bool, true, false, ◌==◌}
-use Rattle.device.specs.declared.event.Event.{Event}
+use Rattle.device.specs.Events.{Event}
 use Rattle.device.specs.declared.event.Event.TheVariants.{VfRead, VfWrite, MemRead, MemWrite, Flr, PfRead, PfWrite, PfReset, Wire}
 use Rattle.history.specs.declared.caller.Caller.{Caller}
 use Rattle.history.specs.declared.caller.Caller.TheVariants.{Port, Driver, Pump, Service}

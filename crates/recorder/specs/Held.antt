@@ -1,8 +1,10 @@
 -- What contracts see of a recorded device, and of a caller's share in it.
 use Rattle.std.specs.Prelude.{◌≡◌, ℕ, ◌+◌, ◌-◌, ◌<◌, Bool, List, [], ◌∷◌, ◌++◌, length, sum, slice_index, Option, Some, None, slice_get}
-use Rattle.device.specs.declared.event.Event.{Event}
+use Rattle.device.specs.Events.{Event}
 use Rattle.device.specs.declared.event.Answer.{Answer}
+use Rattle.device.specs.declared.response.Response.{Response}
 use Rattle.device.specs.World.{World, step}
+use Rattle.device.specs.Takes.{Takes}
 use Rattle.irq_line.specs.Line.{DeviceEnd, raised}
 use Rattle.history.specs.declared.caller.Caller.{Caller}
 use Rattle.history.specs.declared.caller.Caller.TheVariants.{Port}
@@ -34,37 +36,37 @@ abbrev pub folded_raises : ℕ → ℕ → Held → ℕ
 folded_raises p v h = raised p v h.line.raises - kept_raises p v h.kept
 
 -- a caller, and its calls, the oldest first: those that were kept, each with its event and its answer
-pub record Mine : Type 0 where
+pub record CallerLog : Type 0 where
   pub caller : Caller
   pub asked : List Entry
 
 -- how many calls it made
-abbrev pub count_of : Mine → ℕ
+abbrev pub count_of : CallerLog → ℕ
 count_of m = length m.asked
 
-abbrev pub unused : Caller → Mine
+abbrev pub unused : Caller → CallerLog
 unused c = record { caller = c; asked = [] }
 
 -- what is left of the ports' shares stands at the places of their pools
-abbrev pub AreOfPools : List (Option Mine) → Type 0
-AreOfPools ports = (p : ℕ) (m : Mine) → slice_get ports p ≡ Some (Some m) → m.caller ≡ Port p
+abbrev pub AreOfPools : List (Option CallerLog) → Type 0
+AreOfPools ports = (p : ℕ) (m : CallerLog) → slice_get ports p ≡ Some (Some m) → m.caller ≡ Port p
 
 -- what is left of them, in the order of the pools
-abbrev pub left_of : List (Option Mine) → List Mine
+abbrev pub left_of : List (Option CallerLog) → List CallerLog
 left_of [] = []
 left_of (None ∷ ports) = left_of ports
 left_of (Some m ∷ ports) = m ∷ left_of ports
 
 -- a share with calls behind its own
-abbrev pub having_calls : List Entry → Mine → Mine
+abbrev pub having_calls : List Entry → CallerLog → CallerLog
 having_calls calls m = record { caller = m.caller; asked = m.asked ++ calls }
 
 -- a share once it asked one more event, which got this answer
-abbrev pub having_asked : Event → Answer → Mine → Mine
+abbrev pub having_asked : Event → Answer → CallerLog → CallerLog
 having_asked event answer m = record { caller = m.caller; asked = m.asked ++ entry m.caller event answer ∷ [] }
 
 -- a share once it asked these events more, in order, whatever each was answered
-pub record HasAsked (asked : List Event) (old new : Mine) : Type 0 where
+pub record HasAsked (asked : List Event) (old new : CallerLog) : Type 0 where
   -- the calls
   pub calls : List Entry
   -- their events are these
@@ -84,6 +86,11 @@ pub record Keeps (old : Held) (caller : Caller) (event : Event) (new : Held) : T
   pub tallies : new.tallies ≡ old.tallies
   pub line : new.line.line ≡ old.line.line
   pub folded_raises : (p v : ℕ) → p < 64 → folded_raises p v new ≡ folded_raises p v old
+
+-- the device takes the event, and the call is kept; `taken` is the answer, with the frame that was sent
+pub record Records (old : Held) (caller : Caller) (event : Event) (new : Held) (taken : Response) : Type 0 where
+  pub takes : Takes old.live event new.live taken
+  pub keeps : Keeps old caller event new
 
 -- the live world becomes the base, and no calls are kept any more: they count as folded away. Nothing is raised
 pub record Rebased (old new : Held) : Type 0 where

@@ -4,7 +4,7 @@ use Rattle.device.specs.World.{World, fresh, sizes_of}
 use Rattle.irq_line.specs.Line.{DeviceEnd}
 use Rattle.history.specs.declared.caller.Caller.TheVariants.{Port, Driver, Pump, Service}
 use Rattle.recorder.specs.declared.shares.Shares.{Shares}
-use Rattle.recorder.specs.Held.{Held, Mine, unused, left_of}
+use Rattle.recorder.specs.Held.{Held, CallerLog, unused, left_of}
 
 -- a device as it is made, for frames up to some limit, over memories of some sizes
 abbrev pub IsFresh : World → Type 0
@@ -34,5 +34,5 @@ pub record AreUnused {L : Type 0} (shares : Shares L) : Type 0 where
   pub ports : (p : ℕ) → p < 64 → slice_get shares.ports.items p ≡ Some (Some (unused (Port p)))
 
 -- the shares that were not handed out
-abbrev pub left_in : {L : Type 0} → Shares L → List Mine
+abbrev pub left_in : {L : Type 0} → Shares L → List CallerLog
 left_in shares = shares.pf ∷ shares.pump ∷ shares.service ∷ left_of shares.ports.items

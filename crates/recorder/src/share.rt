@@ -29,9 +29,9 @@ pub struct Share<L: Ledger> {
 }
 
 impl<L: Ledger> Model for Share<L> {
-    ghost use Rattle.recorder.specs.Held.{Mine};
+    ghost use Rattle.recorder.specs.Held.{CallerLog};
 
-    ghost Value = { Mine };
+    ghost Value = { CallerLog };
 
     ghost use Rattle.std.specs.Prelude.{◌≡◌, ◌%◌, ◌^◌, length};
 

@@ -6,7 +6,8 @@ use Rattle.std.proofs.Math.Nat.{mul-le-mul_left}
 use Rattle.memchr.specs.Find.{Nowhere, Passes, is_byte}
 use Rattle.std.specs.Prelude.{Result, Ok, Err, IfErr, option_and_then}
 use Rattle.script.specs.declared.fault.Refusal.{Refusal}
-use Rattle.device.specs.declared.event.Event.{Event}
+use Rattle.device.specs.Events.{Event}
+use Rattle.device.specs.declared.event.Event.TheVariants.{Open, End, VfRead, VfWrite, MemRead, MemWrite, Serve, Flr, PfRead, PfWrite}
 use Rattle.vf_unit.specs.declared.registers.Queue.{Queue}
 use Rattle.script.specs.declared.kind.Kind.TheVariants.{Open, End, VfRead, VfWrite, MemRead, MemWrite, Serve, Flr, PfRead, PfWrite}
 use Rattle.script.specs.Bytes.{bytes_of, few}
@@ -334,16 +335,16 @@ go_1 words most f not = go (one_of words) refl
         not.not number.n (record { first = a; are = is; number = number.is }))
 
 pub open_not : (limit : ℕ) (words : List (List ℕ)) → NotOne words → event_by limit Open words ≡ None
-open_not limit words not = go_1 words 0xFF (λ p. Some (Event.Open p)) not
+open_not limit words not = go_1 words 0xFF (λ p. Some (Open p)) not
 
 pub end_not : (limit : ℕ) (words : List (List ℕ)) → NotOne words → event_by limit End words ≡ None
-end_not limit words not = go_1 words 0xFF (λ p. Some (Event.End p)) not
+end_not limit words not = go_1 words 0xFF (λ p. Some (End p)) not
 
 pub flr_not : (limit : ℕ) (words : List (List ℕ)) → NotOne words → event_by limit Flr words ≡ None
-flr_not limit words not = go_1 words 0xFF (λ p. Some (Event.Flr p)) not
+flr_not limit words not = go_1 words 0xFF (λ p. Some (Flr p)) not
 
 pub pf_read_not : (limit : ℕ) (words : List (List ℕ)) → NotOne words → event_by limit PfRead words ≡ None
-pf_read_not limit words not = go_1 words 0xFFFF_FFFF (λ at. Some (Event.PfRead at)) not
+pf_read_not limit words not = go_1 words 0xFFFF_FFFF (λ at. Some (PfRead at)) not
 
 -- two words, of which the second is read by a number in some way
 go_2 : {B D : Type 0} (words : List (List ℕ)) (most : ℕ) (read : Option ℕ → Option B) (f : ℕ → B → Option D)
@@ -360,13 +361,13 @@ go_2 {B} {D} words most read f is_number not = go (two_of words) refl
         not.not first.n second.n (record { first = a; second = b; are = is; number = first.is; number_2 = second.is }))
 
 pub vf_read_not : (limit : ℕ) (words : List (List ℕ)) → NotTwo words → event_by limit VfRead words ≡ None
-vf_read_not limit words not = go_2 words 0xFF (at_most 0xFFFF_FFFF) (λ p at. Some (Event.VfRead p at)) (λ b x is. below 0xFFFF_FFFF b x is) not
+vf_read_not limit words not = go_2 words 0xFF (at_most 0xFFFF_FFFF) (λ p at. Some (VfRead p at)) (λ b x is. below 0xFFFF_FFFF b x is) not
 
 pub serve_not : (limit : ℕ) (words : List (List ℕ)) → NotTwo words → event_by limit Serve words ≡ None
-serve_not limit words not = go_2 words 0xFF (λ x. queue_by (at_most 1 x)) (λ p q. Some (Event.Serve p q)) queue_below not
+serve_not limit words not = go_2 words 0xFF (λ x. queue_by (at_most 1 x)) (λ p q. Some (Serve p q)) queue_below not
 
 pub pf_write_not : (limit : ℕ) (words : List (List ℕ)) → NotTwo words → event_by limit PfWrite words ≡ None
-pf_write_not limit words not = go_2 words 0xFFFF_FFFF (at_most 0xFFFF_FFFF) (λ at x. Some (Event.PfWrite at x)) (λ b x is. below 0xFFFF_FFFF b x is) not
+pf_write_not limit words not = go_2 words 0xFFFF_FFFF (at_most 0xFFFF_FFFF) (λ at x. Some (PfWrite at x)) (λ b x is. below 0xFFFF_FFFF b x is) not
 
 -- three words, of which the second and the third are read by numbers in some way
 go_3 : {B C D : Type 0} (words : List (List ℕ)) (read : Option ℕ → Option B) (read_2 : Option ℕ → Option C) (f : ℕ → B → C → Option D)
@@ -387,11 +388,11 @@ go_3 {B} {C} {D} words read read_2 f is_number is_number_2 not = go (three_of wo
         (record { first = a; second = b; third = c; are = is; number = first.is; number_2 = second.is; number_3 = third.is }))
 
 pub vf_write_not : (limit : ℕ) (words : List (List ℕ)) → NotThree words → event_by limit VfWrite words ≡ None
-vf_write_not limit words not = go_3 words (at_most 0xFFFF_FFFF) (at_most 0xFFFF_FFFF) (λ p at x. Some (Event.VfWrite p at x))
+vf_write_not limit words not = go_3 words (at_most 0xFFFF_FFFF) (at_most 0xFFFF_FFFF) (λ p at x. Some (VfWrite p at x))
     (λ b x is. below 0xFFFF_FFFF b x is) (λ b x is. below 0xFFFF_FFFF b x is) not
 
 pub mem_read_not : (limit : ℕ) (words : List (List ℕ)) → NotThree words → event_by limit MemRead words ≡ None
-mem_read_not limit words not = go_3 words (λ x. x) (at_most 0xFFFF) (λ p at n. Some (Event.MemRead p at n))
+mem_read_not limit words not = go_3 words (λ x. x) (at_most 0xFFFF) (λ p at n. Some (MemRead p at n))
     (λ b x is. record { n = b; is = is }) (λ b x is. below 0xFFFF b x is) not
 
 -- two numbers, and bytes after them
@@ -400,11 +401,11 @@ mem_write_not limit words not = go (three_of words) refl
   where
     go : (r : Option (List ℕ × (List ℕ × List ℕ))) → three_of words ≡ r
         → option_and_then (λ ws. option_and_then (λ p. option_and_then (λ at.
-        option_and_then (λ read. option_and_then (λ bytes. Some (Event.MemWrite p at bytes)) (few 2048 read)) (bytes_of (ws.1.1)))
+        option_and_then (λ read. option_and_then (λ bytes. Some (MemWrite p at bytes)) (few 2048 read)) (bytes_of (ws.1.1)))
         (number_of (ws.1.0))) (at_most 0xFF (number_of (ws.0)))) r ≡ None
     go None is = refl
     go (Some (a, (b, c))) is = chain_2 (at_most 0xFF (number_of a)) (number_of b)
-        (λ p at. option_and_then (λ read. option_and_then (λ bytes. Some (Event.MemWrite p at bytes)) (few 2048 read)) (bytes_of c)) (λ m n one two.
+        (λ p at. option_and_then (λ read. option_and_then (λ bytes. Some (MemWrite p at bytes)) (few 2048 read)) (bytes_of c)) (λ m n one two.
         let first = below 0xFF m (number_of a) one in
         not.not first.n n c (record { first = a; second = b; are = is; number = first.is; number_2 = two }))
 

@@ -4,13 +4,12 @@ use Rattle.std.specs.List.{All}
 use Rattle.std.proofs.lemmas.List.{map-append, take-append-le, drop-append-le, take-append-drop}
 use Rattle.std.proofs.lemmas.List.Elements.{All-head, All-tail, All-weaker, All-push}
 use Rattle.wire_frame.specs.Frame.{IsFrame}
-use Rattle.device.specs.declared.event.Event.{Event}
-use Rattle.script.specs.declared.record.Record.{Record}
-use Rattle.script.specs.declared.record.Record.TheVariants.{MemWrite, Wire}
+use Rattle.device.specs.Events.{Event}
+use Rattle.device.specs.declared.event.Event.TheVariants.{MemWrite, Wire}
 use Rattle.script.specs.declared.store.Span.{Span}
 use Rattle.script.specs.Bytes.{bytes_of}
 use Rattle.script.specs.Store.{Grows, Lies, bytes_at, or_none, part}
-use Rattle.script.specs.Records.{Fits, event_at}
+use Rattle.script.specs.Records.{Record, Fits, event_at}
 
 -- a list that grew is the old one and more
 longer : {A : Type 0} (xs ys : List A) → take (length xs) ys ≡ xs → ys ≡ xs ++ drop (length xs) ys
@@ -41,8 +40,8 @@ lies_still old new s grown lies =
     }
 
 event_stays : (old new : List ℕ) (r : Record) → Grows old new → Fits old r → event_at new r ≡ event_at old r
-event_stays old new (MemWrite p at span) grown fits = ap (λ (bytes : List ℕ). Event.MemWrite p at bytes) (bytes_stay old new span grown fits.0)
-event_stays old new (Wire span) grown fits = ap (λ (bytes : List ℕ). Event.Wire bytes) (bytes_stay old new span grown fits.0)
+event_stays old new (MemWrite p at span) grown fits = ap (λ (bytes : List ℕ). MemWrite p at bytes) (bytes_stay old new span grown fits.0)
+event_stays old new (Wire span) grown fits = ap (λ (bytes : List ℕ). Wire bytes) (bytes_stay old new span grown fits.0)
 event_stays old new r grown fits = refl
 
 fits_still : (old new : List ℕ) → Grows old new → (r : Record) → Fits old r → Fits new r

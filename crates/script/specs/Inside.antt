@@ -1,7 +1,7 @@
 -- What the events of a script are seen as, and what is true of their fields.
 use Rattle.std.specs.Prelude.{List, map}
 use Rattle.std.specs.List.{All}
-use Rattle.device.specs.declared.event.Event.{Event}
+use Rattle.device.specs.Events.{Event}
 use Rattle.script.specs.declared.events.Events.TheInside.{Inside}
 use Rattle.script.specs.Records.{Fits, event_at}
 

@@ -1,5 +1,5 @@
 //! The events of a script, kept in few bytes.
-ghost use Rattle.std.specs.Prelude.{◌≡◌, ◌<◌, ◌≤◌, ◌++◌, ◌∷◌, [], length, slice_index_or, IfErr, OnOk, OnErr, Some, None};
+ghost use Rattle.std.specs.Prelude.{◌≡◌, ◌<◌, ◌≤◌, [], length, slice_index_or, IfErr, OnOk, OnErr, Some, None};
 ghost use Rattle.wire_frame.specs.Frame.{IsFrame};
 ghost use Rattle.device.specs.Request.{event_of};
 ghost use Rattle.device.specs.declared.event.Event.TheVariants.{PfReset};
@@ -7,7 +7,7 @@ ghost use Rattle.script.specs.Lines.{event_by, Says};
 
 use crate::fault::Refusal;
 use crate::kind::Kind;
-use crate::record::Record;
+use crate::record::{Record, record_of_line};
 use crate::room::Room;
 use crate::store::Store;
 use crate::words::Words;
@@ -25,7 +25,7 @@ pub struct Events {
 
 impl Model for Events {
     ghost use Rattle.std.specs.Prelude.{List};
-    ghost use Rattle.device.specs.declared.event.Event.{Event};
+    ghost use Rattle.device.specs.Events.{Event};
 
     ghost Value = { List Event };
 
@@ -69,7 +69,7 @@ impl Events {
             (λ e. e ≡ Refusal.BadLine → event_by limit kind words.entry ≡ None) }
         ensures err { OnErr result (self.new ≡ self.old) }
     {
-        let record = Record::of_line(kind, words, limit, &mut self.store, room)?;
+        let record = record_of_line(kind, words, limit, &mut self.store, room)?;
         self.records.push(record)?;
         Ok(())
     }
@@ -81,25 +81,14 @@ impl Events {
         ensures { event_of result ≡ slice_index_or self.now index PfReset }
     {
         match self.records[index] {
-            Record::Open(pool) => Request::Open(pool),
-            Record::End(pool) => Request::End(pool),
-            Record::Flr(pool) => Request::Flr(pool),
-            Record::VfRead(pool, offset) => Request::VfRead(pool, offset),
-            Record::VfWrite(pool, offset, value) => Request::VfWrite(pool, offset, value),
-            Record::MemRead(pool, at, count) => Request::MemRead(pool, at, count),
-            Record::MemWrite(pool, at, span) => Request::MemWrite(
-                pool,
-                at,
-                few(self.store.bytes(span, &mut room.bytes)),
-            ),
-            Record::Serve(pool, queue) => Request::Serve(pool, queue),
-            Record::PfRead(offset) => Request::PfRead(offset),
-            Record::PfWrite(offset, value) => Request::PfWrite(offset, value),
-            Record::PfReset => Request::PfReset,
+            Record::MemWrite(pool, at, span) => {
+                Request::MemWrite(pool, at, few(self.store.bytes(span, &mut room.bytes)))
+            }
             Record::Wire(span) => Request::Wire(framed(
                 self.store.bytes(span, &mut room.bytes),
                 &mut room.frame,
             )),
+            record => record.with(few(&[]), &room.frame),
         }
     }
 }

@@ -12,117 +12,89 @@ use crate::kind::Kind;
 use crate::room::Room;
 use crate::store::{Span, Store};
 use crate::words::{Words, length, pool, queue, register};
-use device::Queue;
+use device::Event;
 use wire_frame::{FrameLimit, is_frame};
 
 /// The most bytes of one memory write.
 const MOST_WRITTEN: u16 = 2048;
 
-/// An event of a script. It is what the device knows as an event, but for the bytes, which stand in the script's store.
-#[derive(Clone, Copy)]
-pub enum Record {
-    /// Open a virtual function.
-    Open(u8),
-    /// Close it.
-    End(u8),
-    /// Reset it.
-    Flr(u8),
-    /// Read a register of it at an offset.
-    VfRead(u8, u32),
-    /// Write a value there.
-    VfWrite(u8, u32, u32),
-    /// Read a number of bytes of its memory at an address.
-    MemRead(u8, u64, u16),
-    /// Write bytes there.
-    MemWrite(u8, u64, Span),
-    /// Take a descriptor of a transmit queue of it.
-    Serve(u8, Queue),
-    /// Read a register of the physical function at an offset.
-    PfRead(u32),
-    /// Write a value there.
-    PfWrite(u32, u32),
-    /// Reset the device.
-    PfReset,
-    /// A frame comes from the wire.
-    Wire(Span),
+/// An event of a script, whose bytes stand in the script's store.
+pub type Record = Event<Span, Span>;
+
+/// The event of a line of this kind, by the words after its name. Its bytes are kept in `store`; frames may be as long as
+/// the limit. The bytes are read in `room`.
+pub fn record_of_line(
+    kind: Kind,
+    words: Words<'_>,
+    limit: FrameLimit,
+    store: &mut Store,
+    room: &mut Room,
+) -> Result<Record, Refusal>
+    ensures event { IfOk result
+        (λ made. event_by limit kind words.entry ≡ Some (event_at store.new made)) }
+    ensures bad { IfErr result
+        (λ e. e ≡ Refusal.BadLine → event_by limit kind words.entry ≡ None) }
+    ensures fits { IfOk result (λ made. Fits store.new made) }
+    ensures grown { Grows store.old store.new }
+{
+    Ok(match kind {
+        Kind::Wire => wire_record(words.one()?, limit, store, room)?,
+        Kind::VfRead => {
+            let (p, at) = words.two_numbers()?;
+            Record::VfRead(pool(p)?, register(at)?)
+        }
+        Kind::VfWrite => {
+            let (p, at, value) = words.three_numbers()?;
+            Record::VfWrite(pool(p)?, register(at)?, register(value)?)
+        }
+        Kind::Serve => {
+            let (p, q) = words.two_numbers()?;
+            Record::Serve(pool(p)?, queue(q)?)
+        }
+        Kind::MemRead => {
+            let (p, at, count) = words.three_numbers()?;
+            Record::MemRead(pool(p)?, at, length(count)?)
+        }
+        Kind::MemWrite => {
+            let (p, at, hex) = words.two_numbers_and_word()?;
+            let pool = pool(p)?;
+            let bytes = read(hex, MOST_WRITTEN, &mut room.bytes)?;
+            Record::MemWrite(pool, at, store.keep(hex, bytes)?)
+        }
+        Kind::PfRead => Record::PfRead(register(words.one_number()?)?),
+        Kind::PfWrite => {
+            let (at, value) = words.two_numbers()?;
+            Record::PfWrite(register(at)?, register(value)?)
+        }
+        Kind::Open => Record::Open(pool(words.one_number()?)?),
+        Kind::End => Record::End(pool(words.one_number()?)?),
+        Kind::Flr => Record::Flr(pool(words.one_number()?)?),
+        Kind::PfReset => {
+            words.none()?;
+            Record::PfReset
+        }
+    })
 }
 
-impl Record {
-    /// The event of a line of this kind, by the words after its name. Its bytes are kept in `store`; frames may be as long as
-    /// the limit. The bytes are read in `room`.
-    pub fn of_line(
-        kind: Kind,
-        words: Words<'_>,
-        limit: FrameLimit,
-        store: &mut Store,
-        room: &mut Room,
-    ) -> Result<Record, Refusal>
-        ensures event { IfOk result
-            (λ made. event_by limit kind words.entry ≡ Some (event_at store.new made)) }
-        ensures bad { IfErr result
-            (λ e. e ≡ Refusal.BadLine → event_by limit kind words.entry ≡ None) }
-        ensures fits { IfOk result (λ made. Fits store.new made) }
-        ensures grown { Grows store.old store.new }
-    {
-        Ok(match kind {
-            Kind::Wire => Record::wire(words.one()?, limit, store, room)?,
-            Kind::VfRead => {
-                let (p, at) = words.two_numbers()?;
-                Record::VfRead(pool(p)?, register(at)?)
-            }
-            Kind::VfWrite => {
-                let (p, at, value) = words.three_numbers()?;
-                Record::VfWrite(pool(p)?, register(at)?, register(value)?)
-            }
-            Kind::Serve => {
-                let (p, q) = words.two_numbers()?;
-                Record::Serve(pool(p)?, queue(q)?)
-            }
-            Kind::MemRead => {
-                let (p, at, count) = words.three_numbers()?;
-                Record::MemRead(pool(p)?, at, length(count)?)
-            }
-            Kind::MemWrite => {
-                let (p, at, hex) = words.two_numbers_and_word()?;
-                let pool = pool(p)?;
-                let bytes = read(hex, MOST_WRITTEN, &mut room.bytes)?;
-                Record::MemWrite(pool, at, store.keep(hex, bytes)?)
-            }
-            Kind::PfRead => Record::PfRead(register(words.one_number()?)?),
-            Kind::PfWrite => {
-                let (at, value) = words.two_numbers()?;
-                Record::PfWrite(register(at)?, register(value)?)
-            }
-            Kind::Open => Record::Open(pool(words.one_number()?)?),
-            Kind::End => Record::End(pool(words.one_number()?)?),
-            Kind::Flr => Record::Flr(pool(words.one_number()?)?),
-            Kind::PfReset => {
-                words.none()?;
-                Record::PfReset
-            }
-        })
+// A frame from the wire, of the bytes that a word writes.
+fn wire_record(
+    hex: &[u8],
+    limit: FrameLimit,
+    store: &mut Store,
+    room: &mut Room,
+) -> Result<Record, Refusal>
+    ensures event { IfOk result
+        (λ made. event_by limit Wire (hex.now ∷ []) ≡ Some (event_at store.new made)) }
+    ensures bad { IfErr result
+        (λ e. e ≡ Refusal.BadLine → event_by limit Wire (hex.now ∷ []) ≡ None) }
+    ensures fits { IfOk result (λ made. Fits store.new made) }
+    ensures grown { Grows store.old store.new }
+{
+    let bytes = read(hex, limit.get(), &mut room.bytes)?;
+    if !is_frame(bytes, bytes.len()) {
+        return Err(Refusal::BadLine);
     }
-
-    // A frame of the bytes that a word writes.
-    fn wire(
-        hex: &[u8],
-        limit: FrameLimit,
-        store: &mut Store,
-        room: &mut Room,
-    ) -> Result<Record, Refusal>
-        ensures event { IfOk result
-            (λ made. event_by limit Wire (hex.now ∷ []) ≡ Some (event_at store.new made)) }
-        ensures bad { IfErr result
-            (λ e. e ≡ Refusal.BadLine → event_by limit Wire (hex.now ∷ []) ≡ None) }
-        ensures fits { IfOk result (λ made. Fits store.new made) }
-        ensures grown { Grows store.old store.new }
-    {
-        let bytes = read(hex, limit.get(), &mut room.bytes)?;
-        if !is_frame(bytes, bytes.len()) {
-            return Err(Refusal::BadLine);
-        }
-        Ok(Record::Wire(store.keep(hex, bytes)?))
-    }
+    Ok(Record::Wire(store.keep(hex, bytes)?))
 }
 
 // The bytes that a word writes, at most `most`, laid out in `room`.

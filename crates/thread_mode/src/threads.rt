@@ -13,7 +13,7 @@ use guest_port::{EndNote, GuestPort, IrqPort, LockedPort};
 use irq_line::{DeviceSeat, make};
 use log::sink::Discard;
 use modes::drive::read;
-use modes::{Fault, make_device, put_away};
+use modes::{Fault, drop_boxed, make_device};
 use script::Script;
 use std::alloc::{AllocError, Global};
 use std::io::{Read, Write};
@@ -67,7 +67,7 @@ fn with_other<M: GuestMem + Send + 'static, R: Threads + Wait + Copy + Send + 's
 ) -> Result<(), Fault> {
     let mut other = make_device(alloc, script.shape(), others)?;
     let done = with_ports(rt, alloc, script, live, &mut other, writer);
-    put_away(other);
+    drop_boxed(other);
     done
 }
 

@@ -3,7 +3,7 @@ use Rattle.std.proofs.Common.{◌≡◌, ℕ, ◌<◌, ◌≤◌, List, [], ◌�
 use Rattle.std.proofs.lemmas.List.{length-map}
 use Rattle.std.specs.Prelude.{slice_index}
 use Rattle.std.specs.List.{cons_option}
-use Rattle.device.specs.declared.event.Event.{Event}
+use Rattle.device.specs.Events.{Event}
 use Rattle.device.specs.World.{World, fresh, step, answers}
 use Rattle.device.specs.Lone.{Item, Observation, Lone, lone_of, alone, kept, keep, seen_of, seen_by, moved, shown, lone_seen}
 use Rattle.device.proofs.Steps.{Follows, step_follows}

@@ -1,7 +1,7 @@
 -- What the program writes, whole: for each event its line, with the event's number.
 use Rattle.std.specs.Prelude.{ℕ, suc, List, [], ◌∷◌, ◌++◌, Option, Some, None}
 use Rattle.std.specs.List.{cons_option}
-use Rattle.device.specs.declared.event.Event.{Event}
+use Rattle.device.specs.Events.{Event}
 use Rattle.device.specs.declared.event.Answer.{Answer}
 use Rattle.device.specs.World.{World, step, answers, world_after}
 use Rattle.device.specs.Lone.{Item, Observation, Lone, kept, seen_of}

@@ -1,6 +1,6 @@
 //! The laws of the numbered lines, over the definitions alone. Their function does nothing: its contract is the laws.
 ghost use Rattle.std.specs.Prelude.{◌≡◌, ℕ, ◌<◌, ◌≤◌, List, Option, length, slice_index};
-ghost use Rattle.device.specs.declared.event.Event.{Event};
+ghost use Rattle.device.specs.Events.{Event};
 ghost use Rattle.device.specs.World.{World, fresh, answers};
 ghost use Rattle.device.specs.Lone.{Item, Lone, alone, keep, lone_seen, seen_by};
 ghost use Rattle.transcript.specs.Lines.{present, kept_by_each, seen_by_each, seen_of_each, lone_text, cut_text};

@@ -1,7 +1,7 @@
 //! Lines, made where they are held.
 ghost use Rattle.std.specs.Prelude.{◌≡◌, ◌+◌, ◌≤◌, ◌++◌, length, take};
 ghost use Rattle.hex.specs.Hex.{encode_lower};
-ghost use Rattle.device.specs.declared.outcome.Outcome.{Outcome};
+ghost use Rattle.device.specs.declared.event.Reply.{Reply};
 ghost use Rattle.device.specs.Outcome.{answer_in, reply_in, reply_of};
 ghost use Rattle.lone.specs.Kept.{item_of, observation_of};
 ghost use Rattle.transcript.specs.Limits.{MOST_HELD};
@@ -12,7 +12,7 @@ use crate::text::{
     MOST_MARK, MOST_READ, MOST_REPLY, put_bytes_reply, put_digits, put_mark, put_marks,
     put_plain_reply, put_word,
 };
-use device::{Device, Outcome, Span, Taken};
+use device::{Device, Outcome, Response, Span};
 use guest_memory::GuestMem;
 use lone::{Given, Lone, Seen};
 use wire_frame::PoolId;
@@ -37,7 +37,7 @@ impl Output {
         &mut self,
         number: u64,
         device: &Device<M>,
-        taken: &Taken<'_>,
+        taken: &Response<'_>,
     )
         requires { length self.old ≤ HELD }
         ensures text { self.new ≡ self.old ++ line number (answer_in device.now taken.now) }
@@ -116,7 +116,7 @@ fn put_read<M: GuestMem>(
     requires { at + MOST_REPLY ≤ length room.old }
     ensures end { result ≤ at + MOST_REPLY }
     ensures text { take result room.new
-        ≡ take at room.old ++ reply_text (reply_in device.now (Outcome.Bytes span)) }
+        ≡ take at room.old ++ reply_text (reply_in device.now (Reply.Bytes span)) }
 {
     let bytes = &mut read[..span.count()];
     device.read_span(span, bytes);
@@ -195,7 +195,7 @@ fn put_own_read<M: GuestMem>(
     requires { at + MOST_REPLY ≤ length room.old }
     ensures end { result ≤ at + MOST_REPLY }
     ensures text { take result room.new
-        ≡ take at room.old ++ reply_text (reply_of lone.now.function (Outcome.Bytes span)) }
+        ≡ take at room.old ++ reply_text (reply_of lone.now.function (Reply.Bytes span)) }
 {
     let bytes = &mut read[..span.count()];
     lone.read_span(span, bytes);

@@ -13,7 +13,7 @@ use crate::fault::Fault;
 use crate::lines::MOST_ITEM;
 use crate::send::send;
 use crate::text::{MOST_READ, put};
-use device::{Device, Taken};
+use device::{Device, Response};
 use guest_memory::GuestMem;
 use lone::{Given, Lone, Seen};
 use std::alloc::Global;
@@ -72,7 +72,7 @@ impl Output {
         &mut self,
         number: u64,
         device: &Device<M>,
-        taken: &Taken<'_>,
+        taken: &Response<'_>,
         writer: &mut W,
     ) -> Result<(), Fault>
         ensures ok { OnOk result

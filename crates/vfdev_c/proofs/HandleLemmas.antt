@@ -2,7 +2,7 @@
 use Rattle.std.proofs.Common.{◌≡◌, ℕ, zero, suc, Bool, true, false, ◌&&◌, nat_le, List, [], ◌∷◌, replicate, length, map, refl, sym, ap, subst, ◌∙◌, true≢false}
 use Rattle.std.specs.List.{list_all}
 use Rattle.guest_memory.specs.Memory.{is_memory_size}
-use Rattle.device.specs.declared.event.Event.{Event}
+use Rattle.device.specs.Events.{Event}
 use Rattle.device.specs.World.{World, step, is_frame_limit, is_makeable}
 use Rattle.vfdev_c.specs.Memory.{bytes_of}
 use Rattle.vfdev_c.specs.declared.memory.HostMem.{HostMem}

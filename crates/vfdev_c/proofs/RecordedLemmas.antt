@@ -5,7 +5,7 @@ use mathlib.Core.Logic.{◌↔◌}
 use Rattle.std.proofs.lemmas.Bool.Decides.{nat_tests}
 use Rattle.wire_frame.specs.declared.fault.Fault.TheVariants.{NoSuchVf}
 use Rattle.vf_unit.specs.Unit.{Function, is_open}
-use Rattle.device.specs.declared.event.Event.{Event}
+use Rattle.device.specs.Events.{Event}
 use Rattle.device.specs.declared.event.Event.TheVariants.{Open, End, VfRead, VfWrite, MemRead, MemWrite, Serve, Flr, PfRead, PfWrite, PfReset, Wire}
 use Rattle.device.specs.Act.{act, refusal}
 use Rattle.device.specs.World.{World, Stepped, step, fresh, sizes_of, function_of, acted, refused}

@@ -6,11 +6,11 @@ use Rattle.wire_frame.specs.Bits.{with_bit}
 use Rattle.wire_frame.specs.declared.fault.Fault.{Fault}
 use Rattle.wire_frame.specs.declared.fault.Fault.TheVariants.{NoSuchVf, BadOffset}
 use Rattle.vf_unit.specs.Unit.{Function}
-use Rattle.device.specs.declared.event.Event.{Event}
+use Rattle.device.specs.Events.{Event}
 use Rattle.device.specs.declared.event.Event.TheVariants.{Open, End, VfRead, VfWrite, MemRead, MemWrite, Serve, Flr, PfRead, PfWrite, PfReset, Wire}
-use Rattle.device.specs.declared.event.Reply.{Reply}
+use Rattle.device.specs.Replies.{Reply, is_done}
 use Rattle.device.specs.declared.event.Reply.TheVariants.{Done, Value}
-use Rattle.device.specs.Act.{performed, unless_refused, refusal, act, is_bad_offset, is_done}
+use Rattle.device.specs.Act.{performed, unless_refused, refusal, act, is_bad_offset}
 use Rattle.device.specs.World.{World, Stepped, function_of, acted, refused, replied, own_step, pf_word, pf_written, step}
 use Rattle.device.proofs.Arrivals.{raised_nothing}
 use Rattle.vfdev_c.specs.Handle.{is_silent}

@@ -1,6 +1,6 @@
 -- A device whose calls are kept, and the calls that are kept of it.
 use Rattle.std.specs.Prelude.{ℕ, Bool, nat_le, nat_eq, List, [], ◌∷◌, ◌++◌, length, if◌then◌else◌}
-use Rattle.device.specs.declared.event.Event.{Event}
+use Rattle.device.specs.Events.{Event}
 use Rattle.device.specs.declared.event.Event.TheVariants.{MemRead}
 use Rattle.device.specs.World.{World, fresh, sizes_of, step}
 use Rattle.history.specs.declared.caller.Caller.TheVariants.{Driver}

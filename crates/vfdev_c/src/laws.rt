@@ -1,7 +1,7 @@
 //! A law over the definitions alone. The function does nothing: its contract is the law.
 ghost use Rattle.std.specs.Prelude.{◌≡◌, true};
 ghost use Rattle.irq_causes.specs.Messages.{no_messages};
-ghost use Rattle.device.specs.declared.event.Event.{Event};
+ghost use Rattle.device.specs.Events.{Event};
 ghost use Rattle.device.specs.World.{World, step};
 ghost use Rattle.vfdev_c.specs.Handle.{is_silent};
 

@@ -14,7 +14,7 @@ ghost use Rattle.vfdev_c.specs.Recorded.{recorded, is_full, taking, kept_as, mad
 use crate::memory::HostMem;
 use crate::reply::VfdevReply;
 use crate::stage::{Running, isolates, lay, put_frame};
-use device::{Device, Outcome, Queue, Request, Taken};
+use device::{Device, Outcome, Queue, Request, Response};
 use history::{Caller, History};
 use irq_causes::Messages;
 use std::alloc::Global;
@@ -216,7 +216,7 @@ fn came(
         Ok(messages) => (Outcome::Done, messages),
         Err(fault) => (Outcome::Refused(fault), Messages::none()),
     };
-    let taken = Taken {
+    let taken = Response {
         outcome,
         messages,
         sent: None,

@@ -2,7 +2,8 @@
 ghost use Rattle.std.specs.Prelude.{◌≡◌, ◌≤◌, ◌↔◌, IsTrue, true, length, option_copied};
 ghost use Rattle.irq_causes.specs.Messages.{no_messages};
 ghost use Rattle.wire_frame.specs.Frame.{is_frame};
-ghost use Rattle.device.specs.declared.event.Event.{Event};
+ghost use Rattle.device.specs.declared.event.Event.TheVariants.{MemRead, Serve, Wire};
+ghost use Rattle.device.specs.Events.{Event};
 ghost use Rattle.device.specs.World.{step, answers, world_after};
 ghost use Rattle.device.specs.Request.{event_of};
 ghost use Rattle.device.specs.Outcome.{left_by, done_or_refused, value_or_refused, messages_or_refused};
@@ -114,10 +115,10 @@ impl Running {
     #[tactic(auto, using(crate::proofs::HandleLemmas::isolated_at))]
     pub fn wire(&mut self, bytes: &[u8]) -> (VfdevReply, Messages)
         requires { is_frame 9018 bytes.now ≡ true }
-        ensures world { self.new ≡ (step self.old (Event.Wire bytes.now)).world }
-        ensures reply { result.0 ≡ shown (step self.old (Event.Wire bytes.now)).answer.reply }
-        ensures messages { result.1 ≡ (step self.old (Event.Wire bytes.now)).answer.raised }
-        ensures isolated { IsolatedStep self.old (Event.Wire bytes.now) self.new }
+        ensures world { self.new ≡ (step self.old (Wire bytes.now)).world }
+        ensures reply { result.0 ≡ shown (step self.old (Wire bytes.now)).answer.reply }
+        ensures messages { result.1 ≡ (step self.old (Wire bytes.now)).answer.raised }
+        ensures isolated { IsolatedStep self.old (Wire bytes.now) self.new }
     {
         isolates(&self.device);
         lay(&mut self.frame, bytes);
@@ -129,14 +130,14 @@ impl Running {
     #[tactic(auto, using(crate::proofs::HandleLemmas::isolated_at))]
     pub fn mem_read(&self, function: u8, at: u64, out: &mut [u8]) -> VfdevReply
         ensures world { self.now
-            ≡ (step self.now (Event.MemRead function at (length out.old))).world }
+            ≡ (step self.now (MemRead function at (length out.old))).world }
         ensures reply { result
-            ≡ shown (step self.now (Event.MemRead function at (length out.old))).answer.reply }
+            ≡ shown (step self.now (MemRead function at (length out.old))).answer.reply }
         ensures bytes { out.new
             ≡ bytes_shown
-            (step self.now (Event.MemRead function at (length out.old))).answer.reply out.old }
+            (step self.now (MemRead function at (length out.old))).answer.reply out.old }
         ensures isolated { IsolatedStep self.now
-            (Event.MemRead function at (length out.old)) self.now }
+            (MemRead function at (length out.old)) self.now }
     {
         isolates(&self.device);
         match self.device.mem_read(function, at, out) {
@@ -157,12 +158,12 @@ impl Running {
         left: &mut usize,
     ) -> (VfdevReply, Messages)
         requires { 9018 ≤ length out.old }
-        ensures world { self.new ≡ (step self.old (Event.Serve function queue)).world }
-        ensures reply { result.0 ≡ shown (step self.old (Event.Serve function queue)).answer.reply }
-        ensures messages { result.1 ≡ (step self.old (Event.Serve function queue)).answer.raised }
-        ensures frame { out.new ≡ frame_in (left_by self.old (Event.Serve function queue)) out.old }
-        ensures left { left.new ≡ length_in (left_by self.old (Event.Serve function queue)) }
-        ensures isolated { IsolatedStep self.old (Event.Serve function queue) self.new }
+        ensures world { self.new ≡ (step self.old (Serve function queue)).world }
+        ensures reply { result.0 ≡ shown (step self.old (Serve function queue)).answer.reply }
+        ensures messages { result.1 ≡ (step self.old (Serve function queue)).answer.raised }
+        ensures frame { out.new ≡ frame_in (left_by self.old (Serve function queue)) out.old }
+        ensures left { left.new ≡ length_in (left_by self.old (Serve function queue)) }
+        ensures isolated { IsolatedStep self.old (Serve function queue) self.new }
     {
         isolates(&self.device);
         let taken = self.device.serve(function, queue, &mut self.frame);

@@ -2,10 +2,10 @@
 use Rattle.std.proofs.Common.{◌≡◌, ℕ, List, [], ◌∷◌, ◌++◌, length, map, take, drop, sym, ap, ◌∙◌, append_assoc}
 use Rattle.std.proofs.Math.Seq.{take-append_seam, take-length}
 use Rattle.std.proofs.lemmas.List.{map-append, take-append-drop}
-use Rattle.device.specs.declared.event.Event.{Event}
+use Rattle.device.specs.Events.{Event}
 use Rattle.device.specs.declared.event.Answer.{Answer}
 use Rattle.history.specs.Entries.{Entry, entry, events}
-use Rattle.recorder.specs.Held.{Mine, having_asked}
+use Rattle.recorder.specs.Held.{CallerLog, having_asked}
 use Rattle.device_lock.specs.Answers.{MayAnswer, HasAskedOne}
 use Rattle.wire_pump.specs.declared.message.WireMsg.{WireMsg}
 use Rattle.wire_pump.specs.declared.message.WireMsg.TheVariants.{Frame}
@@ -14,13 +14,13 @@ use Rattle.wire_pump.specs.Ends.{ReceiveEnd}
 
 -- ---- one call of a share
 
-pub one_taken : (old new : Mine) (e : Event) (a : Answer) → new ≡ having_asked e a old → events new.asked ≡ events old.asked ++ e ∷ []
-one_taken old new e a more = ap (λ (m : Mine). events m.asked) more ∙ map-append (λ (call : Entry). call.event) old.asked (entry old.caller e a ∷ [])
+pub one_taken : (old new : CallerLog) (e : Event) (a : Answer) → new ≡ having_asked e a old → events new.asked ≡ events old.asked ++ e ∷ []
+one_taken old new e a more = ap (λ (m : CallerLog). events m.asked) more ∙ map-append (λ (call : Entry). call.event) old.asked (entry old.caller e a ∷ [])
 
-pub one_behind_it : (old new : Mine) (e : Event) (a : Answer) → new ≡ having_asked e a old → StandFirst old.asked new.asked
-one_behind_it old new e a more = ap (λ (m : Mine). take (length old.asked) m.asked) more ∙ take-append_seam old.asked (entry old.caller e a ∷ [])
+pub one_behind_it : (old new : CallerLog) (e : Event) (a : Answer) → new ≡ having_asked e a old → StandFirst old.asked new.asked
+one_behind_it old new e a more = ap (λ (m : CallerLog). take (length old.asked) m.asked) more ∙ take-append_seam old.asked (entry old.caller e a ∷ [])
 
-pub asked_one : (old new : Mine) (e : Event) (a : Answer) → new ≡ having_asked e a old → MayAnswer e a → HasAskedOne e old new
+pub asked_one : (old new : CallerLog) (e : Event) (a : Answer) → new ≡ having_asked e a old → MayAnswer e a → HasAskedOne e old new
 asked_one old new e a more may = record { answer = a; kept = more; given = may }
 
 -- ---- calls that stand first

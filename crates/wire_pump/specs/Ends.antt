@@ -4,7 +4,7 @@ use Rattle.atomic_table.specs.Seated.{TableId}
 use Rattle.atomic_table.specs.declared.badge.Badge.{Badge}
 use Rattle.crossbeam_channel.specs.Claims.{Pass, view}
 use Rattle.crossbeam_channel.specs.declared.flavors.array.Key.{Key}
-use Rattle.device.specs.declared.event.Event.{Event}
+use Rattle.device.specs.Events.{Event}
 use Rattle.device.specs.declared.event.Event.TheVariants.{Wire}
 use Rattle.recorder.specs.Callers.{is_frame}
 use Rattle.wire_pump.specs.declared.message.WireMsg.{WireMsg}

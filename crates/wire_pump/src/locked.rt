@@ -22,9 +22,9 @@ pub struct LockedDoor<M: GuestMem, L: Ledger> {
 }
 
 impl<M: GuestMem, L: Ledger> Model for LockedDoor<M, L> {
-    ghost use Rattle.recorder.specs.Held.{Mine};
+    ghost use Rattle.recorder.specs.Held.{CallerLog};
 
-    ghost Value = { Mine };
+    ghost Value = { CallerLog };
 
     ghost use Rattle.std.specs.Prelude.{◌≡◌};
     ghost use Rattle.history.specs.declared.caller.Caller.TheVariants.{Pump};

@@ -1,7 +1,7 @@
 //! Frames out of the channel, to what takes them.
 ghost use Rattle.std.specs.Prelude.{◌≡◌, ◌++◌, ◌∷◌, [], List, ℕ, true, map, if◌then◌else◌, OnOk, OnErr, IfErr};
 ghost use Rattle.history.specs.Entries.{Entry};
-ghost use Rattle.device.specs.declared.event.Event.{Event};
+ghost use Rattle.device.specs.Events.{Event};
 ghost use Rattle.device.specs.declared.event.Event.TheVariants.{Wire};
 ghost use Rattle.wire_pump.specs.Doors.{StandFirst};
 ghost use Rattle.wire_pump.specs.Ends.{is_wire, pumped, IsAll, IsFromWire};

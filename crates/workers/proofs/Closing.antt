@@ -2,10 +2,10 @@
 use Rattle.std.proofs.Common.{◌≡◌, ℕ, ◌+◌, ◌<◌, ◌≤◌, List, [], ◌∷◌, ◌++◌, get_or, length, map, set, take, refl, sym, ap, ◌∙◌, subst, arith}
 use Rattle.std.specs.Prelude.{slice_index_or}
 use Rattle.std.proofs.lemmas.List.{get_or-set_same, length-set, map-append, take_all, take_more}
-use Rattle.device.specs.declared.event.Event.{Event}
+use Rattle.device.specs.Events.{Event}
 use Rattle.device.specs.declared.event.Event.TheVariants.{End}
 use Rattle.history.specs.declared.caller.Caller.TheVariants.{Service}
-use Rattle.recorder.specs.Held.{HasAsked, Mine}
+use Rattle.recorder.specs.Held.{HasAsked, CallerLog}
 use Rattle.guest_port.specs.Calls.{CallingPort}
 use Rattle.guest_port.specs.Notes.{Known}
 use Rattle.workers.specs.Ends.{HaveEnded, pool_of, port_end}
@@ -26,15 +26,15 @@ pools_all ports k pools through are = are ∙ ap (map pool_of) (take_all k ports
 
 -- ---- the ends of the ports of the pools so far
 
-pub ending_begins : (old : Mine) → HasAsked [] old old
+pub ending_begins : (old : CallerLog) → HasAsked [] old old
 ending_begins old = asked_none old
 
-pub ending_more : (pools : List ℕ) (k pool : ℕ) (old mid new : Mine) → k < length pools → pool ≡ slice_index_or pools k pool → HasAsked (map End (take k pools)) old mid → HasAsked (End pool ∷ []) mid new
+pub ending_more : (pools : List ℕ) (k pool : ℕ) (old mid new : CallerLog) → k < length pools → pool ≡ slice_index_or pools k pool → HasAsked (map End (take k pools)) old mid → HasAsked (End pool ∷ []) mid new
     → HasAsked (map End (take (k + 1) pools)) old new
 ending_more pools k pool old mid new less is before more =
     subst (λ (es : List Event). HasAsked es old new) (map_more End pools k pool less is) (asked_behind (map End (take k pools)) (End pool ∷ []) old mid new before more)
 
-pub ending_all : (pools : List ℕ) (k : ℕ) (old new : Mine) → length pools ≤ k → HasAsked (map End (take k pools)) old new → HasAsked (map End pools) old new
+pub ending_all : (pools : List ℕ) (k : ℕ) (old new : CallerLog) → length pools ≤ k → HasAsked (map End (take k pools)) old new → HasAsked (map End pools) old new
 ending_all pools k old new through asked = subst (λ (ps : List ℕ). HasAsked (map End ps) old new) (take_all k pools through) asked
 
 pub ends_of_ports : (ports : List (CallingPort × Known)) → map End (map pool_of ports) ≡ map port_end ports
@@ -42,7 +42,7 @@ ends_of_ports [] = refl
 ends_of_ports (p ∷ ports) = ap (λ (es : List Event). port_end p ∷ es) (ends_of_ports ports)
 
 -- the service's share, which stands at a place, asked the ends of all ports
-pub have_ended : (ports : List (CallingPort × Known)) (pools : List ℕ) (shares : List Mine) (at : ℕ) (before share : Mine) → at < length shares → before.caller ≡ Service → pools ≡ map pool_of ports
+pub have_ended : (ports : List (CallingPort × Known)) (pools : List ℕ) (shares : List CallerLog) (at : ℕ) (before share : CallerLog) → at < length shares → before.caller ≡ Service → pools ≡ map pool_of ports
     → HasAsked (map End pools) before share → HaveEnded ports (set shares at share)
 have_ended ports pools shares at before share less is noted asked =
     record {

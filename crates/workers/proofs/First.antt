@@ -3,14 +3,14 @@ use Rattle.std.proofs.Common.{◌≡◌, ◌≢◌, ℕ, ◌+◌, ◌<◌, Bool,
 use Rattle.std.specs.Prelude.{MatchOption, None, Option, Some, slice_index_or, unwrap_or}
 use Rattle.std.proofs.lemmas.List.{append-nil, map-append, take_more}
 use Rattle.std.proofs.lemmas.List.Elements.{All-append, All-nil, All-push, filter-append}
-use Rattle.device.specs.declared.event.Event.{Event}
+use Rattle.device.specs.Events.{Event}
 use Rattle.device.specs.declared.event.Event.TheVariants.{Open, End, VfRead, VfWrite, MemRead, MemWrite, Serve, Flr, PfRead, PfWrite, PfReset, Wire}
-use Rattle.device.specs.declared.event.Reply.{Reply}
+use Rattle.device.specs.Replies.{Reply}
 use Rattle.history.specs.declared.caller.Caller.{Caller}
 use Rattle.history.specs.declared.caller.Caller.TheVariants.{Driver, Service}
 use Rattle.history.specs.Entries.{Entry, entry}
 use Rattle.recorder.specs.declared.shares.Shares.{Shares}
-use Rattle.recorder.specs.Held.{Mine, having_calls}
+use Rattle.recorder.specs.Held.{CallerLog, having_calls}
 use Rattle.script.specs.Reading.{Meaning}
 use Rattle.workers.specs.Asked.{HasTold}
 use Rattle.workers.specs.Callers.{caller_before, is_same}
@@ -19,10 +19,10 @@ use Rattle.workers.specs.Opens.{HaveLeft, IsPrepared, all_closed, opened, opened
 
 -- ---- calls behind others
 
-made_none : (m : Mine) → having_calls [] m ≡ m
+made_none : (m : CallerLog) → having_calls [] m ≡ m
 made_none m = ap (λ (xs : List Entry). record { caller = m.caller; asked = xs }) (append-nil m.asked)
 
-made_more : (c : Caller) (calls more : List Entry) (old mid new : Mine) → mid ≡ having_calls (made_by c calls) old → new ≡ having_calls (made_by c more) mid
+made_more : (c : Caller) (calls more : List Entry) (old mid new : CallerLog) → mid ≡ having_calls (made_by c calls) old → new ≡ having_calls (made_by c more) mid
     → new ≡ having_calls (made_by c (calls ++ more)) old
 made_more c calls more old mid new before after =
     after ∙ ap (having_calls (made_by c more)) before

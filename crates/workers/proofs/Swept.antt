@@ -3,9 +3,9 @@ use Rattle.std.proofs.Common.{◌≡◌, ℕ, ◌+◌, ◌<◌, ◌≤◌, Bool,
 use Rattle.std.proofs.Math.Seq.{drop-append-add, get_or-append_seam, set-append_seam, take-append_seam}
 use Rattle.std.proofs.lemmas.List.{append-nil, get_or-set_same, length-append, length-set, map-append}
 use Rattle.std.proofs.lemmas.List.Elements.{filter-append, filter_passes}
-use Rattle.device.specs.declared.event.Event.{Event}
+use Rattle.device.specs.Events.{Event}
 use Rattle.device.specs.declared.event.Event.TheVariants.{End}
-use Rattle.recorder.specs.Held.{HasAsked, Mine}
+use Rattle.recorder.specs.Held.{HasAsked, CallerLog}
 use Rattle.guest_port.specs.Notes.{Known, knows}
 use Rattle.workers.specs.Sweeps.{AreLooked, IsLooked, IsSwept, NoneEnded, end_of, is_ended, is_live}
 use Rattle.workers.proofs.Asks.{asked_behind, asked_none}
@@ -14,7 +14,7 @@ abbrev Note : Type 0
 Note = ℕ × Known
 
 -- a sweep under way: so many of the notes that it came past stay
-pub record IsUnderWay (first notes : List Note) (at : ℕ) (old new : Mine) : Type 0 where
+pub record IsUnderWay (first notes : List Note) (at : ℕ) (old new : CallerLog) : Type 0 where
   pub swept : IsSwept first notes old new
   pub place : at ≡ length (filter is_live swept.passed)
 
@@ -58,7 +58,7 @@ live_same passed n is = filter-append is_live passed (n ∷ []) ∙ (ap (λ (b :
 
 -- ---- a sweep from its start to its end
 
-pub way_begins : (notes : List Note) (old : Mine) → IsUnderWay notes notes 0 old old
+pub way_begins : (notes : List Note) (old : CallerLog) → IsUnderWay notes notes 0 old old
 way_begins notes old = record {
   swept = record { passed = []; rest = notes; looked = are_looked notes; asked = asked_none old; stay = refl };
   place = refl;
@@ -84,7 +84,7 @@ nobody_here : (front notes : List Note) (at : ℕ) → notes ≡ front ++ [] →
 nobody_here front notes at is place less = let l = ap length is in let n = length-append front [] in omega (arith, l, n, place, less)
 
 -- what a look at the next note leaves, before anything else is done
-way_looks : (first notes : List Note) (at : ℕ) (d note : Note) (old mid : Mine) → at < length notes → IsLooked (get_or notes at d) note → IsUnderWay first notes at old mid → IsUnderWay first (set notes at note) at old mid
+way_looks : (first notes : List Note) (at : ℕ) (d note : Note) (old mid : CallerLog) → at < length notes → IsLooked (get_or notes at d) note → IsUnderWay first notes at old mid → IsUnderWay first (set notes at note) at old mid
 way_looks first notes at d note old mid less look way = go way.swept.passed way.swept.rest way.swept.looked way.swept.asked way.swept.stay way.place
   where
     go : (passed rest : List Note) → AreLooked first (passed ++ rest) → HasAsked (map end_of (filter is_ended passed)) old mid → notes ≡ filter is_live passed ++ rest
@@ -102,7 +102,7 @@ way_looks first notes at d note old mid less look way = go way.swept.passed way.
     }
 
 -- the next note doesn't know, and stays
-way_leaves : (first notes : List Note) (at : ℕ) (note : Note) (old mid : Mine) → at < length notes → note ≡ get_or notes at note → knows note.1 ≡ false → IsUnderWay first notes at old mid → IsUnderWay first notes (at + 1) old mid
+way_leaves : (first notes : List Note) (at : ℕ) (note : Note) (old mid : CallerLog) → at < length notes → note ≡ get_or notes at note → knows note.1 ≡ false → IsUnderWay first notes at old mid → IsUnderWay first notes (at + 1) old mid
 way_leaves first notes at note old mid less is live way = go way.swept.passed way.swept.rest way.swept.looked way.swept.asked way.swept.stay way.place
   where
     go : (passed rest : List Note) → AreLooked first (passed ++ rest) → HasAsked (map end_of (filter is_ended passed)) old mid → notes ≡ filter is_live passed ++ rest
@@ -123,7 +123,7 @@ way_leaves first notes at note old mid less is live way = go way.swept.passed wa
         }
 
 -- the next note knows: its end is asked, and it is taken out
-way_takes : (first notes after : List Note) (at : ℕ) (note : Note) (old mid new : Mine) → at < length notes → note ≡ get_or notes at note → knows note.1 ≡ true → after ≡ take at notes ++ drop (at + 1) notes
+way_takes : (first notes after : List Note) (at : ℕ) (note : Note) (old mid new : CallerLog) → at < length notes → note ≡ get_or notes at note → knows note.1 ≡ true → after ≡ take at notes ++ drop (at + 1) notes
     → HasAsked (End note.0 ∷ []) mid new → IsUnderWay first notes at old mid → IsUnderWay first after at old new
 way_takes first notes after at note old mid new less is ended out ask way = go way.swept.passed way.swept.rest way.swept.looked way.swept.asked way.swept.stay way.place
   where
@@ -150,7 +150,7 @@ way_takes first notes after at note old mid new less is ended out ask way = go w
         }
 
 -- where the sweep is through, none of those that stay knows of an end
-pub way_ends : (first notes : List Note) (at : ℕ) (old new : Mine) → length notes ≤ at → IsUnderWay first notes at old new → NoneEnded notes
+pub way_ends : (first notes : List Note) (at : ℕ) (old new : CallerLog) → length notes ≤ at → IsUnderWay first notes at old new → NoneEnded notes
 way_ends first notes at old new through way = go way.swept.passed way.swept.rest way.swept.stay way.place
   where
     unknown : (b : Bool) → not b ≡ true → b ≡ false
@@ -167,22 +167,22 @@ way_ends first notes at old new through way = go way.swept.passed way.swept.rest
 looked_less : (notes : List Note) (at : ℕ) (note : Note) → at < length notes → at < length (set notes at note)
 looked_less notes at note less = let l = length-set notes at note in omega (arith, less, l)
 
-looked_way : (first notes : List Note) (at : ℕ) (was note : Note) (old mid : Mine) → at < length notes → was ≡ get_or notes at was → IsLooked was note → IsUnderWay first notes at old mid → IsUnderWay first (set notes at note) at old mid
+looked_way : (first notes : List Note) (at : ℕ) (was note : Note) (old mid : CallerLog) → at < length notes → was ≡ get_or notes at was → IsLooked was note → IsUnderWay first notes at old mid → IsUnderWay first (set notes at note) at old mid
 looked_way first notes at was note old mid less is look way = way_looks first notes at was note old mid less (subst (λ (x : Note). IsLooked x note) is look) way
 
-pub way_left : (first notes : List Note) (at : ℕ) (was note : Note) (old mid new : Mine) → at < length notes → was ≡ get_or notes at was → IsLooked was note → knows note.1 ≡ false → new ≡ mid
+pub way_left : (first notes : List Note) (at : ℕ) (was note : Note) (old mid new : CallerLog) → at < length notes → was ≡ get_or notes at was → IsLooked was note → knows note.1 ≡ false → new ≡ mid
     → IsUnderWay first notes at old mid → IsUnderWay first (set notes at note) (at + 1) old new
 way_left first notes at was note old mid new less is look live same way =
     subst (IsUnderWay first (set notes at note) (at + 1) old) (sym same)
     (way_leaves first (set notes at note) at note old mid (looked_less notes at note less) (sym (get_or-set_same notes at note note less)) live (looked_way first notes at was note old mid less is look way))
 
-pub way_taken : (first notes after : List Note) (at : ℕ) (was note : Note) (old mid new : Mine) → at < length notes → was ≡ get_or notes at was → IsLooked was note → knows note.1 ≡ true
+pub way_taken : (first notes after : List Note) (at : ℕ) (was note : Note) (old mid new : CallerLog) → at < length notes → was ≡ get_or notes at was → IsLooked was note → knows note.1 ≡ true
     → after ≡ take at (set notes at note) ++ drop (at + 1) (set notes at note) → HasAsked (End note.0 ∷ []) mid new → IsUnderWay first notes at old mid → IsUnderWay first after at old new
 way_taken first notes after at was note old mid new less is look ended out ask way =
     way_takes first (set notes at note) after at note old mid new (looked_less notes at note less) (sym (get_or-set_same notes at note note less)) ended out ask (looked_way first notes at was note old mid less is look way)
 
 -- the history is full at a note that knows, which stays
-pub way_stops : (first notes : List Note) (at : ℕ) (was note : Note) (old mid new : Mine) → at < length notes → was ≡ get_or notes at was → IsLooked was note → new ≡ mid → IsUnderWay first notes at old mid
+pub way_stops : (first notes : List Note) (at : ℕ) (was note : Note) (old mid new : CallerLog) → at < length notes → was ≡ get_or notes at was → IsLooked was note → new ≡ mid → IsUnderWay first notes at old mid
     → IsSwept first (set notes at note) old new
 way_stops first notes at was note old mid new less is look same way =
     subst (IsSwept first (set notes at note) old) (sym same) (looked_way first notes at was note old mid less is look way).swept

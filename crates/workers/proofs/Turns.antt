@@ -5,14 +5,14 @@ use Rattle.std.proofs.lemmas.Bool.{eq-eqb, eqb-true, false≢true}
 use Rattle.std.proofs.lemmas.Bool.Decides.{nat_tests}
 use Rattle.std.proofs.lemmas.List.{get_or_past, take_more}
 use Rattle.std.proofs.lemmas.List.Elements.{filter_passes}
-use Rattle.device.specs.declared.event.Event.{Event}
+use Rattle.device.specs.Events.{Event}
 use Rattle.device.specs.declared.event.Event.TheVariants.{Open, End, VfRead, VfWrite, MemRead, MemWrite, Serve, Flr, PfRead, PfWrite, PfReset, Wire}
 use Rattle.history.specs.declared.caller.Caller.{Caller}
 use Rattle.history.specs.declared.caller.Caller.TheVariants.{Port, Driver, Pump, Service}
 use Rattle.recorder.specs.Callers.{may}
 use Rattle.recorder.specs.Read.{bytes_asked}
 use Rattle.workers.specs.Callers.{caller_before, caller_of, is_port, is_same, port_or_service}
-use Rattle.device.specs.declared.event.Reply.{Reply}
+use Rattle.device.specs.Replies.{Reply}
 use Rattle.guest_port.specs.Calls.{CallingPort, HasCalled}
 use Rattle.guest_port.specs.Port.{closed, Port as GuestsPort}
 use Rattle.workers.specs.Calls.{HasClosed, HasDone, HasDoneAll, HasMade, IsPortEvent}

@@ -6,12 +6,12 @@ use Rattle.std.proofs.lemmas.Bool.{false≢true}
 use Rattle.std.proofs.lemmas.List.{append_assoc, get_or-map, length-map, map-append, take_all, take_more}
 use Rattle.std.proofs.lemmas.List.Elements.{All-from_get_or, recursion_from_All}
 use Rattle.device.specs.Request.{event_of}
-use Rattle.device.specs.declared.request.Request.{Request}
-use Rattle.device.specs.declared.event.Event.{Event}
+use Rattle.device.specs.Request.{Request}
+use Rattle.device.specs.Events.{Event}
 use Rattle.device.specs.declared.event.Event.TheVariants.{Open, End, VfRead, VfWrite, MemRead, MemWrite, Serve, Flr, PfRead, PfWrite, PfReset, Wire}
 use Rattle.history.specs.declared.caller.Caller.{Caller}
 use Rattle.history.specs.declared.caller.Caller.TheVariants.{Driver, Pump, Service}
-use Rattle.recorder.specs.Held.{HasAsked, Mine}
+use Rattle.recorder.specs.Held.{HasAsked, CallerLog}
 use Rattle.wire_pump.specs.declared.feeding.FeedEnd.{FeedEnd}
 use Rattle.wire_pump.specs.declared.message.WireMsg.TheVariants.{Frame, Last}
 use Rattle.wire_pump.specs.declared.message.WireMsg.{WireMsg}
@@ -78,22 +78,22 @@ no_other : (plan : Planned) (turn : ℕ) (e : Event) → turn < length (own_even
 no_other plan turn e less is = subst IsWire (sym is) (from_wire plan.ports _ (own_at plan Pump turn less))
 
 -- a request of a frame from the wire is none of the others
-other_request : (r : Request) → is_wire (event_of r) ≡ true → ((frame : _) → r ≡ Request.Wire frame → ⊥) → ⊥
-other_request (Request.Wire frame) is other = other frame refl
-other_request (Request.Open p) is other = false≢true is
-other_request (Request.End p) is other = false≢true is
-other_request (Request.VfRead p offset) is other = false≢true is
-other_request (Request.VfWrite p offset x) is other = false≢true is
-other_request (Request.MemRead p at count) is other = false≢true is
-other_request (Request.MemWrite p at bytes) is other = false≢true is
-other_request (Request.Serve p q) is other = false≢true is
-other_request (Request.Flr p) is other = false≢true is
-other_request (Request.PfRead offset) is other = false≢true is
-other_request (Request.PfWrite offset x) is other = false≢true is
-other_request Request.PfReset is other = false≢true is
+other_request : (r : Request) → is_wire (event_of r) ≡ true → ((frame : _) → r ≡ Wire frame → ⊥) → ⊥
+other_request (Wire frame) is other = other frame refl
+other_request (Open p) is other = false≢true is
+other_request (End p) is other = false≢true is
+other_request (VfRead p offset) is other = false≢true is
+other_request (VfWrite p offset x) is other = false≢true is
+other_request (MemRead p at count) is other = false≢true is
+other_request (MemWrite p at bytes) is other = false≢true is
+other_request (Serve p q) is other = false≢true is
+other_request (Flr p) is other = false≢true is
+other_request (PfRead offset) is other = false≢true is
+other_request (PfWrite offset x) is other = false≢true is
+other_request PfReset is other = false≢true is
 
 pub only_frames : (plan : Planned) (turn : ℕ) (r : Request) → turn < length (frames_of (own_events plan Pump)) → event_of r ≡ slice_index_or (own_events plan Pump) turn PfReset
-    → ((frame : _) → r ≡ Request.Wire frame → ⊥) → ⊥
+    → ((frame : _) → r ≡ Wire frame → ⊥) → ⊥
 only_frames plan turn r less is other =
     other_request r (ap is_wire (no_other plan turn (event_of r) (subst (λ (n : ℕ). turn < n) (frames_count plan) less) is)) other
 
@@ -150,7 +150,7 @@ full_not_last is = false≢true (ap is_last is)
 gone_not_last : Came.Gone ≡ Came.Last → ⊥
 gone_not_last is = false≢true (ap is_last is)
 
-pub has_pumped : (frames : List (List ℕ)) (end : PumpEnd) (share left : Mine) (old new : ReceiveEnd) → share.caller ≡ Pump → came_by end ≡ Came.Last → new ≡ record old { received = old.received ++ pumped frames end }
+pub has_pumped : (frames : List (List ℕ)) (end : PumpEnd) (share left : CallerLog) (old new : ReceiveEnd) → share.caller ≡ Pump → came_by end ≡ Came.Last → new ≡ record old { received = old.received ++ pumped frames end }
     → HasAsked (map Wire frames) (record { caller = Pump; asked = share.asked }) left → HasPumped share left old new
 has_pumped frames PumpEnd.Last share left old new is came received asked = record {
   frames = frames;
@@ -161,12 +161,12 @@ has_pumped frames (PumpEnd.Full event) share left old new is came received asked
 has_pumped frames PumpEnd.Gone share left old new is came received asked = absurd (gone_not_last came)
 
 -- the ends are of one channel still
-pub one_channel : (plan : Planned) (share left : Mine) (sender sent : SendEnd) (receiver received : ReceiveEnd) → AreNew sender receiver → HasRead plan sender sent → HasPumped share left receiver received → received.channel ≡ sent.channel
+pub one_channel : (plan : Planned) (share left : CallerLog) (sender sent : SendEnd) (receiver received : ReceiveEnd) → AreNew sender receiver → HasRead plan sender sent → HasPumped share left receiver received → received.channel ≡ sent.channel
 one_channel plan share left sender sent receiver received new read came =
     ap (λ (r : ReceiveEnd). r.channel) came.received ∙ (new.one ∙ sym (ap (λ (s : SendEnd). s.channel) read.sent))
 
 -- the two ends were compared, which changed neither
-pub pair_done : (duty : Duty) (plan : Planned) (share left : Mine) (sender sent beside : SendEnd) (receiver received back : ReceiveEnd) (old new : List Mine) → duty ≡ OfShare plan share → share.caller ≡ Pump → AreNew sender receiver → HasRead plan sender sent
+pub pair_done : (duty : Duty) (plan : Planned) (share left : CallerLog) (sender sent beside : SendEnd) (receiver received back : ReceiveEnd) (old new : List CallerLog) → duty ≡ OfShare plan share → share.caller ≡ Pump → AreNew sender receiver → HasRead plan sender sent
     → HasPumped share left receiver received → beside ≡ sent → back ≡ received → (is_ended back.received ≡ true → beside.sent ≡ back.received) → new ≡ old ++ left ∷ [] → HaveDone (duty ∷ []) old new
 pair_done duty plan share left sender sent beside receiver received back old new to is first read came same_sender same_receiver whole behind =
     let all : List (List ℕ) = frames_of (own_events plan Pump) in

@@ -1,6 +1,6 @@
 -- Which caller does an event of a script.
 use Rattle.std.specs.Prelude.{ℕ, Bool, true, false, ◌==◌, List, slice_index_or, if◌then◌else◌}
-use Rattle.device.specs.declared.event.Event.{Event}
+use Rattle.device.specs.Events.{Event}
 use Rattle.device.specs.declared.event.Event.TheVariants.{Open, End, VfRead, VfWrite, MemRead, MemWrite, Serve, Flr, PfRead, PfWrite, PfReset, Wire}
 use Rattle.history.specs.declared.caller.Caller.{Caller}
 use Rattle.history.specs.declared.caller.Caller.TheVariants.{Port, Driver, Pump, Service}

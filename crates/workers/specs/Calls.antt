@@ -1,8 +1,8 @@
 -- What an event asks of a guest's port.
 use Rattle.std.specs.Prelude.{◌≡◌, ℕ, true, false, List, [], ◌∷◌}
-use Rattle.device.specs.declared.event.Event.{Event}
+use Rattle.device.specs.Events.{Event}
 use Rattle.device.specs.declared.event.Event.TheVariants.{End, VfRead, VfWrite, MemRead, MemWrite, Flr}
-use Rattle.device.specs.declared.event.Reply.{Reply}
+use Rattle.device.specs.Replies.{Reply}
 use Rattle.guest_port.specs.Calls.{CallingPort, HasCalled}
 use Rattle.guest_port.specs.Port.{closed, ended}
 

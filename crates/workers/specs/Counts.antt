@@ -1,8 +1,8 @@
 -- What the shares of callers asked before `go`, and what they were answered.
 use Rattle.std.specs.Prelude.{◌≡◌, List, [], ◌∷◌, filter}
 use Rattle.std.specs.List.{All}
-use Rattle.device.specs.declared.event.Event.{Event}
-use Rattle.device.specs.declared.event.Reply.{Reply}
+use Rattle.device.specs.Events.{Event}
+use Rattle.device.specs.Replies.{Reply}
 use Rattle.device.specs.declared.event.Answer.{Answer}
 use Rattle.history.specs.declared.caller.Caller.{Caller}
 use Rattle.history.specs.declared.caller.Caller.TheVariants.{Driver, Service}

@@ -1,6 +1,6 @@
 -- The frames that come from the wire.
 use Rattle.std.specs.Prelude.{ℕ, List, [], ◌∷◌}
-use Rattle.device.specs.declared.event.Event.{Event}
+use Rattle.device.specs.Events.{Event}
 use Rattle.device.specs.declared.event.Event.TheVariants.{Wire}
 use Rattle.wire_pump.specs.declared.pumping.PumpEnd.{PumpEnd}
 use Rattle.wire_pump.specs.declared.pumping.PumpEnd.TheVariants.{Last, Full, Gone}

@@ -1,8 +1,8 @@
 -- The pools that the events before `go` leave open, by the answers that were kept.
 use Rattle.std.specs.Prelude.{◌≡◌, ℕ, ◌+◌, Bool, true, false, List, [], ◌∷◌, MatchOption, replicate, slice_set, nat_lt, if◌then◌else◌}
-use Rattle.device.specs.declared.event.Event.{Event}
+use Rattle.device.specs.Events.{Event}
 use Rattle.device.specs.declared.event.Event.TheVariants.{Open, End, PfReset}
-use Rattle.device.specs.declared.event.Reply.{Reply}
+use Rattle.device.specs.Replies.{Reply}
 use Rattle.device.specs.declared.event.Reply.TheVariants.{Done}
 use Rattle.history.specs.Entries.{Entry, events}
 use Rattle.recorder.specs.declared.shares.Shares.{Shares}

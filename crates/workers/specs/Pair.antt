@@ -2,7 +2,7 @@
 use Rattle.std.specs.Prelude.{◌≡◌, ℕ, List, [], ◌++◌, map}
 use Rattle.device.specs.declared.event.Event.TheVariants.{Wire}
 use Rattle.history.specs.declared.caller.Caller.TheVariants.{Pump}
-use Rattle.recorder.specs.Held.{HasAsked, Mine}
+use Rattle.recorder.specs.Held.{HasAsked, CallerLog}
 use Rattle.wire_pump.specs.declared.feeding.FeedEnd.{FeedEnd}
 use Rattle.wire_pump.specs.declared.pumping.PumpEnd.TheVariants.{Last}
 use Rattle.wire_pump.specs.Ends.{ReceiveEnd, SendEnd, fed, pumped}
@@ -22,7 +22,7 @@ pub record HasRead (plan : Planned) (old new : SendEnd) : Type 0 where
   pub wire : map Wire (frames_of (own_events plan Pump)) ≡ own_events plan Pump
 
 -- the pump received frames and then `Last`, and the share that is left asked these frames
-pub record HasPumped (share left : Mine) (old new : ReceiveEnd) : Type 0 where
+pub record HasPumped (share left : CallerLog) (old new : ReceiveEnd) : Type 0 where
   pub frames : List (List ℕ)
   pub received : new ≡ record old { received = old.received ++ pumped frames Last }
   pub asked : HasAsked (map Wire frames) share left

@@ -1,6 +1,6 @@
 -- The events of a script, and whose they are.
 use Rattle.std.specs.Prelude.{ℕ, Bool, List, Option, drop, filter, length, take, unwrap_or}
-use Rattle.device.specs.declared.event.Event.{Event}
+use Rattle.device.specs.Events.{Event}
 use Rattle.history.specs.declared.caller.Caller.{Caller}
 use Rattle.script.specs.Reading.{Meaning}
 use Rattle.workers.specs.Callers.{caller_of, is_same}

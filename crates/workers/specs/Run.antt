@@ -1,7 +1,7 @@
 -- What the run of all workers did.
 use Rattle.std.specs.Prelude.{◌≡◌, ℕ, ◌+◌, ◌++◌, Bool, true, false, not, List, [], ◌∷◌, filter, length, map, replicate, slice_set, Option}
 use Rattle.history.specs.declared.caller.Caller.TheVariants.{Driver, Pump, Service}
-use Rattle.recorder.specs.Held.{HasAsked, Mine, left_of}
+use Rattle.recorder.specs.Held.{HasAsked, CallerLog, left_of}
 use Rattle.recorder.specs.declared.shares.Shares.{Shares}
 use Rattle.guest_port.specs.Calls.{CallingPort}
 use Rattle.guest_port.specs.Notes.{Known}
@@ -33,13 +33,13 @@ shares_back shares ports = length (left_of shares.ports.items) + length (filter 
 
 -- each worker did all of its own: behind the shares that no worker had stand those that the ports left, in order, and the ones of the
 -- driver, of the pump and of the service, which recorded the ports' ends too
-pub record HaveRun {L : Type 0} (plan : Planned) (ports : List (CallingPort × Known)) (shares : Shares L) (ended : List Mine) : Type 0 where
-  pub left : List (Option Mine)
+pub record HaveRun {L : Type 0} (plan : Planned) (ports : List (CallingPort × Known)) (shares : Shares L) (ended : List CallerLog) : Type 0 where
+  pub left : List (Option CallerLog)
   pub ports_done : AreDone (map (port_duty plan) ports) left
-  pub pf_left : Mine
+  pub pf_left : CallerLog
   pub pf_asked : HasAsked (own_events plan Driver) shares.pf pf_left
-  pub pump_left : Mine
+  pub pump_left : CallerLog
   pub pump_asked : HasAsked (own_events plan Pump) shares.pump pump_left
-  pub service_left : Mine
+  pub service_left : CallerLog
   pub service_asked : HasAsked (own_events plan Service ++ map port_end ports) shares.service service_left
   pub all : ended ≡ left_of shares.ports.items ++ left_of left ++ pf_left ∷ pump_left ∷ service_left ∷ []

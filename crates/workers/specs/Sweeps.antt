@@ -1,9 +1,9 @@
 -- What a sweep over notes of ports does.
 use Rattle.std.specs.Prelude.{◌≡◌, ℕ, true, false, Bool, not, List, [], ◌∷◌, ◌++◌, filter, map}
 use Rattle.std.specs.List.{All, Contains}
-use Rattle.device.specs.declared.event.Event.{Event}
+use Rattle.device.specs.Events.{Event}
 use Rattle.device.specs.declared.event.Event.TheVariants.{End}
-use Rattle.recorder.specs.Held.{HasAsked, Mine}
+use Rattle.recorder.specs.Held.{HasAsked, CallerLog}
 use Rattle.guest_port.specs.Notes.{Known, knows}
 
 -- whether a note, which stands beside its pool, knows of its port's end, and whether it doesn't
@@ -33,7 +33,7 @@ AreLooked _ _ = ⊥
 
 -- a sweep came past the first notes, and the rest of them are left: of those that it came past, the ones that knew of their ports'
 -- ends are gone, and the share asked exactly their ends, in order; the others stay, in order
-pub record IsSwept (before after : List (ℕ × Known)) (old new : Mine) : Type 0 where
+pub record IsSwept (before after : List (ℕ × Known)) (old new : CallerLog) : Type 0 where
   pub passed : List (ℕ × Known)
   pub rest : List (ℕ × Known)
   pub looked : AreLooked before (passed ++ rest)

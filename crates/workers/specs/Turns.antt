@@ -1,7 +1,7 @@
 -- The places of each caller's events.
 use Rattle.std.specs.Prelude.{◌≡◌, ℕ, ◌<◌, List, [], length, map, slice_index_or}
 use Rattle.std.specs.List.{All}
-use Rattle.device.specs.declared.event.Event.{Event}
+use Rattle.device.specs.Events.{Event}
 use Rattle.device.specs.declared.event.Event.TheVariants.{PfReset}
 use Rattle.history.specs.Callers.{caller_of as caller_at}
 use Rattle.workers.specs.Plans.{Planned, own_events}

@@ -6,7 +6,7 @@ ghost use Rattle.workers.specs.Work.{duty_of};
 
 use crate::pair::Pair;
 use crate::work::Work;
-use crate::worker::{Done, Worker};
+use crate::worker::{Worker, WorkerResult};
 use device_lock::Share;
 use guest_memory::GuestMem;
 use guest_port::GuestPort;
@@ -27,7 +27,7 @@ pub struct Ended<L: Ledger> {
 #[derive(Drop)]
 pub enum Running<M: GuestMem, L: Ledger, P: GuestPort> {
     /// The thread of a worker that has a share of its own.
-    One(PromisedHandle<Done<L>, Work<M, L, P>>),
+    One(PromisedHandle<WorkerResult<L>, Work<M, L, P>>),
     /// The threads of the pump and of the wire's reader.
     Two(Pair<L>),
 }
@@ -57,7 +57,7 @@ impl<M: GuestMem, L: Ledger, P: GuestPort> Model for Crew<M, L, P> {
 
 /// How the workers of a crew ended.
 #[derive(Clone, Copy, Debug, PartialEq, Eq)]
-pub struct Ends {
+pub struct CrewEnds {
     /// A start was refused.
     pub was_refused: bool,
     /// A worker ended since the history was full.
@@ -107,7 +107,7 @@ impl<M: GuestMem, L: Ledger + Send + 'static, P: GuestPort> Crew<M, L, P> {
     }
 
     /// Waits for the workers in the order of their starts, logs that each has ended, and puts the shares behind the others.
-    pub fn join<R: Threads, O: Log>(self, rt: &R, log: &O, shares: &mut Vec<Share<L>>) -> Ends
+    pub fn join<R: Threads, O: Log>(self, rt: &R, log: &O, shares: &mut Vec<Share<L>>) -> CrewEnds
         ensures refused { result.was_refused ≡ false → self.was_refused ≡ false }
         ensures done { result.was_refused ≡ false → result.was_full ≡ false
             → HaveDone self.duties shares.old.items shares.new.items }
@@ -116,7 +116,7 @@ impl<M: GuestMem, L: Ledger + Send + 'static, P: GuestPort> Crew<M, L, P> {
             running,
             was_refused,
         } = self;
-        let mut ends = Ends {
+        let mut ends = CrewEnds {
             was_refused,
             was_full: false,
         };
@@ -144,7 +144,7 @@ fn join_one<M: GuestMem, L: Ledger + Send + 'static, P: GuestPort, R: Threads, O
     log: &O,
     one: Running<M, L, P>,
     shares: &mut Vec<Share<L>>,
-    ends: &mut Ends,
+    ends: &mut CrewEnds,
 )
     ensures refused { ends.new.was_refused ≡ false → ends.old.was_refused ≡ false }
     ensures full { ends.new.was_full ≡ false → ends.old.was_full ≡ false }
@@ -161,16 +161,16 @@ fn join_one<M: GuestMem, L: Ledger + Send + 'static, P: GuestPort, R: Threads, O
 #[tactic(auto, using(crate::proofs::Worked::one_done, crate::proofs::Worked::none_left))]
 fn join_thread<M: GuestMem, L: Ledger, P: GuestPort, R: Threads>(
     rt: &R,
-    thread: PromisedHandle<Done<L>, Work<M, L, P>>,
+    thread: PromisedHandle<WorkerResult<L>, Work<M, L, P>>,
     shares: &mut Vec<Share<L>>,
-    ends: &mut Ends,
+    ends: &mut CrewEnds,
 )
     ensures refused { ends.new.was_refused ≡ false → ends.old.was_refused ≡ false }
     ensures full { ends.new.was_full ≡ false → ends.old.was_full ≡ false }
     ensures done { ends.new.was_refused ≡ false → ends.new.was_full ≡ false
         → HaveDone (duty_of thread.promise ∷ []) shares.old.items shares.new.items }
 {
-    let Done { share, was_full } = thread.join(rt);
+    let WorkerResult { share, was_full } = thread.join(rt);
     ends.was_full = ends.was_full || was_full;
     if let Some(share) = share {
         ends.was_refused = shares.push(share).is_err() || ends.was_refused;

@@ -5,10 +5,10 @@ ghost use Rattle.history.specs.declared.caller.Caller.TheVariants.{Pump};
 ghost use Rattle.workers.specs.Duties.{HaveDone, OfShare};
 ghost use Rattle.workers.specs.Pair.{AreNew, HasPumped, HasRead};
 
-use crate::crew::{Crew, Ends, Running, log_end, log_start};
+use crate::crew::{Crew, CrewEnds, Running, log_end, log_start};
 use crate::door::GatedDoor;
 use crate::gate::Gate;
-use crate::starting::Common;
+use crate::starting::WorkerContext;
 use crate::work::{Pumping, Reading};
 use crate::worker::{Came, Pumped, Worker, pumping, reader};
 use device_lock::Share;
@@ -54,7 +54,7 @@ impl<L: Ledger + Send + 'static> Pair<L> {
         rt: &R,
         log: &O,
         shares: &mut Vec<Share<L>>,
-        ends: &mut Ends,
+        ends: &mut CrewEnds,
     )
         ensures refused { ends.new.was_refused ≡ false → ends.old.was_refused ≡ false }
         ensures full { ends.new.was_full ≡ false → ends.old.was_full ≡ false }
@@ -94,7 +94,7 @@ pub fn start_pair<
 >(
     rt: R,
     log: &O,
-    common: &Common<M, L, G>,
+    common: &WorkerContext<M, L, G>,
     share: Share<L>,
     sender: FrameSender,
     receiver: FrameReceiver,
@@ -140,7 +140,7 @@ fn start_pump<
     R: Threads + Wait + Copy + Send + 'static,
 >(
     rt: R,
-    common: &Common<M, L, G>,
+    common: &WorkerContext<M, L, G>,
     share: Share<L>,
     receiver: FrameReceiver,
 ) -> Result<PromisedHandle<Pumped<L>, Pumping<L>>, AllocError>
@@ -198,7 +198,7 @@ fn start_reader<
     R: Threads + Wait + Copy + Send + 'static,
 >(
     rt: R,
-    common: &Common<M, L, G>,
+    common: &WorkerContext<M, L, G>,
     sender: FrameSender,
 ) -> Result<PromisedHandle<FrameSender, Reading>, AllocError>
     ensures plan { IfOk result (λ thread.
@@ -219,7 +219,7 @@ fn start_reader<
 // What the thread of the wire's reader does.
 fn do_reader<M: GuestMem, L: Ledger, G: Gate + Drop, R: Wait + Copy>(
     rt: R,
-    mine: Common<M, L, G>,
+    mine: WorkerContext<M, L, G>,
     mut sender: FrameSender,
 ) -> FrameSender
     ensures { HasRead (arc_value mine.plan) sender result }

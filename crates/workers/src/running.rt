@@ -13,7 +13,7 @@ use crate::crew::{Crew, Ended};
 use crate::gate::Gate;
 use crate::pair::start_pair;
 use crate::plan::{Plan, Ports};
-use crate::starting::{Common, start_driver, start_guests};
+use crate::starting::{WorkerContext, start_driver, start_guests};
 use crate::worker::Worker;
 use device::Event;
 use device_lock::{CALLERS, Caller, LockedDevice, Share, Shares};
@@ -75,7 +75,7 @@ pub fn run_workers<
     if ran.was_full {
         return Err(Fault::HistoryFull);
     }
-    let Ran {
+    let RunOfWorkers {
         mut shares,
         pools,
         ..
@@ -90,7 +90,7 @@ pub fn run_workers<
 // What the workers leave: their shares, with those that no worker had, the pools of the ports, in order, and whether one of the
 // workers ended since the history was full.
 #[derive(Drop)]
-struct Ran<L: Ledger> {
+struct RunOfWorkers<L: Ledger> {
     shares: Vec<Share<L>>,
     pools: Vec<u8>,
     was_full: bool,
@@ -113,7 +113,7 @@ fn run<
     shares: Shares<L>,
     ports: Vec<(LockedPort<M, L, P>, EndNote)>,
     gate: Arc<G>,
-) -> Result<Ran<L>, AllocError>
+) -> Result<RunOfWorkers<L>, AllocError>
     requires pf { shares.pf.caller ≡ Driver }
     requires pump { shares.pump.caller ≡ Pump }
     requires service { shares.service.caller ≡ Service }
@@ -128,12 +128,12 @@ fn run<
     };
     let pools = pools_in_order(alloc, &ports)?;
     let mut crew = Crew::new(alloc, ports.len())?;
-    let Apart {
+    let SplitShares {
         pf,
         pump,
         service,
         others: mut back,
-    } = take_apart(alloc, shares)?;
+    } = split_shares(alloc, shares)?;
     start_guests(rt, log, &common, ports, &mut crew);
     start_driver(
         rt,
@@ -158,7 +158,7 @@ fn run<
     if ends.was_refused {
         return Err(AllocError);
     }
-    Ok(Ran {
+    Ok(RunOfWorkers {
         shares: back,
         pools,
         was_full: ends.was_full,
@@ -172,12 +172,12 @@ fn common_of<M: GuestMem, L: Ledger, P: GuestPort, G: Gate + Drop>(
     device: &Arc<LockedDevice<M, L>>,
     gate: Arc<G>,
     ports: &[(LockedPort<M, L, P>, EndNote)],
-) -> Result<Common<M, L, G>, AllocError>
+) -> Result<WorkerContext<M, L, G>, AllocError>
     ensures { IfOk result
         (λ common. arc_value common.plan ≡ plan_of (arc_value script) ports.now) }
 {
     let plan = Plan::new(alloc, script, pools_of(ports))?;
-    Ok(Common {
+    Ok(WorkerContext {
         plan: Arc::new(alloc, plan)?,
         device: Arc::try_clone(device)?,
         gate,
@@ -186,7 +186,7 @@ fn common_of<M: GuestMem, L: Ledger, P: GuestPort, G: Gate + Drop>(
 
 // The shares that workers without a port have, and the others.
 #[derive(Drop)]
-struct Apart<L: Ledger> {
+struct SplitShares<L: Ledger> {
     pf: Share<L>,
     pump: Share<L>,
     service: Share<L>,
@@ -194,7 +194,7 @@ struct Apart<L: Ledger> {
 }
 
 // Takes the shares apart.
-fn take_apart<L: Ledger>(alloc: Global, shares: Shares<L>) -> Result<Apart<L>, AllocError>
+fn split_shares<L: Ledger>(alloc: Global, shares: Shares<L>) -> Result<SplitShares<L>, AllocError>
     ensures pf { IfOk result (λ apart. apart.pf ≡ shares.pf) }
     ensures pump { IfOk result (λ apart. apart.pump ≡ shares.pump) }
     ensures service { IfOk result (λ apart. apart.service ≡ shares.service) }
@@ -203,7 +203,7 @@ fn take_apart<L: Ledger>(alloc: Global, shares: Shares<L>) -> Result<Apart<L>, A
     let mut others = Vec::with_capacity(alloc, CALLERS)?;
     shares.put_back(&mut others)?;
     let (service, pump, pf) = (others.remove(2), others.remove(1), others.remove(0));
-    Ok(Apart {
+    Ok(SplitShares {
         pf,
         pump,
         service,

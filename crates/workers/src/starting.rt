@@ -8,7 +8,7 @@ use crate::crew::{Crew, Running};
 use crate::gate::Gate;
 use crate::plan::Plan;
 use crate::work::Work;
-use crate::worker::{Done, Worker, driver, guest};
+use crate::worker::{Worker, WorkerResult, driver, guest};
 use device_lock::{Caller, LockedDevice, Share};
 use guest_memory::GuestMem;
 use guest_port::{EndNote, GuestPort, LockedPort};
@@ -22,7 +22,7 @@ use std::thread::Threads;
 
 /// What all workers have in common.
 #[derive(Drop)]
-pub struct Common<M: GuestMem, L: Ledger, G: Gate + Drop> {
+pub struct WorkerContext<M: GuestMem, L: Ledger, G: Gate + Drop> {
     /// Who does which event.
     pub plan: Arc<Plan>,
     /// The device that all of them ask.
@@ -31,12 +31,12 @@ pub struct Common<M: GuestMem, L: Ledger, G: Gate + Drop> {
     pub gate: Arc<G>,
 }
 
-impl<M: GuestMem, L: Ledger, G: Gate + Drop> Common<M, L, G> {
+impl<M: GuestMem, L: Ledger, G: Gate + Drop> WorkerContext<M, L, G> {
     /// The same for one more worker.
-    pub fn another(&self) -> Result<Common<M, L, G>, AllocError>
+    pub fn another(&self) -> Result<WorkerContext<M, L, G>, AllocError>
         ensures { IfOk result (λ other. arc_value other.plan ≡ arc_value self.now.plan) }
     {
-        Ok(Common {
+        Ok(WorkerContext {
             plan: Arc::try_clone(&self.plan)?,
             device: Arc::try_clone(&self.device)?,
             gate: Arc::try_clone(&self.gate)?,
@@ -57,7 +57,7 @@ pub fn start_guests<
 >(
     rt: R,
     log: &O,
-    common: &Common<M, L, G>,
+    common: &WorkerContext<M, L, G>,
     ports: Vec<(LockedPort<M, L, P>, EndNote)>,
     crew: &mut Crew<M, L, P>,
 )
@@ -83,7 +83,7 @@ fn start_guest<
 >(
     rt: R,
     log: &O,
-    common: &Common<M, L, G>,
+    common: &WorkerContext<M, L, G>,
     pool: u8,
     port: LockedPort<M, L, P>,
     crew: &mut Crew<M, L, P>,
@@ -109,9 +109,9 @@ fn start_guest<
 // What a port's thread does.
 fn do_port<M: GuestMem, L: Ledger, P: GuestPort, G: Gate + Drop, R: Wait + Copy>(
     rt: R,
-    mine: Common<M, L, G>,
+    mine: WorkerContext<M, L, G>,
     mut port: LockedPort<M, L, P>,
-) -> Done<L>
+) -> WorkerResult<L>
     ensures { result.was_full ≡ false → IsDone (OfPort (arc_value mine.plan) port) result.share }
 {
     guest(&rt, &mine.plan, &mine.device, &mut port, &*mine.gate)
@@ -128,7 +128,7 @@ pub fn start_driver<
 >(
     rt: R,
     log: &O,
-    common: &Common<M, L, G>,
+    common: &WorkerContext<M, L, G>,
     worker: Worker,
     caller: Caller,
     share: Share<L>,
@@ -157,10 +157,10 @@ pub fn start_driver<
 // What the thread of the driver does, or of the service.
 fn do_share<M: GuestMem, L: Ledger, G: Gate + Drop, R: Wait + Copy>(
     rt: R,
-    mine: Common<M, L, G>,
+    mine: WorkerContext<M, L, G>,
     caller: Caller,
     share: Share<L>,
-) -> Done<L>
+) -> WorkerResult<L>
     requires caller { share.caller ≡ caller }
     requires other { is_port caller ≡ false }
     ensures { result.was_full ≡ false → IsDone (OfShare (arc_value mine.plan) share) result.share }

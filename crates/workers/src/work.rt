@@ -1,7 +1,7 @@
 //! What a worker's thread is to have done when it ends.
 
 use crate::plan::Plan;
-use crate::worker::{Done, Pumped};
+use crate::worker::{Pumped, WorkerResult};
 use device_lock::Share;
 use guest_memory::GuestMem;
 use guest_port::{GuestPort, LockedPort};
@@ -20,7 +20,7 @@ pub enum Work<M: GuestMem, L: Ledger, P: GuestPort> {
     Owner(Shadow<Plan>, Shadow<Share<L>>),
 }
 
-impl<M: GuestMem, L: Ledger, P: GuestPort> Promise<Done<L>> for Work<M, L, P> {
+impl<M: GuestMem, L: Ledger, P: GuestPort> Promise<WorkerResult<L>> for Work<M, L, P> {
     ghost use Rattle.std.specs.Prelude.{◌≡◌, false};
     ghost use Rattle.workers.specs.Duties.{IsDone};
     ghost use Rattle.workers.specs.Work.{duty_of};

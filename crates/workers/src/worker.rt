@@ -58,7 +58,7 @@ impl Display for Worker {
 
 /// What a worker hands back when it ends.
 #[derive(Drop)]
-pub struct Done<L: Ledger> {
+pub struct WorkerResult<L: Ledger> {
     /// Its share. A port that was closed before has none.
     pub share: Option<Share<L>>,
     /// Whether it ended since the history was full.
@@ -94,7 +94,7 @@ pub fn guest<M: GuestMem, L: Ledger, P: GuestPort, G: Gate, R: Wait>(
     device: &LockedDevice<M, L>,
     port: &mut LockedPort<M, L, P>,
     gate: &G,
-) -> Done<L>
+) -> WorkerResult<L>
     ensures all { result.was_full ≡ false →
         HasClosed (own_events plan.now (Port port.old.port.pool)) port.old port.new }
     ensures part { result.was_full ≡ true
@@ -113,7 +113,7 @@ pub fn guest<M: GuestMem, L: Ledger, P: GuestPort, G: Gate, R: Wait>(
         }
         None => None,
     };
-    Done { share, was_full }
+    WorkerResult { share, was_full }
 }
 
 // Does a port's events, and tells whether all were done.
@@ -180,7 +180,7 @@ pub fn driver<M: GuestMem, L: Ledger, G: Gate, R: Wait>(
     caller: Caller,
     mut share: Share<L>,
     gate: &G,
-) -> Done<L>
+) -> WorkerResult<L>
     requires caller { share.caller ≡ caller }
     requires other { is_port caller ≡ false }
     ensures all { result.was_full ≡ false →
@@ -190,7 +190,7 @@ pub fn driver<M: GuestMem, L: Ledger, G: Gate, R: Wait>(
         × HasLeft (take done (own_events plan.now share.caller)) share result.share }
 {
     let was_full = !events(rt, plan, device, caller, &mut share, gate);
-    Done {
+    WorkerResult {
         share: Some(share),
         was_full,
     }

@@ -1,7 +1,7 @@
 // Each form of a reply, and marks.
 use super::{device_of_8, run};
 use crate::compare::assert_equal;
-use device::{MemSlice, Outcome, Request, Taken};
+use device::{MemSlice, Outcome, Request, Response};
 use irq_causes::Messages;
 use script_support::registers::{PF_VT_CTL, SRRCTL0, VFCTRL, VFLINKS};
 use std::test::Fail;
@@ -53,7 +53,7 @@ fn services_and_marks(rt: HostRuntime) -> Result<(), Fail> {
         (6, Outcome::Sent, [1 | 1 << 63, 1 << 63, 1 << 9 | 1 << 63]),
         (u64::MAX, Outcome::Value(0x0012_ABCD), [0, 0, 0]),
     ] {
-        let taken = Taken {
+        let taken = Response {
             outcome,
             messages: Messages::from_words(words),
             sent: None,

@@ -1,6 +1,6 @@
 -- A line whose words are not as many numbers says no event.
 use Rattle.script.proofs.NumberLemmas.{end_not, flr_not, mem_read_not, mem_write_not, on_bad, open_not, pf_read_not, pf_write_not, serve_not, vf_read_not, vf_write_not}
-use Rattle.script.proofs.record.Record.of_line.Goals as goal
+use Rattle.script.proofs.record.record_of_line.Goals as goal
 
 pub returns-in_err-p-in-VfRead-clause-bad : goal.returns-in_err-p-in-VfRead-clause-bad
 returns-in_err-p-in-VfRead-clause-bad c = on_bad _ (rw c.in-VfRead.is (vf_read_not c.args.limit _ c.in_err-p-in-VfRead.ensures.1))

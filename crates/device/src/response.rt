@@ -1,7 +1,7 @@
 //! What came of an event, with its messages and the frame that it sent.
 ghost use Rattle.std.specs.Prelude.{◌≡◌, None};
 ghost use Rattle.irq_causes.specs.Messages.{no_messages};
-ghost use Rattle.device.specs.declared.outcome.Outcome.{Outcome};
+ghost use Rattle.device.specs.declared.event.Reply.{Reply};
 ghost use Rattle.device.specs.World.{World, silently};
 ghost use Rattle.device.specs.Outcome.{answer_in, done_or_refused, value_or_refused, messages_or_refused};
 
@@ -12,7 +12,7 @@ use wire_frame::{Fault, FrameBuf};
 /// What came of an event, with the messages and the frame that it sent. It has a few words: the frame stands where the
 /// caller lent room for it.
 #[derive(Clone, Copy)]
-pub struct Taken<'f> {
+pub struct Response<'f> {
     /// What came of the event.
     pub outcome: Outcome,
     /// The interrupt messages that it issued, to each pool.
@@ -23,16 +23,16 @@ pub struct Taken<'f> {
     pub left: Option<&'f FrameBuf>,
 }
 
-impl<'f> Taken<'f> {
+impl<'f> Response<'f> {
     // An outcome without messages, of an event that sent no frame.
     #[inline]
-    pub(crate) fn silent(outcome: Outcome) -> Taken<'f>
+    pub(crate) fn silent(outcome: Outcome) -> Response<'f>
         ensures outcome { result.outcome ≡ outcome }
         ensures messages { result.messages ≡ no_messages }
         ensures sent { result.sent ≡ None }
         ensures left { result.left ≡ None }
     {
-        Taken {
+        Response {
             outcome,
             messages: Messages::none(),
             sent: None,
@@ -43,13 +43,13 @@ impl<'f> Taken<'f> {
     // An event that was done, with messages. They are taken by words: as one piece they would be moved with what stands
     // beside them, and who reads a word would wait for the whole move.
     #[inline]
-    pub(crate) fn done_with(messages: Messages) -> Taken<'f>
-        ensures outcome { result.outcome ≡ Outcome.Done }
+    pub(crate) fn done_with(messages: Messages) -> Response<'f>
+        ensures outcome { result.outcome ≡ Reply.Done }
         ensures messages { result.messages ≡ messages }
         ensures sent { result.sent ≡ None }
         ensures left { result.left ≡ None }
     {
-        Taken {
+        Response {
             outcome: Outcome::Done,
             messages: Messages::from_words(messages.words()),
             sent: None,
@@ -59,13 +59,13 @@ impl<'f> Taken<'f> {
 
     // A register that was read.
     #[inline]
-    fn read(value: u32) -> Taken<'f>
-        ensures outcome { result.outcome ≡ Outcome.Value value }
+    fn read(value: u32) -> Response<'f>
+        ensures outcome { result.outcome ≡ Reply.Value value }
         ensures messages { result.messages ≡ no_messages }
         ensures sent { result.sent ≡ None }
         ensures left { result.left ≡ None }
     {
-        Taken {
+        Response {
             outcome: Outcome::Value(value),
             messages: Messages::none(),
             sent: None,
@@ -75,13 +75,13 @@ impl<'f> Taken<'f> {
 
     // An event that was refused.
     #[inline]
-    fn refused(fault: Fault) -> Taken<'f>
-        ensures outcome { result.outcome ≡ Outcome.Refused fault }
+    fn refused(fault: Fault) -> Response<'f>
+        ensures outcome { result.outcome ≡ Reply.Refused fault }
         ensures messages { result.messages ≡ no_messages }
         ensures sent { result.sent ≡ None }
         ensures left { result.left ≡ None }
     {
-        Taken {
+        Response {
             outcome: Outcome::Refused(fault),
             messages: Messages::none(),
             sent: None,
@@ -91,40 +91,40 @@ impl<'f> Taken<'f> {
 
     // What was done, or refused.
     #[inline]
-    pub(crate) fn done_or_refused(done: Result<(), Fault>) -> Taken<'f>
+    pub(crate) fn done_or_refused(done: Result<(), Fault>) -> Response<'f>
         ensures answer { (w : World) → answer_in w result ≡ silently (done_or_refused done) }
         ensures sent { result.sent ≡ None }
         ensures left { result.left ≡ None }
     {
         match done {
-            Ok(()) => Taken::done_with(Messages::none()),
-            Err(fault) => Taken::refused(fault),
+            Ok(()) => Response::done_with(Messages::none()),
+            Err(fault) => Response::refused(fault),
         }
     }
 
     // A value, or a refusal.
     #[inline]
-    pub(crate) fn value_or_refused(value: Result<u32, Fault>) -> Taken<'f>
+    pub(crate) fn value_or_refused(value: Result<u32, Fault>) -> Response<'f>
         ensures answer { (w : World) → answer_in w result ≡ silently (value_or_refused value) }
         ensures sent { result.sent ≡ None }
         ensures left { result.left ≡ None }
     {
         match value {
-            Ok(value) => Taken::read(value),
-            Err(fault) => Taken::refused(fault),
+            Ok(value) => Response::read(value),
+            Err(fault) => Response::refused(fault),
         }
     }
 
     // What was done with these messages, or refused.
     #[inline]
-    pub(crate) fn issued(messages: Result<Messages, Fault>) -> Taken<'f>
+    pub(crate) fn issued(messages: Result<Messages, Fault>) -> Response<'f>
         ensures answer { (w : World) → answer_in w result ≡ messages_or_refused messages }
         ensures sent { result.sent ≡ None }
         ensures left { result.left ≡ None }
     {
         match messages {
-            Ok(messages) => Taken::done_with(messages),
-            Err(fault) => Taken::refused(fault),
+            Ok(messages) => Response::done_with(messages),
+            Err(fault) => Response::refused(fault),
         }
     }
 }

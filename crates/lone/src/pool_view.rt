@@ -5,7 +5,7 @@ ghost use Rattle.pool_filter.specs.Own.{own};
 ghost use Rattle.device.specs.World.{step};
 ghost use Rattle.device.specs.Request.{event_of};
 ghost use Rattle.device.specs.declared.event.Event.{Event};
-ghost use Rattle.device.specs.Lone.{kept, kept_of};
+ghost use Rattle.device.specs.Lone.{kept, kept_of, pool_of};
 ghost use Rattle.lone.specs.Kept.{item_of};
 
 use crate::item::{Given, Room};
@@ -18,14 +18,14 @@ use wire_frame::{FrameBuf, PoolId};
 
 /// A device that is watched for one of its pools.
 #[derive(Drop)]
-pub struct Watch<M: GuestMem> {
+pub struct PoolView<M: GuestMem> {
     device: Device<M>,
     pool: PoolId,
     // the pool's own settings, as they are now
     settings: Own,
 }
 
-impl<M: GuestMem> Model for Watch<M> {
+impl<M: GuestMem> Model for PoolView<M> {
     ghost use Rattle.std.specs.Prelude.{◌≡◌};
     ghost use Rattle.pool_filter.specs.Own.{own};
     ghost use Rattle.lone.specs.Kept.{Watched};
@@ -37,15 +37,15 @@ impl<M: GuestMem> Model for Watch<M> {
     ghost invariant = { λ w. w.settings ≡ own w.device.settings w.pool };
 }
 
-impl<M: GuestMem> Watch<M> {
+impl<M: GuestMem> PoolView<M> {
     /// The device, watched for a pool from now on.
-    pub fn new(device: Device<M>, pool: PoolId) -> Watch<M>
+    pub fn new(device: Device<M>, pool: PoolId) -> PoolView<M>
         ensures world { result.world ≡ device }
         ensures pool { result.pool ≡ pool }
     {
         let mut settings = Own::none();
         device.tables().own(pool, &mut settings);
-        Watch {
+        PoolView {
             device,
             pool,
             settings,
@@ -60,7 +60,7 @@ impl<M: GuestMem> Watch<M> {
         ensures kept { option_map item_of result
             ≡ kept self.old.pool self.old.world (event_of request.entry) }
     {
-        if request.pool() == Some(self.pool.get()) {
+        if owner(request) == Some(self.pool.get()) {
             self.pass(request, &mut room.frame);
             return Some(Given::OwnEvent(request));
         }
@@ -149,4 +149,13 @@ impl<M: GuestMem> Watch<M> {
             None
         }
     }
+}
+
+// The number of the function whose own event a request is.
+#[inline]
+#[tactic(auto, using(crate::proofs::Requests::same_pool))]
+fn owner(request: Request<'_>) -> Option<u8>
+    ensures { result ≡ pool_of (event_of request.entry) }
+{
+    request.pool()
 }

@@ -1,7 +1,7 @@
 -- Own settings that do not differ are those after the write.
 use Rattle.std.proofs.Common.{ap, ◌∙◌}
 use Rattle.pool_filter.specs.Own.{own}
-use Rattle.lone.proofs.watch.Watch.pf_write.Goals as goal
+use Rattle.lone.proofs.pool_view.PoolView.pf_write.Goals as goal
 
 pub invariant_of-self : goal.invariant_of-self
 invariant_of-self g c =

@@ -37,7 +37,7 @@ parts_split : (h : HostState) (rs ss : List Register) → register_parts h (rs +
 parts_split h [] ss = refl
 parts_split h (r ∷ rs) ss = ap (λ gs. register_part h r ∷ gs) (parts_split h rs ss)
 
-in_parts : (h : HostState) (rs : List Register) → writes_to h rs ≡ writes_in (register_parts h rs)
+pub in_parts : (h : HostState) (rs : List Register) → writes_to h rs ≡ writes_in (register_parts h rs)
 in_parts h [] = refl
 in_parts h (r ∷ rs) = ap (λ l. register_writes h r ++ l) (in_parts h rs)
 
@@ -59,7 +59,7 @@ strides PoolFlags = omega arith
 strides ReceiveEnable = omega arith
 strides TransmitEnable = omega arith
 
-all_fit : (h : HostState) (rs : List Register) → AllFit (register_parts h rs)
+pub all_fit : (h : HostState) (rs : List Register) → AllFit (register_parts h rs)
 all_fit h [] = tt
 all_fit h (r ∷ rs) = ((strides r, omega arith), all_fit h rs)
 

@@ -25,7 +25,7 @@ pub each_front : (P : Write → Type 0) (xs ys : List Write) → Each P (xs ++ y
 each_front P [] ys a = tt
 each_front P (x ∷ xs) ys a = (a.0, each_front P xs ys a.1)
 
-each_from : (P : Write → Type 0) (row : Row) (word : ℕ → ℕ) (i n : ℕ) → ((j : ℕ) → i ≤ j → j < i + n → P (write_at row j (word j))) → Each P (writes_from row word i n)
+pub each_from : (P : Write → Type 0) (row : Row) (word : ℕ → ℕ) (i n : ℕ) → ((j : ℕ) → i ≤ j → j < i + n → P (write_at row j (word j))) → Each P (writes_from row word i n)
 each_from P row word i zero all = tt
 each_from P row word i (suc n) all = (all i (omega arith) (omega arith), each_from P row word (suc i) n (λ j past below. all j (omega (arith, past)) (omega (arith, below))))
 

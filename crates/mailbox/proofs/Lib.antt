@@ -10,4 +10,5 @@ pub mod Others
 pub mod Policies
 pub mod Rows
 pub mod Settle
+pub mod Shown
 pub mod Turns

@@ -1,8 +1,8 @@
 -- What a host makes of one pool's own settings is within the policy of its function.
-use Rattle.std.proofs.Common.{arith, ◌≡◌, ℕ, zero, suc, ◌+◌, ◌-◌, ◌*◌, ◌/◌, ◌%◌, ◌^◌, ◌<◌, Bool, true, false, cond, ◌||◌, replicate, length, get_or, Option, Some, None, refl, sym, ap, ◌∙◌, true≢false, eqb, eqb-true, ltb}
+use Rattle.std.proofs.Common.{arith, ◌≡◌, ℕ, zero, suc, ◌+◌, ◌-◌, ◌*◌, ◌/◌, ◌%◌, ◌^◌, ◌<◌, Bool, true, false, cond, ◌||◌, replicate, length, get_or, Option, Some, None, refl, sym, ap, ◌∙◌, true≢false, eqb, eqb-true, ltb, ◌≢◌, subst}
 use Rattle.std.specs.List.{list_any, range_with_len}
 use Rattle.std.proofs.Math.Bool.{or-true}
-use Rattle.std.proofs.lemmas.Bool.{and_parts, ltb-true, ltb-false}
+use Rattle.std.proofs.lemmas.Bool.{and_parts, ltb-true, ltb-false, false_from_ne_true}
 use Rattle.std.proofs.lemmas.Bool.Decides.{nat_tests}
 use Rattle.std.proofs.lemmas.List.{get_or-replicate}
 use Rattle.std.proofs.lemmas.Nat.Bits.{bit_at_ones}
@@ -12,9 +12,9 @@ use Rattle.addr_tables.specs.Addresses.{entry_address, entry_has_pool as address
 use Rattle.vlan_table.specs.Vlans.{entry_id, entry_has_pool as vlan_has_pool, entry_gives as vlan_gives, is_in_entries, has_vlan}
 use Rattle.pool_filter.specs.Own.{contains, own}
 use Rattle.pool_filter.proofs.OwnLemmas.{contains_own_addresses, contains_own_vlan_ids}
-use Rattle.mailbox.specs.Function.{low_part, is_number, holds}
+use Rattle.mailbox.specs.Function.{low_part, is_number, is_unicast, holds}
 use Rattle.mailbox.specs.Host.{HostState, function_at}
-use Rattle.mailbox.specs.Within.{IsWithin, IsHeldBy, IsNamedFor}
+use Rattle.mailbox.specs.Within.{IsWithin, IsNamedFor}
 use Rattle.mailbox.specs.Words.{table, low_word, high_word, valid, entry, pool_word, id_word, member_word, has_joined, addresses_of, vlans_of, settings_of}
 use Rattle.mailbox.proofs.Entries.{table_at, entry_pool, entry_member}
 
@@ -30,6 +30,10 @@ found t a (suc n) is = go (found t (a + 1) n) (t a) refl is
         (rest.0, (omega (arith, rest.1.0), rest.1.1))
 
 -- ---- addresses
+
+-- the address is the low 48 bits of one that the function holds
+abbrev pub IsHeldBy : HostState → ℕ → ℕ → Type 0
+IsHeldBy h p a = (x : ℕ) × ((holds (function_at h p) x ≡ true) × (x % 2 ^ 48 ≡ a))
 
 number_itself : (x : ℕ) → is_number (Some x) x ≡ true
 number_itself x = grind (arith, nat_tests)
@@ -74,11 +78,26 @@ entry_shown h p a e small below gives = go (entry h e) refl (sym (ap (λ w. has_
         let same : x % 2 ^ 32 + 2 ^ 32 * ((2 ^ 31 + x / 2 ^ 32 % 2 ^ 16) % 2 ^ 16) ≡ a = sym (ap (λ o. low_part o + 2 ^ 32 * (valid o % 2 ^ 16)) is) ∙ number in
         (x, (entry_held h p e x below at is, omega (arith, same)))
 
-pub address_shown : (h : HostState) (p a : ℕ) → p < 64 → contains (own (settings_of h) p).addresses a ≡ true → IsHeldBy h p a
+held_in : (h : HostState) (p a : ℕ) → p < 64 → contains (own (settings_of h) p).addresses a ≡ true → IsHeldBy h p a
 unfolding settings_of has_address
-address_shown h p a small there =
+held_in h p a small there =
     let some : (e : ℕ) × ((e < 0 + 128) × (address_gives (addresses_of h) p a e ≡ true)) = found (address_gives (addresses_of h) p a) 0 128 (sym (contains_own_addresses (settings_of h) p a) ∙ there) in
     entry_shown h p a some.0 small (omega (arith, some.1.0)) some.1.1
+
+-- and so that address, since it is one of six bytes
+pub address_shown : (h : HostState) (p a : ℕ) → p < 64 → IsWithin h → contains (own (settings_of h) p).addresses a ≡ true → holds (function_at h p) a ≡ true
+address_shown h p a small w there =
+    let held : IsHeldBy h p a = held_in h p a small there in
+    let unicast : is_unicast held.0 ≡ true = (w.policies p small).unicast held.0 held.1.0 in
+    let fits : ltb held.0 (2 ^ 48) ≡ true = (and_parts (ltb held.0 (2 ^ 48)) _ unicast).0 in
+    let below : held.0 < 2 ^ 48 = ltb-true held.0 (2 ^ 48) fits in
+    let same : held.0 ≡ a = omega (arith, below, held.1.1) in
+    subst (λ (n : ℕ). holds (function_at h p) n ≡ true) same held.1.0
+
+pub one_pool : (h : HostState) (p q a : ℕ) → p < 64 → q < 64 → q ≢ p → IsWithin h → contains (own (settings_of h) p).addresses a ≡ true → contains (own (settings_of h) q).addresses a ≡ false
+one_pool h p q a small q_small other w there =
+    false_from_ne_true (contains (own (settings_of h) q).addresses a)
+    (λ also. true≢false (sym (address_shown h q a q_small w also) ∙ w.one_holder p q a small q_small other (address_shown h p a small w there)))
 
 -- ---- VLANs
 

@@ -1,5 +1,5 @@
 -- What a function has at most: no more than its policy grants, and nothing that another holds.
-use Rattle.std.specs.Prelude.{◌≡◌, ◌≢◌, ℕ, ◌%◌, ◌^◌, ◌<◌, Bool, true, false, ◌||◌, None, length, slice_index}
+use Rattle.std.specs.Prelude.{◌≡◌, ◌≢◌, ℕ, ◌%◌, ◌<◌, Bool, true, false, ◌||◌, None, length, slice_index}
 use Rattle.wire_frame.specs.Bits.{has_bit}
 use Rattle.mailbox.specs.declared.function.Function.{Function}
 use Rattle.mailbox.specs.Function.{is_number, is_unicast, holds, gone}
@@ -36,10 +36,6 @@ abbrev pub KeepsPolicies : HostState → HostState → Type 0
 KeepsPolicies h k = (q : ℕ) → gone (function_at h q) ≡ gone (function_at k q)
 
 -- ---- in the registers
-
--- the address, which is 48 bits long, is one that the function of the pool holds
-abbrev pub IsHeldBy : HostState → ℕ → ℕ → Type 0
-IsHeldBy h p a = (x : ℕ) × ((holds (function_at h p) x ≡ true) × (x % 2 ^ 48 ≡ a))
 
 -- the id is that of a place which the function of the pool may have
 abbrev pub IsNamedFor : HostState → ℕ → ℕ → Type 0

@@ -327,11 +327,11 @@ fn is_number(number: Option<u64>, address: u64) -> bool
     }
 }
 
-/// Whether an address, as a number, is one station's, and not 0.
+/// Whether a number is one station's address, of six bytes, and not 0.
 pub(crate) fn is_unicast(address: u64) -> bool
     ensures { result ≡ is_unicast address }
 {
-    address % 2 == 0 && address != 0
+    address < 0x1_0000_0000_0000 && address % 2 == 0 && address != 0
 }
 
 // The first place that has the id.

@@ -225,7 +225,8 @@ impl Host {
     ///
     /// In the settings that the host stands for nothing of another pool's is changed by it, whatever the message: not what is
     /// its own, nor which frames it accepts, nor which it may send; and loopback, VLAN filtering, the default pool and the
-    /// multicast table stay for all.
+    /// multicast table stay for all. Done in their order, the writes make the settings of the host before into those of the host
+    /// after, and after each of them every other pool has what it had. No function gets more than its policy grants.
     #[tactic(auto, unfolding(crate::specs::Host::host_after, crate::specs::Writes::writes_after, crate::specs::Replies::reply_to))]
     pub fn answer(&mut self, pool: PoolId, mailbox: &mut Mailbox) -> Writes
         ensures host { self.new ≡ host_after self.old pool (message_of mailbox.old.words) }

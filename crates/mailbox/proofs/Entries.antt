@@ -32,7 +32,7 @@ half_bit a q half is = go (eqb (a / 32) half) refl
     go false there = has_bit_zero (q % 32) ∙ grind (arith, nat_tests, there, is)
 
 -- the two words of an entry, as words of their table
-two_words_at : (ws : List ℕ) (k q : ℕ) → q < 64 → has_bit_in (two_words ws k) q ≡ has_bit (get_or ws (2 * k + q / 32) 0) (q % 32)
+pub two_words_at : (ws : List ℕ) (k q : ℕ) → q < 64 → has_bit_in (two_words ws k) q ≡ has_bit (get_or ws (2 * k + q / 32) 0) (q % 32)
 two_words_at ws k q below = ⊎_elim low high (cases_lt q 32)
   where
     low : q < 32 → has_bit_in (two_words ws k) q ≡ has_bit (get_or ws (2 * k + q / 32) 0) (q % 32)
@@ -57,7 +57,7 @@ entry_pool e q h below =
     ∙ (λ i. has_bit (cond (eqb (at_entry i % 64 / 32) (part i)) (2 ^ (at_entry i % 64 % 32)) 0) (q % 32))
     ∙ half_bit (e % 64) q (q / 32) refl
 
-mask_or_none : (b : Bool) (t : ℕ → Bool) (half q : ℕ) → 32 * half + q % 32 ≡ q → has_bit (cond b (mask_from t (32 * half) 32) 0) (q % 32) ≡ (b && t q)
+pub mask_or_none : (b : Bool) (t : ℕ → Bool) (half q : ℕ) → 32 * half + q % 32 ≡ q → has_bit (cond b (mask_from t (32 * half) 32) 0) (q % 32) ≡ (b && t q)
 mask_or_none true t half q is = has_bit_mask t (32 * half) 32 (q % 32) (omega arith) ∙ ap t is
 mask_or_none false t half q is = has_bit_zero (q % 32)
 

@@ -1,5 +1,14 @@
 pub mod Alike
 pub mod Entries
+pub mod First
 pub mod Isolation
+pub mod Kept
 pub mod Masks
+pub mod Meanwhile
 pub mod Members
+pub mod Others
+pub mod Policies
+pub mod Rows
+pub mod Settle
+pub mod Shown
+pub mod Turns

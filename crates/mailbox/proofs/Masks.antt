@@ -1,11 +1,15 @@
 -- The bits of a mask, and its size.
-use Rattle.std.proofs.Common.{arith, ◌≡◌, ℕ, zero, suc, ◌+◌, ◌-◌, ◌*◌, ◌/◌, ◌%◌, ◌^◌, ◌<◌, ◌≤◌, Bool, true, false, cond, refl, sym, ap, ◌∙◌, eqb}
+use Rattle.std.proofs.Common.{arith, ◌≡◌, ℕ, zero, suc, ◌+◌, ◌-◌, ◌*◌, ◌/◌, ◌%◌, ◌^◌, ◌<◌, ◌≤◌, Bool, true, false, cond, ◌&&◌, ltb, refl, sym, ap, ◌∙◌, eqb}
 use Rattle.std.specs.Int.{bit_at}
 use Rattle.std.proofs.Math.Nat.{pow-le-pow_right}
 use Rattle.std.proofs.lemmas.Grind.{pow_more}
 use Rattle.std.proofs.lemmas.Nat.Bits.{bit_at-suc, bit_at_lowest}
 use Rattle.wire_frame.specs.Bits.{has_bit}
-use Rattle.mailbox.specs.Words.{mask_from}
+use Rattle.std.proofs.lemmas.Bool.{and_parts}
+use Rattle.std.proofs.lemmas.Bool.Decides.{nat_tests}
+use Rattle.mailbox.specs.declared.words.Set.{Set}
+use Rattle.mailbox.specs.declared.words.Set.TheVariants.{Up, Joined, Named}
+use Rattle.mailbox.specs.Words.{mask_from, reaches}
 
 pub mask_none : (t : ℕ → Bool) (first : ℕ) → mask_from t first 0 ≡ 0
 unfolding mask_from
@@ -77,3 +81,12 @@ mask_step t top done word b below is bit =
   where
     swap : (x y : ℕ) → y + x ≡ x + y
     swap x y = omega arith
+
+-- a set reaches every number below one that it reaches
+pub reaches_below : (set : Set) (n m : ℕ) → m ≤ n → reaches set n ≡ true → reaches set m ≡ true
+reaches_below Up n m less far = grind (arith, nat_tests, far, less)
+reaches_below (Joined k) n m less far =
+    let parts : (ltb k 64 ≡ true) × (ltb n 64 ≡ true) = and_parts (ltb k 64) (ltb n 64) far in
+    let below : ltb m 64 ≡ true = grind (arith, nat_tests, parts.1, less) in
+    λ i. parts.0 i && below i
+reaches_below Named n m less far = grind (arith, nat_tests, far, less)

@@ -33,9 +33,9 @@ abbrev pub is_number : Option ℕ → ℕ → Bool
 is_number None a = false
 is_number (Some b) a = b == a
 
--- one station's address, and not 0: bit 0 of the first byte is 0
+-- one station's address, of six bytes, and not 0: bit 0 of the first byte is 0
 abbrev pub is_unicast : ℕ → Bool
-is_unicast a = a % 2 == 0 && not (a == 0)
+is_unicast a = nat_lt a (2 ^ 48) && (a % 2 == 0 && not (a == 0))
 
 -- the address is the function's: its permanent one, the one in use, or its second
 unfoldable pub holds : Function → ℕ → Bool

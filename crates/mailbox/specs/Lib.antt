@@ -5,6 +5,8 @@ pub mod Mailbox
 pub mod Message
 pub mod Registers
 pub mod Replies
+pub mod Start
+pub mod Within
 pub mod Words
 pub mod Writes
 pub use Rattle.wire_frame.specs.Bits

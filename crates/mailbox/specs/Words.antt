@@ -1,5 +1,5 @@
 -- The registers of the physical function, as they are for a host: each word by its place in its row.
-use Rattle.std.specs.Prelude.{ℕ, zero, suc, ◌+◌, ◌-◌, ◌*◌, ◌/◌, ◌%◌, ◌^◌, Bool, true, ◌||◌, ◌==◌, nat_lt, List, length, map, replicate, Option, Some, None, is_none, slice_index, if◌then◌else◌}
+use Rattle.std.specs.Prelude.{ℕ, zero, suc, ◌+◌, ◌-◌, ◌*◌, ◌/◌, ◌%◌, ◌^◌, Bool, ◌&&◌, ◌||◌, ◌==◌, nat_lt, List, length, map, replicate, Option, Some, None, is_none, slice_index, if◌then◌else◌}
 use Rattle.std.specs.List.{range_with_len}
 use Rattle.wire_frame.specs.Bits.{has_bit}
 use Rattle.addr_tables.specs.Addresses.{Addresses}
@@ -35,10 +35,11 @@ is_in_set h Up = is_up h
 is_in_set h (Joined k) = has_joined h k
 is_in_set h Named = contains h.ids
 
-abbrev pub is_set : Set → Bool
-is_set Up = true
-is_set (Joined k) = nat_lt k 64
-is_set Named = true
+-- the set is one of numbers up to that one: of pools, or of ids
+abbrev pub reaches : Set → ℕ → Bool
+reaches Up n = nat_lt n 64
+reaches (Joined k) n = nat_lt k 64 && nat_lt n 64
+reaches Named n = nat_lt n 4096
 
 -- ---- receive addresses: entries p and 64 + p are pool p's
 

@@ -30,10 +30,14 @@ up_writes h =
     write_at PFVFRE 0 (up_word h 0) ∷ write_at PFVFRE 1 (up_word h 1)
     ∷ write_at PFVFTE 0 (up_word h 0) ∷ write_at PFVFTE 1 (up_word h 1) ∷ []
 
--- the words of VLVFB from place i on
-abbrev pub member_writes : HostState → ℕ → ℕ → List Write
-member_writes h i zero = []
-member_writes h i (suc n) = write_at VLVFB i (member_word h i) ∷ member_writes h (suc i) n
+-- writes of the row's n words from place i on
+abbrev pub writes_from : Row → (ℕ → ℕ) → ℕ → ℕ → List Write
+writes_from row word i zero = []
+writes_from row word i (suc n) = write_at row i (word i) ∷ writes_from row word (suc i) n
+
+-- the pools of all VLAN entries that have an id
+abbrev pub member_writes : HostState → List Write
+member_writes h = writes_from VLVFB (member_word h) 0 (2 * length h.ids)
 
 -- all registers of pool p
 unfoldable pub writes_of : HostState → ℕ → List Write
@@ -41,7 +45,7 @@ writes_of h p =
     entry_writes h p ++ entry_writes h (64 + p)
     ++ write_at VMOLR p (flags_word (function_at h p)) ∷ write_at VMVIR p (port_word (function_at h p)) ∷ []
     ++ up_writes h
-    ++ member_writes h 0 (2 * length h.ids)
+    ++ member_writes h
 
 -- the message changes registers, where it is granted
 abbrev pub sets_registers : Message → Bool

@@ -62,7 +62,7 @@ impl Function {
 
     /// Whether the address is its permanent one, the one in use, or its second.
     #[tactic(auto, unfolding(crate::specs::Function::holds))]
-    pub fn holds(&self, address: u64) -> bool
+    pub(crate) fn holds(&self, address: u64) -> bool
         ensures { result ≡ holds self.now address }
     {
         is_number(self.permanent, address)
@@ -84,7 +84,7 @@ impl Function {
     }
 
     /// The function without a guest: nothing that was asked for is left.
-    pub fn gone(self) -> Function
+    pub(crate) fn gone(self) -> Function
         ensures { result ≡ gone self }
     {
         let mut function = self;
@@ -248,7 +248,7 @@ impl Function {
     /// The function after a message, or nothing where the message is refused. `taken` says that another function holds the
     /// address that the message asks for.
     #[tactic(auto, unfolding(crate::specs::Function::answered))]
-    pub fn answered(
+    pub(crate) fn answered(
         self,
         ids: &[u16],
         limit: u16,
@@ -302,7 +302,12 @@ impl Function {
 
     /// The reply to the message in the words, which left the function as another, or was refused.
     #[tactic(auto, unfolding(crate::specs::Function::reply_of))]
-    pub fn reply_of(&self, words: &[u32; 16], message: Message, granted: Option<Function>) -> Reply
+    pub(crate) fn reply_of(
+        &self,
+        words: &[u32; 16],
+        message: Message,
+        granted: Option<Function>,
+    ) -> Reply
         ensures { result ≡ reply_of words.now self.now message granted }
     {
         match granted {
@@ -322,11 +327,11 @@ fn is_number(number: Option<u64>, address: u64) -> bool
     }
 }
 
-/// Whether an address, as a number, is one station's, and not 0.
-pub fn is_unicast(address: u64) -> bool
+/// Whether a number is one station's address, of six bytes, and not 0.
+pub(crate) fn is_unicast(address: u64) -> bool
     ensures { result ≡ is_unicast address }
 {
-    address % 2 == 0 && address != 0
+    address < 0x1_0000_0000_0000 && address % 2 == 0 && address != 0
 }
 
 // The first place that has the id.

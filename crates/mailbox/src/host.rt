@@ -1,12 +1,14 @@
 //! The host.
-ghost use Rattle.std.specs.Prelude.{◌≡◌, ◌≢◌, ℕ, ◌+◌, ◌*◌, ◌<◌, ◌≤◌, ◌++◌, ◌&&◌, [], IfSome, nat_le, is_some, length, replicate, is_ok, true, if◌then◌else◌};
+ghost use Rattle.std.specs.Prelude.{◌≡◌, ◌≢◌, ℕ, ◌+◌, ◌*◌, ◌<◌, ◌≤◌, ◌++◌, ◌&&◌, [], IfSome, List, nat_le, is_some, length, replicate, is_ok, true, if◌then◌else◌};
+ghost use Rattle.mailbox.specs.declared.writes.Write.{Write};
 ghost use Rattle.mailbox.specs.Host.{function_at, other_holds, is_taken, address_in, outcome, host_after, host_without, is_admitted, host_admitting, is_placed};
 ghost use Rattle.mailbox.specs.Function.{absent};
 ghost use Rattle.mailbox.specs.Isolation.{IsSameFor, IsSameForAll};
 ghost use Rattle.mailbox.specs.Message.{message_of};
 ghost use Rattle.mailbox.specs.Replies.{reply_to};
+ghost use Rattle.mailbox.specs.Within.{IsWithin, KeepsPolicies};
 ghost use Rattle.mailbox.specs.Words.{settings_of};
-ghost use Rattle.mailbox.specs.Writes.{entry_writes, up_writes, member_writes, writes_of, sets_registers, writes_after, writes_without};
+ghost use Rattle.mailbox.specs.Writes.{entry_writes, up_writes, member_writes, writes_of, after_writes, sets_registers, writes_after, writes_without};
 
 use crate::function::{Function, is_unicast};
 use crate::mailbox::Mailbox;
@@ -54,6 +56,7 @@ impl Host {
           default_pool = default_pool;
           limit = limit;
         }) }
+        ensures within { IfSome result IsWithin }
     {
         if ids.len() > 64 {
             return None;
@@ -62,25 +65,51 @@ impl Host {
         for id in ids {
             numbers.push(id.get());
         }
-        Some(Host {
+        Some(Host::blank(numbers, default_pool, limit.get()))
+    }
+
+    // The host of these ids, of which no policy names a function.
+    fn blank(ids: ArrayVec<u16, 64>, default_pool: Option<PoolId>, limit: u16) -> Host
+        ensures { result ≡ record {
+          functions = replicate 64 absent;
+          ids = ids.items;
+          default_pool = default_pool;
+          limit = limit;
+        } }
+    {
+        Host {
             functions: [Function::ABSENT; 64],
-            ids: numbers,
+            ids,
             default_pool,
-            limit: limit.get(),
-        })
+            limit,
+        }
     }
 
     /// Gives a function its policy. It is refused, and nothing changes, where the address is not one station's or another
     /// function holds it, where the place of a port VLAN is none of the ids', and where the function is up.
-    #[tactic(auto, unfolding(crate::specs::Host::host_admitting))]
+    ///
+    /// A function that is not up makes no register, so that nothing is to be written.
     pub fn admit(&mut self, pool: PoolId, policy: &Policy) -> Result<(), Fault>
         ensures host { self.new ≡ host_admitting self.old pool policy.now }
         ensures variant { is_ok result ≡ is_admitted self.old pool policy.now }
+        ensures within { IsWithin self.old → IsWithin self.new }
+        ensures settings { IsWithin self.old → settings_of self.new ≡ settings_of self.old }
     {
+        self.take(pool, policy)
+    }
+
+    // The same, by its definition.
+    #[tactic(auto, unfolding(crate::specs::Host::host_admitting))]
+    fn take(&mut self, pool: PoolId, policy: &Policy) -> Result<(), Fault>
+        ensures host { self.new ≡ host_admitting self.old pool policy.now }
+        ensures variant { is_ok result ≡ is_admitted self.old pool policy.now }
+        ensures pool { pool < 64 }
+    {
+        let p = usize::from(pool.get());
         if !self.is_admitted(pool, policy) {
             return Err(Fault::BadMake);
         }
-        self.functions[usize::from(pool.get())] = policy.function(self.ids.as_slice());
+        self.functions[p] = policy.function(self.ids.as_slice());
         Ok(())
     }
 
@@ -106,6 +135,13 @@ impl Host {
         ensures few { length result.now ≤ 64 }
     {
         self.ids.as_slice()
+    }
+
+    /// The pool that takes what no pool accepts.
+    pub(crate) fn default_pool(&self) -> Option<PoolId>
+        ensures { result ≡ self.now.default_pool }
+    {
+        self.default_pool
     }
 
     /// The function of a pool.
@@ -141,7 +177,8 @@ impl Host {
     // What a message makes of the pool's function, or nothing where it is refused.
     #[tactic(auto, unfolding(crate::specs::Host::outcome))]
     fn outcome(&self, pool: PoolId, message: Message) -> Option<Function>
-        ensures { result ≡ outcome self.now pool message }
+        ensures value { result ≡ outcome self.now pool message }
+        ensures few { length self.now.ids ≤ 64 }
     {
         let taken = self.is_taken(pool, address_in(message));
         let function = self.functions[usize::from(pool.get())];
@@ -153,6 +190,7 @@ impl Host {
     fn grant(&mut self, pool: PoolId, message: Message) -> Option<Function>
         ensures function { result ≡ outcome self.old pool message }
         ensures host { self.new ≡ host_after self.old pool message }
+        ensures few { length self.old.ids ≤ 64 }
     {
         let outcome = self.outcome(pool, message);
         if let Some(function) = outcome {
@@ -164,7 +202,8 @@ impl Host {
     // Forgets what the pool's guest asked for.
     #[tactic(auto, unfolding(crate::specs::Host::host_without))]
     fn forget(&mut self, pool: PoolId)
-        ensures { self.new ≡ host_without self.old pool }
+        ensures host { self.new ≡ host_without self.old pool }
+        ensures pool { pool < 64 }
     {
         let p = usize::from(pool.get());
         self.functions[p] = self.functions[p].gone();
@@ -186,7 +225,8 @@ impl Host {
     ///
     /// In the settings that the host stands for nothing of another pool's is changed by it, whatever the message: not what is
     /// its own, nor which frames it accepts, nor which it may send; and loopback, VLAN filtering, the default pool and the
-    /// multicast table stay for all.
+    /// multicast table stay for all. Done in their order, the writes make the settings of the host before into those of the host
+    /// after, and after each of them every other pool has what it had. No function gets more than its policy grants.
     #[tactic(auto, unfolding(crate::specs::Host::host_after, crate::specs::Writes::writes_after, crate::specs::Replies::reply_to))]
     pub fn answer(&mut self, pool: PoolId, mailbox: &mut Mailbox) -> Writes
         ensures host { self.new ≡ host_after self.old pool (message_of mailbox.old.words) }
@@ -195,6 +235,12 @@ impl Host {
         ensures others { (q : ℕ) → q < 64 → q ≢ pool
             → IsSameFor (settings_of self.old) (settings_of self.new) q }
         ensures all { IsSameForAll (settings_of self.old) (settings_of self.new) }
+        ensures settings { after_writes (settings_of self.old) result ≡ settings_of self.new }
+        ensures meanwhile { (q : ℕ) (done left : List Write) → q < 64 → q ≢ pool
+            → done ++ left ≡ result
+            → IsSameFor (settings_of self.old) (after_writes (settings_of self.old) done) q }
+        ensures within { IsWithin self.old → IsWithin self.new }
+        ensures policies { IsWithin self.old → KeepsPolicies self.old self.new }
     {
         let message = mailbox.message();
         let function = self.function_at(u32::from(pool.get()));
@@ -213,6 +259,12 @@ impl Host {
         ensures others { (q : ℕ) → q < 64 → q ≢ pool
             → IsSameFor (settings_of self.old) (settings_of self.new) q }
         ensures all { IsSameForAll (settings_of self.old) (settings_of self.new) }
+        ensures settings { after_writes (settings_of self.old) result ≡ settings_of self.new }
+        ensures meanwhile { (q : ℕ) (done left : List Write) → q < 64 → q ≢ pool
+            → done ++ left ≡ result
+            → IsSameFor (settings_of self.old) (after_writes (settings_of self.old) done) q }
+        ensures within { IsWithin self.old → IsWithin self.new }
+        ensures policies { IsWithin self.old → KeepsPolicies self.old self.new }
     {
         self.forget(pool);
         self.writes_of(pool)
@@ -248,7 +300,8 @@ impl Host {
     // The pools of all VLAN entries that have an id.
     fn put_members(&self, writes: &mut Writes)
         requires { length writes.old ≤ 12 }
-        ensures list { writes.new ≡ writes.old ++ member_writes self.now 0 (2 * length self.now.ids) }
+        ensures list { writes.new ≡ writes.old ++ member_writes self.now }
+        ensures few { length self.now.ids ≤ 64 }
     {
         let count = 2 * self.ids().len() as u32;
         for i in 0..count {
@@ -259,7 +312,8 @@ impl Host {
     // All registers of the pool.
     #[tactic(auto, unfolding(crate::specs::Writes::writes_of))]
     fn writes_of(&self, pool: PoolId) -> Writes
-        ensures { result ≡ writes_of self.now pool }
+        ensures writes { result ≡ writes_of self.now pool }
+        ensures few { length self.now.ids ≤ 64 }
     {
         let p = u32::from(pool.get());
         let function = self.function_at(p);

@@ -5,20 +5,21 @@
 //! it has asked for, answers the message that stands in a mailbox ([`Host::answer`]), and gives the [`Writes`] to the physical
 //! function's registers that are to be done. It stands beside a device and holds none; no call takes memory.
 //!
-//! The reply to each message, what it makes of the function, and the writes are definitions, which the calls meet. A message
-//! changes the state of no other function, and the settings that a host stands for are for every other pool the same before and
-//! after it: its own settings, which frames it accepts and which it may send. Not proved: that the writes, done in order, make
-//! the settings of the host before into those of the host after; that in every history a function has no more than its policy
-//! grants and no two hold one address; and what comes of it in a device. The crate gives no writes for the registers that stand
-//! once for all.
+//! The reply to each message, what it makes of the function, and the writes are definitions, which the calls meet. A host stands
+//! for settings of the physical function: [`Host::first_write`] gives the writes that make a device's registers these, whatever
+//! they held, and the writes of each answer and each reset keep them so. After each single one of these writes every other pool
+//! has what it had: its own settings, which frames it accepts and which it may send. From [`Host::new`] on no function has more
+//! than its policy grants, and no two hold one address. What comes of it in a device, the crate `mailbox_laws` says.
 #![tactic(auto)]
 
 pub mod function;
 pub mod host;
+pub mod laws;
 pub mod mailbox;
 pub mod message;
 pub mod policy;
 pub mod registers;
+pub mod start;
 pub mod words;
 pub mod writes;
 
@@ -27,4 +28,5 @@ pub use host::Host;
 pub use mailbox::{Mailbox, Rang};
 pub use message::{Message, Reply};
 pub use policy::{Policy, VlanPolicy};
+pub use start::Register;
 pub use writes::{Write, Writes};

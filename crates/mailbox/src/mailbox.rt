@@ -95,7 +95,7 @@ impl Mailbox {
 /// What the host does.
 impl Mailbox {
     /// The message that stands in the memory.
-    pub fn message(&self) -> Message
+    pub(crate) fn message(&self) -> Message
         ensures { result ≡ message_of self.now.words }
     {
         Message::of(self.words[0], self.words[1], self.words[2])
@@ -103,7 +103,7 @@ impl Mailbox {
 
     /// Puts a reply into the memory, and sets PFSTS and PFACK.
     #[tactic(auto, unfolding(crate::specs::Mailbox::replied))]
-    pub fn reply(&mut self, reply: Reply)
+    pub(crate) fn reply(&mut self, reply: Reply)
         ensures { self.new ≡ replied self.old reply }
     {
         self.words[0] = reply.head;
@@ -115,7 +115,12 @@ impl Mailbox {
     }
 
     /// Puts the reply to the message that stands in the memory, of a function that it left as another, or that refused it.
-    pub fn answer(&mut self, function: &Function, message: Message, granted: Option<Function>)
+    pub(crate) fn answer(
+        &mut self,
+        function: &Function,
+        message: Message,
+        granted: Option<Function>,
+    )
         ensures { self.new ≡ replied self.old (reply_of self.old.words function.now message granted) }
     {
         let reply = function.reply_of(&self.words, message, granted);

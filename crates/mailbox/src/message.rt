@@ -50,7 +50,7 @@ impl Message {
     /// Bits 15:0 of word 0 are its type, and bits 23:16 a number that some types have. RESET is known by the whole word. A word
     /// with ACK or NACK is an answer, and no message.
     #[tactic(auto, unfolding(crate::specs::Message::message_from, crate::specs::Message::by_type))]
-    pub fn of(head: u32, first: u32, second: u32) -> Message
+    pub(crate) fn of(head: u32, first: u32, second: u32) -> Message
         ensures { result ≡ message_from head first second }
     {
         let number = head / 0x1_0000 % 0x100;

@@ -29,7 +29,7 @@ pub struct Policy {
 
 impl VlanPolicy {
     /// Whether the place of a port VLAN is one of the ids'.
-    pub fn is_placed(self, ids: &[u16]) -> bool
+    pub(crate) fn is_placed(self, ids: &[u16]) -> bool
         ensures { result ≡ is_placed ids.now self }
     {
         match self {
@@ -74,7 +74,7 @@ impl VlanPolicy {
 
 impl Policy {
     /// The function of the policy, which has asked for nothing yet.
-    pub fn function(&self, ids: &[u16]) -> Function
+    pub(crate) fn function(&self, ids: &[u16]) -> Function
         requires placed { is_placed ids.now self.now.vlans ≡ true }
         requires few { length ids.now ≤ 64 }
         ensures { result ≡ function_of ids.now self.now }

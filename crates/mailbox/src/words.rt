@@ -2,7 +2,7 @@
 ghost use Rattle.std.specs.Prelude.{◌≡◌, ◌+◌, ◌*◌, ◌^◌, ◌<◌, true, length, if◌then◌else◌};
 ghost use Rattle.pool_filter.specs.Own.{contains};
 ghost use Rattle.mailbox.specs.Host.{function_at};
-ghost use Rattle.mailbox.specs.Words.{mask_from, is_in_set, is_set, entry, low_word, valid, high_word, member_word, up_word, flags_word, inserted, port_word};
+ghost use Rattle.mailbox.specs.Words.{mask_from, is_in_set, reaches, entry, low_word, valid, high_word, table_word, member_word, up_word, flags_word, inserted, port_word};
 
 use crate::function::{Function, high_part, low_part};
 use crate::host::Host;
@@ -23,8 +23,7 @@ pub enum Set {
 impl Host {
     // Whether the set has the number.
     fn is_in(&self, set: Set, number: u32) -> bool
-        requires set { is_set set ≡ true }
-        requires below { number < 64 }
+        requires { reaches set number ≡ true }
         ensures { result ≡ is_in_set self.now set number }
     {
         match set {
@@ -37,8 +36,8 @@ impl Host {
     // The numbers 32 i to 32 i + 31, bit by bit.
     #[tactic(auto, using(crate::proofs::Masks::mask_none))]
     fn mask(&self, set: Set, i: u32) -> u32
-        requires set { is_set set ≡ true }
-        requires below { i < 2 }
+        requires set { reaches set (32 * i + 31) ≡ true }
+        requires below { i < 128 }
         ensures { result ≡ mask_from (is_in_set self.now set) (32 * i) 32 }
     {
         let mut word = 0u32;
@@ -55,6 +54,14 @@ impl Host {
         ensures { result ≡ up_word self.now i }
     {
         self.mask(Set::Up, i)
+    }
+
+    /// Word i of VFTA.
+    pub(crate) fn table_word(&self, i: u32) -> u32
+        requires { i < 128 }
+        ensures { result ≡ table_word self.now i }
+    {
+        self.mask(Set::Named, i)
     }
 
     /// Word i of VLVFB.

@@ -36,7 +36,7 @@ impl Writes {
     pub const MOST: usize = 140;
 
     /// No writes.
-    pub fn new() -> Writes
+    pub(crate) fn new() -> Writes
         ensures { result ≡ [] }
     {
         Writes {

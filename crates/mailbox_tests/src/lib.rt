@@ -7,6 +7,10 @@
 #[cfg(test)]
 mod driver;
 #[cfg(test)]
+mod first;
+#[cfg(test)]
+mod pools;
+#[cfg(test)]
 mod refusals;
 #[cfg(test)]
 mod start;

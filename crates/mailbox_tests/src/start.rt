@@ -5,8 +5,8 @@ use std::test::Fail;
 use wire_frame::PoolId;
 
 /// What ixgbevf says as it comes up, in its order, and what it is answered: reset; API 1.7, 1.6, 1.5 and 1.4, which are refused,
-/// and 1.3; queues; its own address; multicast mode 1; VLAN 0; the link. Then PFSTS and PFACK are read once, and VFU reads as it
-/// was written.
+/// and 1.3; queues; its own address; multicast mode 1; VLAN 0; the link. After each it polls VFMAILBOX, and reads PFSTS and PFACK
+/// once; VFU reads as it was written.
 #[test]
 fn starts(rt: HostRuntime) -> Result<(), Fail> {
     let pool = PoolId::new(0).ok_or("no such pool")?;
@@ -30,9 +30,9 @@ fn starts(rt: HostRuntime) -> Result<(), Fail> {
         ([16, 0, 0], [0xA000_0010, 1, 0, 0, 0]),
     ] {
         let _ = ask(&mut host, pool, &mut mailbox, message)?;
+        assert_eq!(rt; mailbox.read(0x2FC), Some(0x30));
         assert_eq!(rt; words(&mut mailbox), reply);
     }
-    assert_eq!(rt; mailbox.read(0x2FC), Some(0x30));
     assert_eq!(rt; mailbox.read(0x2FC), Some(0));
     let _ = mailbox.write(0x2FC, 4);
     assert_eq!(rt; mailbox.read(0x2FC), Some(4));

@@ -1,0 +1,272 @@
+-- The writes of one turn in a device: its settings are the host's after them, and another pool is left nothing.
+use Rattle.std.proofs.Common.{arith, ◌≡◌, ℕ, ◌+◌, ◌*◌, ◌%◌, ◌<◌, ◌≤◌, Bool, true, false, cond, not, ◌||◌, List, [], ◌∷◌, ◌++◌, length, Option, Some, None, refl, sym, ap, subst, ◌∙◌, true≢false, eqb, leb, ltb}
+use Rattle.std.specs.Bool.{⊤}
+use Rattle.std.specs.List.{All, cons_option}
+use Rattle.std.proofs.lemmas.Bool.{eqb-false}
+use Rattle.std.proofs.lemmas.Bool.Decides.{nat_tests}
+use Rattle.std.proofs.lemmas.List.Elements.{All-head, All-tail}
+use Rattle.pool_filter.specs.Settings.{settings_after}
+use Rattle.pool_filter.specs.Own.{OwnSettings, own}
+use Rattle.pool_filter.proofs.OwnLemmas.{same_settings_decides}
+use Rattle.device.specs.Limits.{PF_SPACE}
+use Rattle.wire_frame.specs.Bits.{with_bit}
+use Rattle.wire_frame.specs.declared.fault.Fault.TheVariants.{NoSuchVf, BadOffset, BadFrame}
+use Rattle.local_switch.specs.declared.ways.Source.TheVariants.{Wire as FromWire}
+use Rattle.device.specs.Act.{act, is_bad_offset}
+use Rattle.device.specs.Replies.{is_done}
+use Rattle.device.specs.declared.event.Reply.TheVariants.{Done, Value}
+use Rattle.device.specs.Events.{Event}
+use Rattle.device.specs.declared.event.Event.TheVariants.{Open, End, VfRead, VfWrite, MemRead, MemWrite, Serve, Flr, PfRead, PfWrite, PfReset, Wire}
+use Rattle.device.specs.World.{World, fresh, step, world_after, function_of, acted, own_step, service, served, switched, all_raised, pf_word, pf_written, refused, replied}
+use Rattle.device.specs.Lone.{NewSettings, kept, keep, changed_settings}
+use Rattle.device.proofs.Append.{world_after_append, keep_append}
+use Rattle.mailbox.specs.declared.function.Function.{Function}
+use Rattle.mailbox.specs.declared.message.Message.{Message}
+use Rattle.mailbox.specs.declared.writes.Write.{Write}
+use Rattle.mailbox.specs.Function.{gone}
+use Rattle.mailbox.specs.Host.{HostState, function_at, with_function, outcome, host_with, host_after, host_without}
+use Rattle.mailbox.specs.Isolation.{IsSameFor}
+use Rattle.mailbox.specs.Words.{settings_of}
+use Rattle.mailbox.specs.Writes.{write_at, writes_from, writes_of, after_writes, sets_registers as changes, writes_with, writes_after, writes_without}
+use Rattle.mailbox.specs.declared.start.Register.{Register}
+use Rattle.mailbox.specs.declared.start.Register.TheVariants.{SourceChecks, LowAddress, HighAddress, AddressPools, MulticastTable, MulticastControl, VlanControl, VlanTable, VlanIds, VlanPools, PoolControl, PortVlans, Loopback, PoolFlags, ReceiveEnable, TransmitEnable}
+use Rattle.mailbox.specs.Start.{registers, row_of, word_of, register_writes, writes_to, first_writes}
+use Rattle.mailbox.proofs.First.{first_settled, whole_at_first}
+use Rattle.mailbox.proofs.Meanwhile.{Each, each_append, each_from}
+use Rattle.mailbox.proofs.Others.{message_meanwhile, reset_meanwhile}
+use Rattle.mailbox.proofs.Turns.{after_message, after_reset}
+use Rattle.mailbox.proofs.Rows.{Part, writes_in}
+use Rattle.mailbox.proofs.Settle.{parts, in_parts}
+use Rattle.mailbox_laws.specs.Turns.{Turn, Happens, Answers, Forgets, sets_registers, IsTurn, write_event, write_events, host_of, events_in, host_at_end, events_of, kept_in, kept_of_turns}
+
+-- ---- the device takes each write
+
+abbrev pub IsTaken : Write → Type 0
+IsTaken w = is_bad_offset PF_SPACE w.offset ≡ false
+
+abbrev pub AllTaken : List Part → Type 0
+AllTaken [] = ⊤
+AllTaken (g ∷ gs) = ((j : ℕ) → g.from ≤ j → j < g.from + g.count → IsTaken (write_at g.row j (g.word j))) × AllTaken gs
+
+each_taken : (gs : List Part) → AllTaken gs → Each IsTaken (writes_in gs)
+each_taken [] all = tt
+each_taken (g ∷ gs) all = each_append IsTaken (writes_from g.row g.word g.from g.count) (writes_in gs) (each_from IsTaken g.row g.word g.from g.count all.0) (each_taken gs all.1)
+
+taken : (offset : ℕ) → offset % 4 ≡ 0 → offset < 0x20000 → is_bad_offset PF_SPACE offset ≡ false
+taken offset whole below =
+    let even : eqb (offset % 4) 0 ≡ true = grind (arith, nat_tests, whole) in
+    let inside : leb 0x20000 offset ≡ false = grind (arith, nat_tests, below) in
+    λ i. not (even i) || inside i
+
+parts_taken : (k : HostState) (p : ℕ) → p < 64 → length k.ids ≤ 64 → AllTaken (parts k p)
+parts_taken k p small few = (
+  λ j past below. taken (0xA204 + 8 * j) (omega arith) (omega (arith, below, small)),
+  (
+    λ j past below. taken (0xA200 + 8 * j) (omega arith) (omega (arith, below, small)),
+    (
+      λ j past below. taken (0xA204 + 8 * j) (omega arith) (omega (arith, below, small)),
+      (
+        λ j past below. taken (0xA204 + 8 * j) (omega arith) (omega (arith, below, small)),
+        (
+          λ j past below. taken (0xA200 + 8 * j) (omega arith) (omega (arith, below, small)),
+          (
+            λ j past below. taken (0xA204 + 8 * j) (omega arith) (omega (arith, below, small)),
+            (
+              λ j past below. taken (0xF000 + 4 * j) (omega arith) (omega (arith, below, small)),
+              (
+                λ j past below. taken (0x8000 + 4 * j) (omega arith) (omega (arith, below, small)),
+                (
+                  λ j past below. taken (0x51E0 + 4 * j) (omega arith) (omega (arith, below)),
+                  (
+                    λ j past below. taken (0x8110 + 4 * j) (omega arith) (omega (arith, below)),
+                    (
+                      λ j past below. taken (0xF200 + 4 * j) (omega arith) (omega (arith, below, few)),
+                      tt,
+                    ),
+                  ),
+                ),
+              ),
+            ),
+          ),
+        ),
+      ),
+    ),
+  ),
+)
+
+pub pool_taken : (k : HostState) (p : ℕ) → p < 64 → length k.ids ≤ 64 → Each IsTaken (writes_of k p)
+pool_taken k p small few = subst (Each IsTaken) (sym (in_parts k p)) (each_taken (parts k p) (parts_taken k p small few))
+
+message_taken : (h : HostState) (p : ℕ) (message : Message) → p < 64 → length h.ids ≤ 64 → Each IsTaken (writes_after h p message)
+unfolding writes_after
+message_taken h p message small few = go (outcome h p message)
+  where
+    some : (f : Function) (b : Bool) → Each IsTaken (cond b (writes_of (with_function h p f) p) [])
+    some f true = pool_taken (with_function h p f) p small few
+    some f false = tt
+
+    go : (o : Option Function) → Each IsTaken (writes_with h p message o)
+    go None = tt
+    go (Some f) = some f (changes message)
+
+reset_taken : (h : HostState) (p : ℕ) → p < 64 → length h.ids ≤ 64 → Each IsTaken (writes_without h p)
+unfolding writes_without host_without
+reset_taken h p small few = pool_taken (with_function h p (gone (function_at h p))) p small few
+
+register_taken : (r : Register) (j x : ℕ) → j < (row_of r).count → IsTaken (write_at (row_of r) j x)
+register_taken SourceChecks j x below = taken (0x8200 + 4 * j) (omega arith) (omega (arith, below))
+register_taken LowAddress j x below = taken (0xA200 + 8 * j) (omega arith) (omega (arith, below))
+register_taken HighAddress j x below = taken (0xA204 + 8 * j) (omega arith) (omega (arith, below))
+register_taken AddressPools j x below = taken (0xA600 + 4 * j) (omega arith) (omega (arith, below))
+register_taken MulticastTable j x below = taken (0x5200 + 4 * j) (omega arith) (omega (arith, below))
+register_taken MulticastControl j x below = taken (0x5090 + 4 * j) (omega arith) (omega (arith, below))
+register_taken VlanControl j x below = taken (0x5088 + 4 * j) (omega arith) (omega (arith, below))
+register_taken VlanTable j x below = taken (0xA000 + 4 * j) (omega arith) (omega (arith, below))
+register_taken VlanIds j x below = taken (0xF100 + 4 * j) (omega arith) (omega (arith, below))
+register_taken VlanPools j x below = taken (0xF200 + 4 * j) (omega arith) (omega (arith, below))
+register_taken PoolControl j x below = taken (0x51B0 + 4 * j) (omega arith) (omega (arith, below))
+register_taken PortVlans j x below = taken (0x8000 + 4 * j) (omega arith) (omega (arith, below))
+register_taken Loopback j x below = taken (0x8220 + 4 * j) (omega arith) (omega (arith, below))
+register_taken PoolFlags j x below = taken (0xF000 + 4 * j) (omega arith) (omega (arith, below))
+register_taken ReceiveEnable j x below = taken (0x51E0 + 4 * j) (omega arith) (omega (arith, below))
+register_taken TransmitEnable j x below = taken (0x8110 + 4 * j) (omega arith) (omega (arith, below))
+
+registers_taken : (h : HostState) (rs : List Register) → Each IsTaken (writes_to h rs)
+registers_taken h [] = tt
+registers_taken h (r ∷ rs) =
+    each_append IsTaken (register_writes h r) (writes_to h rs)
+    (each_from IsTaken (row_of r) (word_of h r) 0 (row_of r).count (λ j past below. register_taken r j (word_of h r j) (omega (arith, below))))
+    (registers_taken h rs)
+
+first_taken : (h : HostState) → Each IsTaken (first_writes h)
+unfolding first_writes
+first_taken h = registers_taken h registers
+
+-- ---- writes in a device
+
+one_write : (w : World) (v : Write) → IsTaken v → (step w (write_event v)).world.settings ≡ settings_after w.settings v.offset v.value
+one_write w v is = ap (λ b. (cond b (refused w BadOffset) (replied (pf_written w v.offset v.value) Done)).world.settings) is
+
+writes_done : (w : World) (ws : List Write) → Each IsTaken ws → (world_after w (write_events ws)).settings ≡ after_writes w.settings ws
+writes_done w [] each = refl
+writes_done w (v ∷ ws) each = writes_done (step w (write_event v)).world ws each.1 ∙ ap (λ s. after_writes s ws) (one_write w v each.0)
+
+same_is_kept : (o n : OwnSettings) → n ≡ o → changed_settings o n ≡ None
+same_is_kept o n same = ap (λ b. cond b None (Some (NewSettings n))) ((same_settings_decides o n).1 (sym same))
+
+-- where at every moment the pool's own settings are what they were, nothing is left for it
+quiet : (q : ℕ) (w : World) (ws : List Write) → Each IsTaken ws → ((done left : List Write) → done ++ left ≡ ws → own (after_writes w.settings done) q ≡ own w.settings q) → keep q w (write_events ws) ≡ []
+quiet q w [] each same = refl
+quiet q w (v ∷ ws) each same =
+    ap (λ o. cons_option o (keep q (step w (write_event v)).world (write_events ws))) here
+    ∙ quiet q (step w (write_event v)).world ws each.1
+    (λ done left is. ap (λ s. own (after_writes s done) q) now ∙ same (v ∷ done) left (ap (λ l. v ∷ l) is) ∙ sym (same (v ∷ []) ws refl) ∙ sym (ap (λ s. own s q) now))
+  where
+    now : (step w (write_event v)).world.settings ≡ settings_after w.settings v.offset v.value
+    now = one_write w v each.0
+
+    here : kept q w (write_event v) ≡ None
+    here = same_is_kept (own w.settings q) (own (step w (write_event v)).world.settings q) (ap (λ s. own s q) now ∙ same (v ∷ []) ws refl)
+
+-- ---- events that write nothing
+
+own_stays : (w : World) (p : ℕ) (e : Event) → (own_step w p e).world.settings ≡ w.settings
+own_stays w p e = go (ltb p (length w.functions))
+  where
+    go : (b : Bool) → (cond b (acted w p (act (function_of p w) e)) (refused w NoSuchVf)).world.settings ≡ w.settings
+    go true = refl
+    go false = refl
+
+event_stays : (w : World) (e : Event) → sets_registers e ≡ false → (step w e).world.settings ≡ w.settings
+event_stays w (Open p) none = own_stays w p (Open p)
+event_stays w (End p) none = own_stays w p (End p)
+event_stays w (VfRead p offset) none = own_stays w p (VfRead p offset)
+event_stays w (VfWrite p offset x) none = own_stays w p (VfWrite p offset x)
+event_stays w (MemRead p at count) none = own_stays w p (MemRead p at count)
+event_stays w (MemWrite p at bytes) none = own_stays w p (MemWrite p at bytes)
+event_stays w (Serve p q) none = go (ltb p (length w.functions)) (service w p q).sent
+  where
+    go : (b : Bool) (sent : Option (List ℕ)) → (cond b (served w p (service w p q) sent) (refused w NoSuchVf)).world.settings ≡ w.settings
+    go true None = refl
+    go true (Some frame) = refl
+    go false sent = refl
+event_stays w (Flr p) none = go (is_done (own_step w p (Flr p)).answer.reply)
+  where
+    go : (b : Bool) → (cond b (record { world = record (own_step w p (Flr p)).world { resets = with_bit (own_step w p (Flr p)).world.resets p }; answer = (own_step w p (Flr p)).answer }) (own_step w p (Flr p))).world.settings ≡ w.settings
+    go true = own_stays w p (Flr p)
+    go false = own_stays w p (Flr p)
+event_stays w (PfRead offset) none = go (is_bad_offset PF_SPACE offset)
+  where
+    go : (b : Bool) → (cond b (refused w BadOffset) (replied w (Value (pf_word w offset)))).world.settings ≡ w.settings
+    go true = refl
+    go false = refl
+event_stays w (PfWrite offset x) none = absurd (true≢false none)
+event_stays w PfReset none = absurd (true≢false none)
+event_stays w (Wire frame) none = go (ltb w.limit (length frame))
+  where
+    go : (b : Bool) → (cond b (refused w BadFrame) (record { world = switched w FromWire frame; answer = record { reply = Done; raised = all_raised w.settings w.functions FromWire frame } })).world.settings ≡ w.settings
+    go true = refl
+    go false = refl
+
+-- ---- turns
+
+ids_stay : (h : HostState) (t : Turn) → (host_of h t).ids ≡ h.ids
+unfolding host_after host_without
+ids_stay h (Happens e) = refl
+ids_stay h (Answers p message) = go (outcome h p message)
+  where
+    go : (o : Option Function) → (host_with h p o).ids ≡ h.ids
+    go None = refl
+    go (Some f) = refl
+ids_stay h (Forgets p) = refl
+
+turn_settles : (h : HostState) (w : World) (t : Turn) → w.settings ≡ settings_of h → length h.ids ≤ 64 → IsTurn t → (world_after w (events_in h t)).settings ≡ settings_of (host_of h t)
+turn_settles h w (Happens e) is few none = event_stays w e none ∙ is
+turn_settles h w (Answers p message) is few small =
+    writes_done w (writes_after h p message) (message_taken h p message small few)
+    ∙ ap (λ s. after_writes s (writes_after h p message)) is
+    ∙ after_message h p message small few
+turn_settles h w (Forgets p) is few small =
+    writes_done w (writes_without h p) (reset_taken h p small few)
+    ∙ ap (λ s. after_writes s (writes_without h p)) is
+    ∙ after_reset h p small few
+
+-- the writes of another pool leave nothing
+others_quiet : (q : ℕ) (h : HostState) (w : World) (ws : List Write) → w.settings ≡ settings_of h → Each IsTaken ws → ((done left : List Write) → done ++ left ≡ ws → IsSameFor (settings_of h) (after_writes (settings_of h) done) q) → keep q w (write_events ws) ≡ []
+others_quiet q h w ws is each same = quiet q w ws each (λ done left at. ap (λ s. own (after_writes s done) q) is ∙ sym (same done left at).settings ∙ sym (ap (λ s. own s q) is))
+
+turn_keeps : (q : ℕ) (h : HostState) (w : World) (t : Turn) → q < 64 → w.settings ≡ settings_of h → length h.ids ≤ 64 → IsTurn t → keep q w (events_in h t) ≡ kept_in q h w t
+turn_keeps q h w (Happens e) q_small is few none = refl
+turn_keeps q h w (Answers p message) q_small is few small = go (eqb p q) refl
+  where
+    go : (b : Bool) → eqb p q ≡ b → keep q w (write_events (writes_after h p message)) ≡ cond b (keep q w (write_events (writes_after h p message))) []
+    go true same = refl
+    go false differs = others_quiet q h w (writes_after h p message) is (message_taken h p message small few)
+        (λ done left at. message_meanwhile h p q message done left small few q_small (λ same. eqb-false p q differs (sym same)) at)
+turn_keeps q h w (Forgets p) q_small is few small = go (eqb p q) refl
+  where
+    go : (b : Bool) → eqb p q ≡ b → keep q w (write_events (writes_without h p)) ≡ cond b (keep q w (write_events (writes_without h p))) []
+    go true same = refl
+    go false differs = others_quiet q h w (writes_without h p) is (reset_taken h p small few)
+        (λ done left at. reset_meanwhile h p q done left small few q_small (λ same. eqb-false p q differs (sym same)) at)
+
+-- ---- runs
+
+few_still : (h : HostState) (t : Turn) → length h.ids ≤ 64 → length (host_of h t).ids ≤ 64
+few_still h t few = subst (λ (ids : List ℕ). length ids ≤ 64) (sym (ids_stay h t)) few
+
+pub run_settles : (h : HostState) (w : World) (turns : List Turn) → w.settings ≡ settings_of h → length h.ids ≤ 64 → All IsTurn turns → (world_after w (events_of h turns)).settings ≡ settings_of (host_at_end h turns)
+run_settles h w [] is few all = is
+run_settles h w (t ∷ ts) is few all =
+    ap (λ v. v.settings) (world_after_append w (events_in h t) (events_of (host_of h t) ts))
+    ∙ run_settles (host_of h t) (world_after w (events_in h t)) ts (turn_settles h w t is few (All-head IsTurn t ts all)) (few_still h t few) (All-tail IsTurn t ts all)
+
+pub run_keeps : (q : ℕ) (h : HostState) (w : World) (turns : List Turn) → q < 64 → w.settings ≡ settings_of h → length h.ids ≤ 64 → All IsTurn turns → keep q w (events_of h turns) ≡ kept_of_turns q h w turns
+run_keeps q h w [] q_small is few all = refl
+run_keeps q h w (t ∷ ts) q_small is few all =
+    keep_append q w (events_in h t) (events_of (host_of h t) ts)
+    ∙ (λ i. turn_keeps q h w t q_small is few (All-head IsTurn t ts all) i
+    ++ run_keeps q (host_of h t) (world_after w (events_in h t)) ts q_small (turn_settles h w t is few (All-head IsTurn t ts all)) (few_still h t few) (All-tail IsTurn t ts all) i)
+
+pub first_run : (h : HostState) (limit : ℕ) (sizes : List ℕ) → (world_after (fresh limit sizes) (write_events (first_writes h))).settings ≡ settings_of h
+first_run h limit sizes = writes_done (fresh limit sizes) (first_writes h) (first_taken h) ∙ first_settled h (fresh limit sizes).settings whole_at_first

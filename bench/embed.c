@@ -1,4 +1,4 @@
-/* Prints the table of docs/EMBEDDING.md on what a call costs through the C interface: the shortest of many rounds of 2,000
+/* Prints the table of docs/PERFORMANCE.md on what a call costs through the C interface: the shortest of many rounds of 2,000
  * calls, and how much of a fresh stack a call writes.
  *
  *   bindings/test && cc -O2 -Iinclude bench/embed.c bindings/native/libvfdev_c.a bindings/native/liblibc_c.a -o embed

@@ -1,10 +1,11 @@
 #!/bin/sh
-# Draws docs/crates.svg, the crates as crates.txt has them, and docs/frame.svg, the way of one frame from the wire to a guest.
-# It needs awk alone. Run it after a crate has come or gone, and look at what it drew.
+# Draws docs/front.svg, what is proved and what the hypervisor adds; docs/crates.svg, the crates as crates.txt has them; and
+# docs/frame.svg, the way of one frame from the wire to a guest. It needs awk alone. Run it after a crate has come or gone, and look at
+# what it drew.
 set -eu
 cd "$(dirname "$0")/.."
 
-# What both pictures have: the head of one that is so wide and high, and a box with a name. The text has the middle of its box.
+# What all pictures have: the head of one that is so wide and high, and a box with a name. The text has the middle of its box.
 common='
 function head(width, height, title) {
     printf "<svg xmlns=\"http://www.w3.org/2000/svg\" viewBox=\"0 0 %d %d\" role=\"img\" aria-label=\"%s\"\n", width, height, title
@@ -13,7 +14,7 @@ function head(width, height, title) {
 }
 function box(x, y, wide, high, name, fill) {
     printf "<rect x=\"%d\" y=\"%d\" width=\"%d\" height=\"%d\" rx=\"6\" fill=\"%s\" stroke=\"#33475b\"/>\n", x, y, wide, high, fill
-    text(x + wide / 2, y + high / 2 + 5, "middle", name, "#1b2733")
+    if (name != "") text(x + wide / 2, y + high / 2 + 5, "middle", name, "#1b2733")
 }
 function text(x, y, anchor, words, fill) {
     printf "<text x=\"%d\" y=\"%d\" text-anchor=\"%s\" fill=\"%s\">%s</text>\n", x, y, anchor, fill, words
@@ -118,8 +119,8 @@ END {
 }' <<'STEPS'
 wire_frame|bytes of 14 to 9018 are a frame by their type
 wire_pump|the reader of the wire sends it, the pump receives it and gives it to the device
-device_lock|one call at a time is inside; it is kept with its answer
-device|a frame that is longer than its limit is dropped here
+device_lock|one call at a time is inside; it is recorded with its answer
+device|a frame that is longer than its limit is refused here
 local_switch|which pools receive it: those that accept it, or else the default pool
 addr_tables, vlan_table|the pools of its address, and those of its VLAN id, each by one search
 pool_filter|the switch for receiving, and what the pool accepts beside: broadcast, multicast, untagged
@@ -131,5 +132,46 @@ irq_line|the message is raised in the word of that pool, and the guest takes it 
 STEPS
 }
 
+# The guests, their functions, the filters and the switch, and the wire. Blue is proved; white is the hypervisor's.
+front() {
+    awk "$common"'
+function part(x, y, wide, high, name, below, fill) {
+    box(x, y, wide, high, "", fill)
+    text(x + wide / 2, y + high / 2 - 3, "middle", name, "#1b2733")
+    text(x + wide / 2, y + high / 2 + 15, "middle", below, "#51606e")
+}
+BEGIN {
+    proved = "#e3eef9"; yours = "#ffffff"; edge = "#33475b"
+    head(900, 400, "Guests, their virtual functions, the filters and the switch, and the wire: what is proved, and what is yours")
+    printf "<rect x=\"215\" y=\"20\" width=\"470\" height=\"330\" rx=\"10\" fill=\"#f6fafe\" stroke=\"%s\" stroke-dasharray=\"6 4\"/>\n", edge
+    text(450, 44, "middle", "vfdev: proved", "#1b2733")
+    part(235, 62, 415, 50, "physical function", "address, VLAN and sender filters of each function", proved)
+    split("0 1 63", number, " ")
+    for (i = 1; i <= 3; i++) {
+        y = 140 + (i - 1) * 70
+        part(15, y, 160, 50, "guest " number[i], "its driver and memory", yours)
+        line(175, y + 25, 235, y + 25, edge)
+        part(235, y, 210, 50, "virtual function " number[i], "registers, rings, interrupts", proved)
+        line(445, y + 25, 500, y + 25, edge)
+    }
+    text(95, 273, "middle", "...", "#51606e")
+    text(340, 273, "middle", "...", "#51606e")
+    box(500, 140, 150, 190, "", proved)
+    text(575, 230, "middle", "filters and switch", "#1b2733")
+    text(575, 248, "middle", "who receives a frame", "#51606e")
+    line(575, 112, 575, 140, edge)
+    line(650, 235, 725, 235, edge)
+    part(725, 210, 160, 50, "wire", "a tap or a socket", yours)
+    part(725, 62, 160, 50, "host", "chooses the filters", yours)
+    line(725, 87, 650, 87, edge)
+    box(215, 366, 18, 18, "", proved)
+    text(240, 380, "start", "proved, and linked into your program", "#1b2733")
+    box(520, 366, 18, 18, "", yours)
+    text(545, 380, "start", "yours: the hypervisor and what runs in it", "#1b2733")
+    print "</svg>"
+}'
+}
+
+front >docs/front.svg
 crates >docs/crates.svg
 frame >docs/frame.svg

@@ -1,4 +1,5 @@
-//! Links the two archives: `VFDEV_NATIVE` names their folder, and where it is unset `bindings/native` has them.
+//! Links the archive: `VFDEV_NATIVE` names its folder, and where it is unset `bindings/native` has it. An installed vfdev has one archive,
+//! `libvfdev.a`; a clone has its two parts.
 use std::env;
 use std::path::PathBuf;
 
@@ -11,8 +12,19 @@ fn main() {
         None => here.join("../../native"),
     };
     println!("cargo:rustc-link-search=native={}", native.display());
-    println!("cargo:rustc-link-lib=static=vfdev_c");
-    println!("cargo:rustc-link-lib=static=libc_c");
+    if native.join("libvfdev.a").exists() {
+        println!("cargo:rustc-link-lib=static=vfdev");
+    } else {
+        println!("cargo:rustc-link-lib=static=vfdev_c");
+        println!("cargo:rustc-link-lib=static=libc_c");
+        if !native.join("libvfdev_c.a").exists() {
+            println!(
+                "cargo:warning=there is no archive in {}: bindings/test makes it there, and VFDEV_NATIVE names another folder, \
+                 as lib of an installed vfdev",
+                native.display()
+            );
+        }
+    }
     println!("cargo:rerun-if-changed={}", native.display());
     println!("cargo:rerun-if-env-changed=VFDEV_NATIVE");
 }

@@ -11,7 +11,7 @@ use Rattle.device.specs.Outcome.{Outcome, reads, reply_in}
 use Rattle.device.specs.World.{World}
 use Rattle.history.specs.declared.head.Head.{Head}
 use Rattle.history.specs.Entries.{Kept, entry, brings}
-use Rattle.history.specs.Heads.{asked_of, kind_of, event_with, reply_with, moved, IsSound, words_len, messages_with, part, moved_of, words_of, entry_of, Stands}
+use Rattle.history.specs.Heads.{head_of, kind_of, event_with, reply_with, moved, IsSound, words_len, messages_with, part, moved_of, words_of, entry_of, Stands}
 
 -- ---- parts of a pool
 
@@ -32,12 +32,12 @@ entry_stays pool more h s =
     let i = s.inside in
     let bytes = part_old pool more h.start h.count (omega arith) in
     let words = part_old pool more (h.start + h.count) (words_len h.vectors) i in
-    λ k. entry h.caller (event_with (bytes k) h.asked) (record { reply = reply_with (bytes k) h.reply; raised = messages_with h.vectors (words k) })
+    λ k. entry h.caller (event_with (bytes k) h.event) (record { reply = reply_with (bytes k) h.reply; raised = messages_with h.vectors (words k) })
 
 stands_on : (pool more : List ℕ) (h : Head) → Stands pool h → Stands (pool ++ more) h
 stands_on pool more h s = record {
   inside = let i = s.inside in let l = length-append pool more in omega arith;
-  sound = let P : List ℕ → Type 0 = λ bytes. IsSound (event_with bytes h.asked) in
+  sound = let P : List ℕ → Type 0 = λ bytes. IsSound (event_with bytes h.event) in
       subst P (sym (part_old pool more h.start h.count (let i = s.inside in omega arith))) s.sound;
 }
 
@@ -49,7 +49,7 @@ entries_stay pool more (h ∷ hs) all =
 
 -- ---- a call as a head and bytes
 
-event_back : (w : World) (e : Event) (o : Outcome) → (reads o ≡ true → brings e ≡ false) → event_with (moved w e o) (asked_of e) ≡ e
+event_back : (w : World) (e : Event) (o : Outcome) → (reads o ≡ true → brings e ≡ false) → event_with (moved w e o) (head_of e) ≡ e
 event_back w (Open p) o alone = refl
 event_back w (End p) o alone = refl
 event_back w (VfRead p offset) o alone = refl
@@ -62,12 +62,12 @@ event_back w (PfWrite offset x) o alone = refl
 event_back w PfReset o alone = refl
 event_back w (MemWrite p at bytes) o alone = by (reads o) refl
   where
-    by : (b : Bool) → reads o ≡ b → event_with (moved w (MemWrite p at bytes) o) (asked_of (MemWrite p at bytes)) ≡ MemWrite p at bytes
+    by : (b : Bool) → reads o ≡ b → event_with (moved w (MemWrite p at bytes) o) (head_of (MemWrite p at bytes)) ≡ MemWrite p at bytes
     by true is = let no = alone is in absurd (cc)
     by false is = rw is refl
 event_back w (Wire frame) o alone = by (reads o) refl
   where
-    by : (b : Bool) → reads o ≡ b → event_with (moved w (Wire frame) o) (asked_of (Wire frame)) ≡ Wire frame
+    by : (b : Bool) → reads o ≡ b → event_with (moved w (Wire frame) o) (head_of (Wire frame)) ≡ Wire frame
     by true is = let no = alone is in absurd (cc)
     by false is = rw is refl
 
@@ -86,7 +86,7 @@ reply_back w e (Refused fault) = refl
 pub record Adds (w : World) (e : Event) (o : Outcome) (messages pool pool' : List ℕ) (h : Head) : Type 0 where
   pub words : List ℕ
   pub grown : pool' ≡ (pool ++ moved w e o) ++ words
-  pub asked : h.asked ≡ asked_of e
+  pub event : h.event ≡ head_of e
   pub kind : h.reply ≡ kind_of o
   pub start : h.start ≡ length pool
   pub count : h.count ≡ length (moved w e o)
@@ -110,7 +110,7 @@ entry_added : (w : World) (e : Event) (o : Outcome) (messages pool pool' : List 
     → entry_of pool' h ≡ entry h.caller e (record { reply = reply_in w o; raised = messages })
 entry_added w e o messages pool pool' h a =
     let bytes = moved_added w e o messages pool pool' h a in
-    let event : event_with (moved_of pool' h) h.asked ≡ e = (λ k. event_with (bytes k) (a.asked k)) ∙ event_back w e o a.alone in
+    let event : event_with (moved_of pool' h) h.event ≡ e = (λ k. event_with (bytes k) (a.event k)) ∙ event_back w e o a.alone in
     let reply : reply_with (moved_of pool' h) h.reply ≡ reply_in w o = (λ k. reply_with (bytes k) (a.kind k)) ∙ reply_back w e o in
     let raised : messages_with h.vectors (words_of pool' h) ≡ messages = ap (messages_with h.vectors) (words_added w e o messages pool pool' h a) ∙ a.messages_back in
     λ k. entry h.caller (event k) (record { reply = reply k; raised = raised k })
@@ -133,7 +133,7 @@ pub heads_stand : (w : World) (e : Event) (o : Outcome) (messages pool pool' : L
     → hs' ≡ hs ++ h ∷ [] → IsSound e → All (Stands pool) hs → All (Stands pool') hs'
 heads_stand w e o messages pool pool' hs hs' h a more sound all =
     let bytes = moved_added w e o messages pool pool' h a in
-    let event : event_with (moved_of pool' h) h.asked ≡ e = (λ k. event_with (bytes k) (a.asked k)) ∙ event_back w e o a.alone in
+    let event : event_with (moved_of pool' h) h.event ≡ e = (λ k. event_with (bytes k) (a.event k)) ∙ event_back w e o a.alone in
     let here : Stands pool' h = record {
       inside =
           let s = a.start in let c = a.count in let n = a.words_count in

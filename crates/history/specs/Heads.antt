@@ -14,29 +14,29 @@ use Rattle.device.specs.Replies.{Reply, replied}
 use Rattle.device.specs.declared.event.Reply.TheVariants.{Bytes}
 use Rattle.device.specs.Outcome.{Outcome, reads, bytes_in}
 use Rattle.device.specs.World.{World, function_of}
-use Rattle.history.specs.declared.head.Asked.{Asked}
-use Rattle.history.specs.declared.head.Asked.TheVariants.{Open, End, VfRead, VfWrite, MemRead, MemWrite, Serve, Flr, PfRead, PfWrite, PfReset, Wire}
+use Rattle.history.specs.declared.head.EventHead.{EventHead}
+use Rattle.history.specs.declared.head.EventHead.TheVariants.{Open, End, VfRead, VfWrite, MemRead, MemWrite, Serve, Flr, PfRead, PfWrite, PfReset, Wire}
 use Rattle.history.specs.declared.head.Head.{Head}
 use Rattle.history.specs.Entries.{Entry, entry}
 
 -- ---- events and replies without their bytes
 
-abbrev pub asked_of : Event → Asked
-asked_of (Open p) = Open p
-asked_of (End p) = End p
-asked_of (VfRead p offset) = VfRead p offset
-asked_of (VfWrite p offset x) = VfWrite p offset x
-asked_of (MemRead p at count) = MemRead p count at
-asked_of (MemWrite p at bytes) = MemWrite p at
-asked_of (Serve p q) = Serve p q
-asked_of (Flr p) = Flr p
-asked_of (PfRead offset) = PfRead offset
-asked_of (PfWrite offset x) = PfWrite offset x
-asked_of PfReset = PfReset
-asked_of (Wire frame) = Wire
+abbrev pub head_of : Event → EventHead
+head_of (Open p) = Open p
+head_of (End p) = End p
+head_of (VfRead p offset) = VfRead p offset
+head_of (VfWrite p offset x) = VfWrite p offset x
+head_of (MemRead p at count) = MemRead p count at
+head_of (MemWrite p at bytes) = MemWrite p at
+head_of (Serve p q) = Serve p q
+head_of (Flr p) = Flr p
+head_of (PfRead offset) = PfRead offset
+head_of (PfWrite offset x) = PfWrite offset x
+head_of PfReset = PfReset
+head_of (Wire frame) = Wire
 
 -- the event, where these are the bytes that it brings
-abbrev pub event_with : List ℕ → Asked → Event
+abbrev pub event_with : List ℕ → EventHead → Event
 event_with bytes (Open p) = Open p
 event_with bytes (End p) = End p
 event_with bytes (VfRead p offset) = VfRead p offset
@@ -125,10 +125,10 @@ abbrev pub words_of : List ℕ → Head → List ℕ
 words_of pool h = part pool (h.start + h.count) (words_len h.vectors)
 
 abbrev pub entry_of : List ℕ → Head → Entry
-entry_of pool h = entry h.caller (event_with (moved_of pool h) h.asked)
+entry_of pool h = entry h.caller (event_with (moved_of pool h) h.event)
     (record { reply = reply_with (moved_of pool h) h.reply; raised = messages_with h.vectors (words_of pool h) })
 
 -- the head's bytes stand in the pool
 pub record Stands (pool : List ℕ) (h : Head) : Type 0 where
   pub inside : h.start + h.count + words_len h.vectors ≤ length pool
-  pub sound : IsSound (event_with (moved_of pool h) h.asked)
+  pub sound : IsSound (event_with (moved_of pool h) h.event)

@@ -1,16 +1,16 @@
 //! A kept call without its bytes.
 ghost use Rattle.std.specs.Prelude.{◌≡◌, ◌≤◌, length};
 ghost use Rattle.device.specs.Request.{event_of};
-ghost use Rattle.history.specs.Heads.{asked_of, kind_of, brought, IsSound};
+ghost use Rattle.history.specs.Heads.{head_of, kind_of, brought, IsSound};
 
 use crate::caller::Caller;
 use device::{Outcome, Queue, Reply, Request};
 use irq_causes::Vectors;
 use std::marker::Model;
 
-/// What was asked, but for bytes.
+/// An event without its bytes and its frame, in 16 bytes. As an `Event<(), ()>` it would take 24, and a [`Head`] 40.
 #[derive(Clone, Copy)]
-pub enum Asked {
+pub enum EventHead {
     /// The open of a pool's function.
     Open(u8),
     /// The end of a pool's function.
@@ -87,8 +87,8 @@ impl PackedCaller {
 /// those of the words of its messages.
 #[derive(Clone, Copy)]
 pub struct Head {
-    /// What was asked.
-    pub asked: Asked,
+    /// The event.
+    pub event: EventHead,
     /// What was replied.
     pub reply: ReplyKind,
     /// Where its bytes begin.
@@ -101,24 +101,24 @@ pub struct Head {
     pub vectors: Vectors,
 }
 
-/// What was asked, but for bytes.
+/// The event that a request stands for, without its bytes and its frame.
 #[inline]
-pub fn asked_of(request: Request<'_>) -> Asked
-    ensures { result ≡ asked_of (event_of request.entry) }
+pub fn head_of(request: Request<'_>) -> EventHead
+    ensures { result ≡ head_of (event_of request.entry) }
 {
     match request {
-        Request::Open(pool) => Asked::Open(pool),
-        Request::End(pool) => Asked::End(pool),
-        Request::VfRead(pool, offset) => Asked::VfRead(pool, offset),
-        Request::VfWrite(pool, offset, value) => Asked::VfWrite(pool, offset, value),
-        Request::MemRead(pool, at, count) => Asked::MemRead(pool, count, at),
-        Request::MemWrite(pool, at, _) => Asked::MemWrite(pool, at),
-        Request::Serve(pool, queue) => Asked::Serve(pool, queue),
-        Request::Flr(pool) => Asked::Flr(pool),
-        Request::PfRead(offset) => Asked::PfRead(offset),
-        Request::PfWrite(offset, value) => Asked::PfWrite(offset, value),
-        Request::PfReset => Asked::PfReset,
-        Request::Wire(_) => Asked::Wire,
+        Request::Open(pool) => EventHead::Open(pool),
+        Request::End(pool) => EventHead::End(pool),
+        Request::VfRead(pool, offset) => EventHead::VfRead(pool, offset),
+        Request::VfWrite(pool, offset, value) => EventHead::VfWrite(pool, offset, value),
+        Request::MemRead(pool, at, count) => EventHead::MemRead(pool, count, at),
+        Request::MemWrite(pool, at, _) => EventHead::MemWrite(pool, at),
+        Request::Serve(pool, queue) => EventHead::Serve(pool, queue),
+        Request::Flr(pool) => EventHead::Flr(pool),
+        Request::PfRead(offset) => EventHead::PfRead(offset),
+        Request::PfWrite(offset, value) => EventHead::PfWrite(offset, value),
+        Request::PfReset => EventHead::PfReset,
+        Request::Wire(_) => EventHead::Wire,
     }
 }
 

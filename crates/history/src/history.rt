@@ -7,7 +7,7 @@ ghost use Rattle.history.specs.Entries.{entry, entry_at, is_cap, brings};
 
 use crate::bytes::{append_moved, part};
 use crate::caller::Caller;
-use crate::head::{Asked, Head, PackedCaller, asked_of, kind_of};
+use crate::head::{EventHead, Head, PackedCaller, head_of, kind_of};
 use crate::reply::is_reply;
 use crate::words::{append_words, are_messages, words_len};
 use device::{Device, MemSlice, Request, Response};
@@ -114,7 +114,7 @@ impl History {
         let count = append_moved(&mut self.pool, request, device, taken.outcome);
         let vectors = append_words(&mut self.pool, taken.messages.words());
         self.heads.push_reserved(Head {
-            asked: asked_of(request),
+            event: head_of(request),
             reply: kind_of(taken.outcome),
             start,
             count,
@@ -150,19 +150,19 @@ impl History {
         let head = self.heads[index];
         let start = head.start as usize;
         let bytes = part(self.pool.as_slice(), start, usize::from(head.count));
-        match head.asked {
-            Asked::Open(pool) => Request::Open(pool),
-            Asked::End(pool) => Request::End(pool),
-            Asked::VfRead(pool, offset) => Request::VfRead(pool, offset),
-            Asked::VfWrite(pool, offset, value) => Request::VfWrite(pool, offset, value),
-            Asked::MemRead(pool, count, at) => Request::MemRead(pool, at, count),
-            Asked::MemWrite(pool, at) => Request::MemWrite(pool, at, written(bytes)),
-            Asked::Serve(pool, queue) => Request::Serve(pool, queue),
-            Asked::Flr(pool) => Request::Flr(pool),
-            Asked::PfRead(offset) => Request::PfRead(offset),
-            Asked::PfWrite(offset, value) => Request::PfWrite(offset, value),
-            Asked::PfReset => Request::PfReset,
-            Asked::Wire => Request::Wire(laid(bytes, frame)),
+        match head.event {
+            EventHead::Open(pool) => Request::Open(pool),
+            EventHead::End(pool) => Request::End(pool),
+            EventHead::VfRead(pool, offset) => Request::VfRead(pool, offset),
+            EventHead::VfWrite(pool, offset, value) => Request::VfWrite(pool, offset, value),
+            EventHead::MemRead(pool, count, at) => Request::MemRead(pool, at, count),
+            EventHead::MemWrite(pool, at) => Request::MemWrite(pool, at, written(bytes)),
+            EventHead::Serve(pool, queue) => Request::Serve(pool, queue),
+            EventHead::Flr(pool) => Request::Flr(pool),
+            EventHead::PfRead(offset) => Request::PfRead(offset),
+            EventHead::PfWrite(offset, value) => Request::PfWrite(offset, value),
+            EventHead::PfReset => Request::PfReset,
+            EventHead::Wire => Request::Wire(laid(bytes, frame)),
         }
     }
 

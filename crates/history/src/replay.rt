@@ -1,8 +1,8 @@
 //! Devices that keep their calls, and devices that go through kept ones.
-ghost use Rattle.std.specs.Prelude.{◌≡◌, ◌<◌, ◌++◌, ◌∷◌, [], length, option_copied, IsTrue, ◌↔◌};
-ghost use Rattle.device.specs.World.{sizes_of, step, sent_by, answers, world_after};
-ghost use Rattle.device.specs.Outcome.{answer_in, left_by};
+ghost use Rattle.std.specs.Prelude.{◌≡◌, ◌<◌, ◌++◌, ◌∷◌, [], length, IsTrue, ◌↔◌};
+ghost use Rattle.device.specs.World.{sizes_of, step, answers, world_after};
 ghost use Rattle.device.specs.Request.{event_of};
+ghost use Rattle.device.specs.Takes.{Takes};
 ghost use Rattle.history.specs.Entries.{entry, entry_at, events, given};
 
 use crate::caller::Caller;
@@ -49,12 +49,7 @@ impl History {
         frame: &'f mut FrameBuf,
     ) -> Response<'f>
         requires { length self.old.entries < self.old.cap }
-        ensures world { device.new ≡ (step device.old (event_of request.entry)).world }
-        ensures answer { answer_in device.new result
-            ≡ (step device.old (event_of request.entry)).answer }
-        ensures sent { option_copied result.sent ≡ sent_by device.old (event_of request.entry) }
-        ensures left { option_copied result.left ≡ left_by device.old (event_of request.entry) }
-        ensures sizes { sizes_of device.new ≡ sizes_of device.old }
+        ensures takes { Takes device.old (event_of request.entry) device.new result }
         ensures entries { self.new.entries ≡ self.old.entries
             ++ entry caller (event_of request.entry) (step device.old (event_of request.entry)).answer ∷ [] }
         ensures cap { self.new.cap ≡ self.old.cap }

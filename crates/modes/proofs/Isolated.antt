@@ -7,7 +7,7 @@ use Rattle.device.specs.Events.{Event}
 use Rattle.device.specs.World.{World, step, answers, world_after}
 use Rattle.device.specs.Lone.{Lone as LoneFunction, alone, keep, lone_of, lone_seen, lone_after}
 use Rattle.device.proofs.Unwinding.{fresh_sight, fresh_state}
-use Rattle.script.specs.Reading.{Asked, Meaning}
+use Rattle.script.specs.Reading.{DeviceShape, Meaning}
 use Rattle.transcript.specs.Known.{Began, Sent}
 use Rattle.transcript.specs.Lines.{kept_by_each, lines, frame_lines, cut_text, lone_text, run_text}
 use Rattle.transcript.proofs.Each.{kept_together, text_cut}
@@ -20,13 +20,13 @@ use Rattle.modes.proofs.Left.{sent_as}
 
 -- ---- the device of a script
 
-among : (d : Asked) (p : ℕ) → p < d.functions → p < length (sizes_of d)
+among : (d : DeviceShape) (p : ℕ) → p < d.functions → p < length (sizes_of d)
 among d p below = subst (λ (n : ℕ). p < n) (sym (length-replicate d.functions d.memory_size)) below
 
-as_few : (d : Asked) → d.functions ≤ 64 → length (sizes_of d) ≤ 64
+as_few : (d : DeviceShape) → d.functions ≤ 64 → length (sizes_of d) ≤ 64
 as_few d few = subst (λ (n : ℕ). n ≤ 64) (sym (length-replicate d.functions d.memory_size)) few
 
-by_itself : (d : Asked) (p : ℕ) → p < d.functions → alone d.limit (slice_index (sizes_of d) p) ≡ alone_of d
+by_itself : (d : DeviceShape) (p : ℕ) → p < d.functions → alone d.limit (slice_index (sizes_of d) p) ≡ alone_of d
 by_itself d p below = ap (alone d.limit) (get_or-replicate d.functions p d.memory_size 0 below)
 
 -- ---- its answers, and what they leave
@@ -38,13 +38,13 @@ answered w (e ∷ es) = ap (λ (n : ℕ). suc n) (answered (step w e).world es)
 cut_alone : (said : Meaning) → said.device.functions ≤ 64 → (p : ℕ) → p < said.device.functions
     → lone_text p (alone_of said.device) (device_of said.device) said.events ≡ cut_text p said.events (answers (device_of said.device) said.events)
 cut_alone said few p below =
-    let d : Asked = said.device in
+    let d : DeviceShape = said.device in
     ap (λ (s : LoneFunction). lone_text p s (device_of d) said.events) (sym (by_itself d p below))
     ∙ text_cut p d.limit (sizes_of d) said.events (among d p below) (as_few d few)
 
 pub are_isolated : (said : Meaning) → said.device.functions ≤ 64 → AreIsolated said (answers (device_of said.device) said.events)
 are_isolated said few =
-    let d : Asked = said.device in (
+    let d : DeviceShape = said.device in (
       answered (device_of d) said.events,
       λ p below. (
         fresh_sight p d.limit (sizes_of d) said.events (among d p below) (as_few d few)
@@ -55,7 +55,7 @@ are_isolated said few =
 
 pub are_left : (said : Meaning) → said.device.functions ≤ 64 → (after : World) → after ≡ world_after (device_of said.device) said.events → AreLeftAsAlone said after
 are_left said few after is p below =
-    let d : Asked = said.device in
+    let d : DeviceShape = said.device in
     (λ k. lone_of p (is k))
     ∙ fresh_state p d.limit (sizes_of d) said.events (among d p below) (as_few d few)
     ∙ ap (λ (s : LoneFunction). lone_after s (keep p (device_of d) said.events)) (by_itself d p below)
@@ -80,16 +80,16 @@ is_isolated (Keep p) said few below = (
 is_isolated (Lone p) said few below = cut_alone said few p below
 
 -- the task of a mode wrote its text of what the input says, or a beginning of it
-isolated_by : (mode : Mode) (said : Meaning) (d : Asked) (task : Task) → d ≡ said.device → d.functions ≤ 64 → task ≡ task_of mode → NamesBelow d.functions task
+isolated_by : (mode : Mode) (said : Meaning) (d : DeviceShape) (task : Task) → d ≡ said.device → d.functions ≤ 64 → task ≡ task_of mode → NamesBelow d.functions task
     → IsIsolatedText (task_of mode) said (text_of task said)
 isolated_by mode said d task asked few is below =
     subst (λ (t : Task). IsIsolatedText t said (text_of task said)) is
-    (is_isolated task said (subst (λ (x : Asked). x.functions ≤ 64) asked few) (subst (λ (x : Asked). NamesBelow x.functions task) asked below))
+    (is_isolated task said (subst (λ (x : DeviceShape). x.functions ≤ 64) asked few) (subst (λ (x : DeviceShape). NamesBelow x.functions task) asked below))
 
-pub wrote_isolated : (mode : Mode) (input a b : Option (List ℕ)) (said : Meaning) (d : Asked) (task : Task) → Says input said
+pub wrote_isolated : (mode : Mode) (input a b : Option (List ℕ)) (said : Meaning) (d : DeviceShape) (task : Task) → Says input said
     → d ≡ said.device → d.functions ≤ 64 → (task ≡ task_of mode) × NamesBelow d.functions task → Appends a b (text_of task said) → WroteIsolated mode input a b
 wrote_isolated mode input a b said d task says asked few (is, below) text = (said, says, text_of task said, isolated_by mode said d task asked few is below, text)
 
-pub began_isolated : (mode : Mode) (input a b : Option (List ℕ)) (said : Meaning) (d : Asked) (task : Task) → Says input said
+pub began_isolated : (mode : Mode) (input a b : Option (List ℕ)) (said : Meaning) (d : DeviceShape) (task : Task) → Says input said
     → d ≡ said.device → d.functions ≤ 64 → (task ≡ task_of mode) × NamesBelow d.functions task → Began a b (text_of task said) → BeganIsolated mode input a b
 began_isolated mode input a b said d task says asked few (is, below) text = (said, says, text_of task said, isolated_by mode said d task asked few is below, text)

@@ -3,7 +3,7 @@ use Rattle.std.specs.Prelude.{◌≡◌, ℕ, ◌<◌, List, Option, Ok, Err, If
 use Rattle.std.specs.Io.KnownBytes.{Appends}
 use Rattle.device.specs.World.{World, fresh}
 use Rattle.device.specs.Lone.{Lone as LoneFunction, alone}
-use Rattle.script.specs.Reading.{Asked, Meaning, script_of}
+use Rattle.script.specs.Reading.{DeviceShape, Meaning, script_of}
 use Rattle.transcript.specs.Known.{Began}
 use Rattle.transcript.specs.Lines.{run_text, keep_text, lone_text}
 use Rattle.modes.specs.declared.fault.Fault.{Fault}
@@ -16,15 +16,15 @@ use Rattle.modes.specs.declared.mode.Task.TheVariants.{Run, Keep, Lone}
 -- ---- what a script asks for
 
 -- the sizes of the memories
-abbrev pub sizes_of : Asked → List ℕ
+abbrev pub sizes_of : DeviceShape → List ℕ
 sizes_of device = replicate device.functions device.memory_size
 
 -- the device as it is made
-abbrev pub device_of : Asked → World
+abbrev pub device_of : DeviceShape → World
 device_of device = fresh device.limit (sizes_of device)
 
 -- one of its functions by itself
-abbrev pub alone_of : Asked → LoneFunction
+abbrev pub alone_of : DeviceShape → LoneFunction
 alone_of device = alone device.limit device.memory_size
 
 -- ---- what the program is asked for

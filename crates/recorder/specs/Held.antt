@@ -2,7 +2,9 @@
 use Rattle.std.specs.Prelude.{◌≡◌, ℕ, ◌+◌, ◌-◌, ◌<◌, Bool, List, [], ◌∷◌, ◌++◌, length, sum, slice_index, Option, Some, None, slice_get}
 use Rattle.device.specs.Events.{Event}
 use Rattle.device.specs.declared.event.Answer.{Answer}
+use Rattle.device.specs.declared.response.Response.{Response}
 use Rattle.device.specs.World.{World, step}
+use Rattle.device.specs.Takes.{Takes}
 use Rattle.irq_line.specs.Line.{DeviceEnd, raised}
 use Rattle.history.specs.declared.caller.Caller.{Caller}
 use Rattle.history.specs.declared.caller.Caller.TheVariants.{Port}
@@ -84,6 +86,11 @@ pub record Keeps (old : Held) (caller : Caller) (event : Event) (new : Held) : T
   pub tallies : new.tallies ≡ old.tallies
   pub line : new.line.line ≡ old.line.line
   pub folded_raises : (p v : ℕ) → p < 64 → folded_raises p v new ≡ folded_raises p v old
+
+-- the device takes the event, and the call is kept; `taken` is the answer, with the frame that was sent
+pub record Records (old : Held) (caller : Caller) (event : Event) (new : Held) (taken : Response) : Type 0 where
+  pub takes : Takes old.live event new.live taken
+  pub keeps : Keeps old caller event new
 
 -- the live world becomes the base, and no calls are kept any more: they count as folded away. Nothing is raised
 pub record Rebased (old new : Held) : Type 0 where

@@ -1,16 +1,16 @@
 //! A device, the line that its messages go to, and the calls that it took since a base.
-ghost use Rattle.std.specs.Prelude.{◌≡◌, ℕ, ◌+◌, ◌<◌, ◌≤◌, ◌^◌, [], ◌∷◌, ◌++◌, true, false, IsTrue, ◌↔◌, IfSome, IfNone, is_some, length, replicate, slice_index, sum, option_copied, ◌⊎◌};
+ghost use Rattle.std.specs.Prelude.{◌≡◌, ℕ, ◌+◌, ◌<◌, ◌≤◌, ◌^◌, [], ◌∷◌, ◌++◌, true, false, IsTrue, ◌↔◌, IfSome, IfNone, is_some, length, replicate, slice_index, sum, ◌⊎◌};
 ghost use Rattle.std.specs.Int.{bit_at};
 ghost use Rattle.vf_unit.specs.Unit.{bytes_at};
-ghost use Rattle.device.specs.World.{step, sent_by, world_after, answers, function_of, fresh, sizes_of};
-ghost use Rattle.device.specs.Outcome.{answer_in, left_by};
+ghost use Rattle.device.specs.World.{world_after, answers, function_of, fresh, sizes_of};
+ghost use Rattle.device.specs.Outcome.{answer_in};
 ghost use Rattle.device.specs.Lone.{keep, lone_of, lone_seen, lone_after, seen_by};
 ghost use Rattle.device.specs.Request.{event_of};
 ghost use Rattle.irq_line.specs.Line.{raised};
 ghost use Rattle.history.specs.Entries.{events, given};
 ghost use Rattle.recorder.specs.Callers.{may};
 ghost use Rattle.recorder.specs.Legal.{Legal, calls_of, kept_raises};
-ghost use Rattle.recorder.specs.Held.{Keeps, Rebased, folded, folded_raises};
+ghost use Rattle.recorder.specs.Held.{Records, Rebased, folded, folded_raises};
 ghost use Rattle.recorder.specs.Last.{last_of};
 ghost use Rattle.recorder.specs.Made.{IsFresh, begun};
 
@@ -89,14 +89,8 @@ impl<M: GuestMem> Journal<M> {
         frame: &'f mut FrameBuf,
     ) -> Option<Response<'f>>
         requires may { may caller (event_of request) ≡ true }
-        ensures answer { IfSome result (λ taken.
-            answer_in self.new.live taken ≡ (step self.old.live (event_of request.entry)).answer) }
-        ensures sent { IfSome result
-            (λ taken. option_copied taken.sent ≡ sent_by self.old.live (event_of request.entry)) }
-        ensures left { IfSome result
-            (λ taken. option_copied taken.left ≡ left_by self.old.live (event_of request.entry)) }
-        ensures kept { IfSome result
-            (λ taken. Keeps self.old caller (event_of request.entry) self.new) }
+        ensures recorded { IfSome result
+            (λ taken. Records self.old caller (event_of request.entry) self.new taken) }
         ensures full { IfNone result (length self.old.kept ≡ self.old.cap) }
         ensures unchanged { IfNone result (self.new ≡ self.old) }
     {

@@ -1,15 +1,15 @@
 //! A recorded device, and what its callers ask of it.
-ghost use Rattle.std.specs.Prelude.{◌≡◌, ◌≢◌, ℕ, ◌+◌, ◌<◌, ◌≤◌, ◌^◌, [], true, false, IsTrue, ◌↔◌, IfOk, IfErr, OnOk, OnErr, IfSome, IfNone, Err, length, take, drop, slice_index, sum, option_copied, ◌⊎◌};
+ghost use Rattle.std.specs.Prelude.{◌≡◌, ◌≢◌, ℕ, ◌+◌, ◌<◌, ◌≤◌, ◌^◌, [], true, false, IsTrue, ◌↔◌, IfOk, IfErr, OnOk, OnErr, IfSome, IfNone, Err, length, take, drop, slice_index, sum, ◌⊎◌};
 ghost use Rattle.std.specs.List.{sum_by};
-ghost use Rattle.device.specs.World.{step, sent_by, world_after, answers, fresh, sizes_of};
-ghost use Rattle.device.specs.Outcome.{answer_in, reply_by, reply_in, left_by};
+ghost use Rattle.device.specs.World.{step, world_after, answers, fresh, sizes_of};
+ghost use Rattle.device.specs.Outcome.{answer_in, reply_by, reply_in};
 ghost use Rattle.device.specs.Lone.{keep, lone_of, lone_seen, lone_after, seen_by};
 ghost use Rattle.device.specs.Request.{event_of};
 ghost use Rattle.irq_line.specs.Line.{raised};
 ghost use Rattle.history.specs.Entries.{is_cap, events, given};
 ghost use Rattle.recorder.specs.Callers.{may};
 ghost use Rattle.recorder.specs.Legal.{Legal, calls_of, kept_raises};
-ghost use Rattle.recorder.specs.Held.{having_asked, count_of, Keeps, Rebased, folded, folded_raises};
+ghost use Rattle.recorder.specs.Held.{having_asked, count_of, Keeps, Records, Rebased, folded, folded_raises};
 ghost use Rattle.recorder.specs.Made.{IsFresh, SameMake, AreUnused, begun};
 ghost use Rattle.recorder.specs.Read.{bytes_asked, bytes_told, answer_with};
 
@@ -130,14 +130,8 @@ impl<M: GuestMem, L: Ledger> Recorded<M, L> {
         frame: &'f mut FrameBuf,
     ) -> Option<Response<'f>>
         requires may { may share.old.caller (event_of request) ≡ true }
-        ensures answer { IfSome result (λ taken.
-            answer_in self.new.live taken ≡ (step self.old.live (event_of request.entry)).answer) }
-        ensures sent { IfSome result
-            (λ taken. option_copied taken.sent ≡ sent_by self.old.live (event_of request.entry)) }
-        ensures left { IfSome result
-            (λ taken. option_copied taken.left ≡ left_by self.old.live (event_of request.entry)) }
-        ensures kept { IfSome result
-            (λ taken. Keeps self.old share.old.caller (event_of request.entry) self.new) }
+        ensures recorded { IfSome result (λ taken.
+            Records self.old share.old.caller (event_of request.entry) self.new taken) }
         ensures counted { IfSome result (λ taken.
             share.new ≡ having_asked (event_of request.entry) (answer_in self.new.live taken) share.old) }
         ensures full { IfNone result (length self.old.kept ≡ self.old.cap) }
@@ -171,12 +165,8 @@ impl<M: GuestMem, L: Ledger> Recorded<M, L> {
         ensures rest { IfSome result
             (λ taken. drop (bytes_told taken.outcome) read.new
             ≡ drop (bytes_told taken.outcome) read.old) }
-        ensures sent { IfSome result
-            (λ taken. option_copied taken.sent ≡ sent_by self.old.live (event_of request.entry)) }
-        ensures left { IfSome result
-            (λ taken. option_copied taken.left ≡ left_by self.old.live (event_of request.entry)) }
-        ensures kept { IfSome result
-            (λ taken. Keeps self.old share.old.caller (event_of request.entry) self.new) }
+        ensures recorded { IfSome result (λ taken.
+            Records self.old share.old.caller (event_of request.entry) self.new taken) }
         ensures counted { IfSome result (λ taken.
             share.new ≡ having_asked (event_of request.entry)
             (answer_with (take (bytes_told taken.outcome) read.new) taken) share.old) }

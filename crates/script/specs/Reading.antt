@@ -14,12 +14,12 @@ use Rattle.script.specs.Lines.{event_by, ◌>>=◌}
 -- ---- the device
 
 -- how many virtual functions, the size of the memory of each, and how long frames may be
-pub record Asked : Type 0 where
+pub record DeviceShape : Type 0 where
   pub functions : ℕ
   pub memory_size : ℕ
   pub limit : ℕ
 
-abbrev pub asked : ℕ → ℕ → ℕ → Option Asked
+abbrev pub asked : ℕ → ℕ → ℕ → Option DeviceShape
 asked functions size limit =
     if nat_le 1 functions && is_memory_size size
     then Some (record { functions = functions; memory_size = size; limit = limit }) else None
@@ -34,7 +34,7 @@ limit_of None = Some 1518
 limit_of (Some word) = limit_in (number_of word)
 
 -- the device that the words after `vfs` ask for
-abbrev pub device_of : List (List ℕ) → Option Asked
+abbrev pub device_of : List (List ℕ) → Option DeviceShape
 device_of words = do
   (functions, (size, limit)) ← two_or_three_of words
   n ← at_most 64 (number_of functions)
@@ -48,7 +48,7 @@ device_of words = do
 pub record Reading : Type 0 where
   -- how many they are
   pub lines : ℕ
-  pub device : Option Asked
+  pub device : Option DeviceShape
   -- a line `go` was among them, after so many events
   pub go : Option ℕ
   pub events : List Event
@@ -57,7 +57,7 @@ abbrev pub at_first : Reading
 at_first = record { lines = 0; device = None; go = None; events = [] }
 
 -- a line with words, after the device was asked for: one `go`, or one of at most 60,000 events
-abbrev pub said_then : Reading → Asked → List ℕ → List (List ℕ) → Option Reading
+abbrev pub said_then : Reading → DeviceShape → List ℕ → List (List ℕ) → Option Reading
 said_then r device name words =
     if bytes_eq name (codes "go") && is_none r.go then option_map (λ _. record r { go = Some (length r.events) }) (none_of words) else
     if nat_lt (length r.events) 60000 then (do
@@ -66,7 +66,7 @@ said_then r device name words =
       Some (record r { events = r.events ++ event ∷ [] })) else None
 
 -- a line with words: the first one asks for the device
-abbrev pub said_by : Reading → Option Asked → List ℕ → List (List ℕ) → Option Reading
+abbrev pub said_by : Reading → Option DeviceShape → List ℕ → List (List ℕ) → Option Reading
 said_by r None name words =
     if bytes_eq name (codes "vfs") then option_map (λ device. record r { device = Some device }) (device_of words) else None
 said_by r (Some device) name words = said_then r device name words
@@ -115,11 +115,11 @@ read_on (line ∷ rest) r = ok_then (ok_or (line_after r line) (r.lines + 1)) (r
 -- what a script says: the device that it asks for, the events that it gives to it, and how many of them come before its
 -- line `go`, if it has one
 pub record Meaning : Type 0 where
-  pub device : Asked
+  pub device : DeviceShape
   pub go : Option ℕ
   pub events : List Event
 
-abbrev pub meant : Option ℕ → List Event → Asked → Meaning
+abbrev pub meant : Option ℕ → List Event → DeviceShape → Meaning
 meant go events device = record { device = device; go = go; events = events }
 
 -- a script that asks for no device is bad at its first line

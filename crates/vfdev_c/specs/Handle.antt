@@ -61,20 +61,20 @@ refused_as fault = numbered 8 (number_of fault)
 
 -- ---- what a call asks: an event, or nothing, where an argument is refused with a reply
 
-abbrev pub Asked : Type 0
-Asked = Result Event VfdevReply
+abbrev pub Requested : Type 0
+Requested = Result Event VfdevReply
 
 -- there is room for the messages to the 64 pools
 abbrev pub has_room : List ℕ → Bool
 has_room messages = nat_le 64 (length messages)
 
-abbrev pub where_room : List ℕ → Asked → Asked
+abbrev pub where_room : List ℕ → Requested → Requested
 where_room messages asked = if has_room messages then asked else Err no_room
 
-abbrev pub wire_asked : List ℕ → Asked
+abbrev pub wire_asked : List ℕ → Requested
 wire_asked bytes = if is_frame 9018 bytes then Ok (Wire bytes) else Err (refused_as BadFrame)
 
-abbrev pub write_asked : ℕ → ℕ → List ℕ → Asked
+abbrev pub write_asked : ℕ → ℕ → List ℕ → Requested
 write_asked function at bytes = if nat_le (length bytes) 2048 then Ok (MemWrite function at bytes) else Err (refused_as TooLong)
 
 -- the transmit queue of that number
@@ -82,30 +82,30 @@ abbrev pub queue_of : ℕ → Option Queue
 queue_of number = if nat_eq number 0 then Some Q0 else (if nat_eq number 1 then Some Q1 else None)
 
 -- a queue, where there is room for the longest frame
-abbrev pub serve_at : ℕ → Option Queue → List ℕ → Asked
+abbrev pub serve_at : ℕ → Option Queue → List ℕ → Requested
 serve_at function (Some queue) out = if nat_le 9018 (length out) then Ok (Serve function queue) else Err no_room
 serve_at function None out = Err no_queue
 
-abbrev pub serve_asked : ℕ → ℕ → List ℕ → Asked
+abbrev pub serve_asked : ℕ → ℕ → List ℕ → Requested
 serve_asked function queue out = serve_at function (queue_of queue) out
 
 -- ---- what a call does, by what it asks
 
 -- what the handle leads to after it: an event is given to the device, where there is one, and the call is kept
 -- where calls are
-abbrev pub after : Held → Asked → Held
+abbrev pub after : Held → Requested → Held
 after (Some (Made w)) (Ok e) = Some (Made (step w e).world)
 after (Some (Kept r)) (Ok e) = Some (Kept (taking r e))
 after held asked = held
 
-abbrev pub reply_to : Held → Asked → VfdevReply
+abbrev pub reply_to : Held → Requested → VfdevReply
 reply_to held (Err reply) = reply
 reply_to (Some (Made w)) (Ok e) = shown (step w e).answer.reply
 reply_to (Some (Kept r)) (Ok e) = if is_full r then history_full else shown (step r.live e).answer.reply
 reply_to held (Ok e) = no_device
 
 -- the messages that it issued, for each pool
-abbrev pub raised_by : Held → Asked → List ℕ
+abbrev pub raised_by : Held → Requested → List ℕ
 raised_by (Some (Made w)) (Ok e) = (step w e).answer.raised
 raised_by (Some (Kept r)) (Ok e) = if is_full r then no_messages else (step r.live e).answer.raised
 raised_by held asked = no_messages
@@ -115,7 +115,7 @@ abbrev pub messages_in : List ℕ → List ℕ → List ℕ
 messages_in raised old = if has_room old then raised ++ drop 64 old else old
 
 -- the frame that left for the wire
-abbrev pub left_of : Held → Asked → Option (List ℕ)
+abbrev pub left_of : Held → Requested → Option (List ℕ)
 left_of (Some (Made w)) (Ok e) = left_by w e
 left_of (Some (Kept r)) (Ok e) = if is_full r then None else left_by r.live e
 left_of held asked = None
@@ -154,7 +154,7 @@ IsolatedStep w e new = (p : ℕ) → p < length w.functions →
     (seen_by p (e ∷ []) ((step w e).answer ∷ []) ≡ lone_seen (lone_of p w) (keep p w (e ∷ [])))
     × (lone_of p new ≡ lone_after (lone_of p w) (keep p w (e ∷ [])))
 
-abbrev pub Isolated : Held → Asked → Held → Type 0
+abbrev pub Isolated : Held → Requested → Held → Type 0
 Isolated (Some (Made w)) (Ok e) (Some (Made new)) = IsolatedStep w e new
 Isolated (Some (Kept r)) (Ok e) (Some (Kept new)) = is_full r ≡ false → IsolatedStep r.live e new.live
 Isolated held asked new = Unit

@@ -1,7 +1,7 @@
 -- The device is that of the script, and what it answers and leaves is isolated.
 use Rattle.std.proofs.Common.{◌≡◌, ◌≤◌, ap, ◌∙◌, subst}
 use Rattle.device.specs.World.{world_after}
-use Rattle.script.specs.Reading.{Asked}
+use Rattle.script.specs.Reading.{DeviceShape}
 use Rattle.transcript.proofs.Known.{began_none, on_err}
 use Rattle.modes.specs.Program.{device_of}
 use Rattle.modes.proofs.Isolated.{are_left, sent_isolated}
@@ -19,7 +19,7 @@ pub returns-in-Ok-clause-isolated : goal.returns-in-Ok-clause-isolated
 returns-in-Ok-clause-isolated g c =
     let said = c.args.script.now in
     let made = c.in_ok-device.ensures.ok ∙ ap device_of c.shape-shape.ensures in
-    let few : said.device.functions ≤ 64 = subst (λ (d : Asked). d.functions ≤ 64) c.shape-shape.ensures c.shape-shape.result.most in
+    let few : said.device.functions ≤ 64 = subst (λ (d : DeviceShape). d.functions ≤ 64) c.shape-shape.ensures c.shape-shape.result.most in
     let after : c.perform-told.new.device ≡ world_after (device_of said.device) said.events =
     c.in-Ok.ensures.world ∙ (λ k. world_after ((c.deref_mut.ensures.value ∙ made) k) said.events) in
     sent_isolated said few _ after _ _ c.args.output.now _
@@ -29,5 +29,5 @@ pub returns-in-Ok-clause-isolated_state : goal.returns-in-Ok-clause-isolated_sta
 returns-in-Ok-clause-isolated_state g c =
     let said = c.args.script.now in
     let made = c.in_ok-device.ensures.ok ∙ ap device_of c.shape-shape.ensures in
-    are_left said (subst (λ (d : Asked). d.functions ≤ 64) c.shape-shape.ensures c.shape-shape.result.most) _
+    are_left said (subst (λ (d : DeviceShape). d.functions ≤ 64) c.shape-shape.ensures c.shape-shape.result.most) _
     (c.in-Ok.ensures.world ∙ (λ k. world_after ((c.deref_mut.ensures.value ∙ made) k) said.events))

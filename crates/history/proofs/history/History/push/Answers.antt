@@ -11,14 +11,14 @@ use Rattle.history.proofs.history.History.push.Given as given
 
 adds : (g : given.Over) (c : goal.After-push_reserved g)
     → Adds c.args.device.now (event_of c.args.request) c.args.taken.now.outcome c.args.taken.now.messages c.self.inside.pool.items c.append_words-vectors.new.pool.items
-    (record { asked = c.asked_of.result; reply = c.kind_of.result; start = c.len-start.result; count = c.append_moved-count.result; caller = c.new.result; vectors = c.append_words-vectors.result })
+    (record { event = c.head_of.result; reply = c.kind_of.result; start = c.len-start.result; count = c.append_moved-count.result; caller = c.new.result; vectors = c.append_words-vectors.result })
 adds g c =
     let moved = c.append_moved-count.ensures in
     let words = c.append_words-vectors.ensures in
     record {
       words = packed c.words.result;
       grown = ◌∙◌ {A = List ℕ} words.items (ap (λ (xs : List ℕ). xs ++ packed c.words.result) moved.items);
-      asked = c.asked_of.ensures;
+      event = c.head_of.ensures;
       kind = c.kind_of.ensures;
       start = search rules;
       count = moved.count;

@@ -5,4 +5,4 @@ use Rattle.history.proofs.history.History.record.Goals as goal
 
 pub push-requires-clause-one : goal.push-requires-clause-one
 push-requires-clause-one g c =
-    brings_or_reads c.args.device.now c.take-taken.new.self (event_of c.args.request) c.take-taken.result c.take-taken.ensures.answer
+    brings_or_reads c.args.device.now c.take-taken.new.self (event_of c.args.request) c.take-taken.result c.take-taken.ensures.takes.answer

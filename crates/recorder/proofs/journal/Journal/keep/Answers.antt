@@ -6,6 +6,7 @@ use Rattle.irq_line.specs.Line.{raised}
 use Rattle.device.specs.Events.{Event}
 use Rattle.device.specs.declared.event.Answer.{Answer}
 use Rattle.device.specs.Request.{event_of}
+use Rattle.device.specs.Takes.{Takes}
 use Rattle.device.specs.World.{World, step, fresh, sizes_of}
 use Rattle.device.proofs.Shape.{step_shape}
 use Rattle.history.specs.Entries.{Entry, entry}
@@ -20,14 +21,14 @@ call g c = entry c.args.caller (event_of c.args.request) (step c.self.inside.liv
 
 -- what the history says of the device that the box lends, said of the box
 stepped : (g : given.Over) (c : goal.After-raise_all g) → c.record-taken.new.device ≡ (step c.self.inside.live.value (event_of c.args.request)).world
-stepped g c = c.record-taken.ensures.world ∙ ap (λ (w : World). (step w (event_of c.args.request)).world) c.deref_mut.ensures.value
+stepped g c = c.record-taken.ensures.takes.world ∙ ap (λ (w : World). (step w (event_of c.args.request)).world) c.deref_mut.ensures.value
 
 kept : (g : given.Over) (c : goal.After-raise_all g) → c.record-taken.new.self.entries ≡ c.self.inside.history.entries ++ call g c ∷ []
 kept g c = c.record-taken.ensures.entries
     ∙ ap (λ (w : World). c.self.inside.history.entries ++ entry c.args.caller (event_of c.args.request) (step w (event_of c.args.request)).answer ∷ []) c.deref_mut.ensures.value
 
 sizes : (g : given.Over) (c : goal.After-raise_all g) → sizes_of c.record-taken.new.device ≡ sizes_of c.self.inside.live.value
-sizes g c = c.record-taken.ensures.sizes ∙ ap sizes_of c.deref_mut.ensures.value
+sizes g c = c.record-taken.ensures.takes.sizes ∙ ap sizes_of c.deref_mut.ensures.value
 
 limit : (g : given.Over) (c : goal.After-raise_all g) → c.record-taken.new.device.limit ≡ c.self.inside.live.value.limit
 limit g c = ap (λ (w : World). w.limit) (stepped g c) ∙ (step_shape c.self.inside.live.value (event_of c.args.request)).limit
@@ -39,7 +40,7 @@ same_base g c = base_kept c.self.inside.twin c.self.inside.live.value c.record-t
 one_more : (g : given.Over) (c : goal.After-raise_all g) (p v : ℕ) → p < 64
     → raised p v c.raise_all.new.line.raises ≡ raised p v c.self.inside.line.raises + bit_at (slice_index (call g c).answer.raised p) v
 one_more g c p v low = c.raise_all.ensures.raised p v low
-    ∙ ap (λ (a : Answer). raised p v c.self.inside.line.raises + bit_at (slice_index a.raised p) v) c.record-taken.ensures.answer
+    ∙ ap (λ (a : Answer). raised p v c.self.inside.line.raises + bit_at (slice_index a.raised p) v) c.record-taken.ensures.takes.answer
     ∙ ap (λ (w : World). raised p v c.self.inside.line.raises + bit_at (slice_index (step w (event_of c.args.request)).answer.raised p) v) c.deref_mut.ensures.value
 
 kept_more : (g : given.Over) (c : goal.After-raise_all g) (p v : ℕ)
@@ -66,14 +67,17 @@ invariant_of-self g c =
       raises = λ p v low. let r = one_more g c p v low in let k = kept_more g c p v in let o = old.raises p v low in (omega arith, omega arith);
     }
 
-pub returns-clause-kept : goal.returns-clause-kept
-returns-clause-kept g c = rw (← c.self.view_is) (record {
-  kept = kept g c;
-  live = stepped g c;
-  base = same_base g c;
-  cap = c.record-taken.ensures.cap;
-  has_twin = refl;
-  tallies = refl;
-  line = c.raise_all.ensures.line;
-  folded_raises = λ p v low. beside_kept _ _ (bit_at (slice_index (call g c).answer.raised p) v) _ _ (one_more g c p v low) (kept_more g c p v);
+pub returns-clause-recorded : goal.returns-clause-recorded
+returns-clause-recorded g c = rw (← c.self.view_is) (record {
+  takes = subst (λ (w : World). Takes w (event_of c.args.request) c.record-taken.new.device c.record-taken.result) c.deref_mut.ensures.value c.record-taken.ensures.takes;
+  keeps = record {
+    kept = kept g c;
+    live = stepped g c;
+    base = same_base g c;
+    cap = c.record-taken.ensures.cap;
+    has_twin = refl;
+    tallies = refl;
+    line = c.raise_all.ensures.line;
+    folded_raises = λ p v low. beside_kept _ _ (bit_at (slice_index (call g c).answer.raised p) v) _ _ (one_more g c p v low) (kept_more g c p v);
+  };
 })

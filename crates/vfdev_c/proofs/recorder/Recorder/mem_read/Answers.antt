@@ -13,7 +13,7 @@ use Rattle.vfdev_c.proofs.recorder.Recorder.mem_read.Goals as goal
 pub invariant_of-self : goal.invariant_of-self
 invariant_of-self c =
     leads_on c.self.inside.live c.record.new.device c.self.inside.history.entries c.record.new.self.entries (MemRead c.args.function c.args.at c.named.result)
-    c.self.invariant c.record.ensures.world c.record.ensures.sizes c.record.ensures.entries
+    c.self.invariant c.record.ensures.takes.world c.record.ensures.takes.sizes c.record.ensures.entries
 
 pub returns-clause-kept : goal.returns-clause-kept
 returns-clause-kept c =
@@ -22,7 +22,7 @@ returns-clause-kept c =
     let same : MemRead c.args.function c.args.at c.named.result ≡ kept_as asked = ap (λ n. MemRead c.args.function c.args.at n) c.named.ensures in
     rw (← c.self.view_is) (kept_on old c.record.new.device c.record.new.self.entries c.record.new.self.cap asked
     (has_room c.is_full.result _ _ c.is_full.ensures.full c.if-is_full.false)
-    (c.record.ensures.world ∙ ap (λ e. (step old.live e).world) same)
+    (c.record.ensures.takes.world ∙ ap (λ e. (step old.live e).world) same)
     (c.record.ensures.entries ∙ ap (λ e. old.calls ++ entry Driver e (step old.live e).answer ∷ []) same)
     c.record.ensures.cap)
 
@@ -31,5 +31,5 @@ returns-clause-isolated c =
     let asked : Event = MemRead c.args.function c.args.at (length c.args.out.now) in
     let same : MemRead c.args.function c.args.at c.named.result ≡ kept_as asked = ap (λ n. MemRead c.args.function c.args.at n) c.named.ensures in
     rw (← c.self.view_is) (λ _. isolated_at c.self.inside.live c.record.new.device asked
-    (c.record.ensures.world ∙ ap (λ e. (step c.self.inside.live e).world) same ∙ ap (λ (s : Stepped). s.world) (step_alike c.self.inside.live asked))
+    (c.record.ensures.takes.world ∙ ap (λ e. (step c.self.inside.live e).world) same ∙ ap (λ (s : Stepped). s.world) (step_alike c.self.inside.live asked))
     c.isolates.ensures)

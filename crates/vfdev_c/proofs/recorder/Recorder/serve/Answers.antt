@@ -6,4 +6,4 @@ use Rattle.vfdev_c.proofs.recorder.Recorder.serve.Goals as goal
 pub invariant_of-self : goal.invariant_of-self
 invariant_of-self c =
     leads_on c.self.inside.live c.record-taken.new.device c.self.inside.history.entries c.record-taken.new.self.entries (Serve c.args.function c.args.queue)
-    c.self.invariant c.record-taken.ensures.world c.record-taken.ensures.sizes c.record-taken.ensures.entries
+    c.self.invariant c.record-taken.ensures.takes.world c.record-taken.ensures.takes.sizes c.record-taken.ensures.entries

@@ -20,6 +20,7 @@ use Rattle.vfdev_c.specs.declared.reply.VfdevReply.{VfdevReply}
 use Rattle.vfdev_c.specs.declared.stage.Stage.{Stage}
 use Rattle.vfdev_c.specs.declared.stage.Stage.TheVariants.{Lending, Made, Kept}
 use Rattle.vfdev_c.specs.Recorded.{is_full, taking, made_like}
+use Rattle.vfdev_c.specs.Spans.{Lent, none_lent, span, overlaps_one}
 
 -- what a handle leads to: nothing, memories that were lent for a device, a device, or a device whose calls are kept
 abbrev pub Held : Type 0
@@ -170,17 +171,21 @@ abbrev pub can_record : ℕ → ℕ → ℕ → ℕ → Bool
 can_record functions size limit calls = can_make functions size limit && is_cap calls
 
 abbrev pub is_lending : Held → Bool
-is_lending (Some (Lending blocks)) = true
+is_lending (Some (Lending all)) = true
 is_lending held = false
 
--- the memories that were lent for a device, each with its bytes
-abbrev pub lent_in : Held → List (List ℕ)
-lent_in (Some (Lending blocks)) = blocks
-lent_in held = []
+-- the memories that were lent for a device
+abbrev pub lent_in : Held → Lent
+lent_in (Some (Lending all)) = all
+lent_in held = none_lent
 
 -- a block of these bytes can be lent: they are a memory, and there are fewer than 64 yet
 abbrev pub can_lend : Held → List ℕ → Bool
-can_lend held bytes = is_memory_size (length bytes) && nat_lt (length (lent_in held)) 64
+can_lend held bytes = is_memory_size (length bytes) && nat_lt (length (lent_in held).blocks) 64
+
+-- a block of these bytes, which begins at the address, overlaps one that was lent
+abbrev pub is_lent_twice : Held → ℕ → List ℕ → Bool
+is_lent_twice held address bytes = overlaps_one (span address (length bytes)) (lent_in held).spans
 
 -- a device is there
 abbrev pub is_made : Held → Bool

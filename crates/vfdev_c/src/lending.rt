@@ -1,6 +1,7 @@
 //! Memories that are lent for a device, before it is made.
-ghost use Rattle.std.specs.Prelude.{◌≡◌, ◌≤◌, ◌<◌, [], ◌∷◌, ◌++◌, length, map, IfOk};
+ghost use Rattle.std.specs.Prelude.{◌≡◌, ◌≤◌, ◌<◌, length, map, IfOk};
 ghost use Rattle.vfdev_c.specs.Memory.{bytes_of};
+ghost use Rattle.vfdev_c.specs.Spans.{none_lent, one_more, overlap, overlaps_one, span};
 
 use crate::memory::HostMem;
 use guest_memory::LentMem;
@@ -10,45 +11,67 @@ use std::marker::Model;
 /// How many memories there may be.
 pub const MOST_BLOCKS: usize = 64;
 
-/// Memories that were lent for a device that is not made yet, at most 64. A contract sees the bytes of each.
+/// Where a block lies: the address of its first byte, and how many it has.
+#[derive(Clone, Copy)]
+pub struct Span {
+    pub address: u64,
+    pub len: u64,
+}
+
+/// Memories that were lent for a device that is not made yet, at most 64. A contract sees the bytes of each, and where it lies.
 #[derive(Drop)]
 pub struct LentBlocks {
     memories: Vec<HostMem<'static>>,
+    spans: Vec<Span>,
 }
 
 impl Model for LentBlocks {
-    ghost use Rattle.std.specs.Prelude.{List, ℕ, map, length, vec_capacity, ◌≤◌};
+    ghost use Rattle.std.specs.Prelude.{map, length, vec_capacity, ◌≡◌, ◌≤◌};
     ghost use Rattle.vfdev_c.specs.Memory.{bytes_of};
+    ghost use Rattle.vfdev_c.specs.Spans.{Lent, lent};
 
-    ghost Value = { List (List ℕ) };
+    ghost Value = { Lent };
 
-    ghost view = { λ l. map bytes_of l.memories.items };
+    ghost view = { λ l. lent (map bytes_of l.memories.items) l.spans.items };
 
-    ghost invariant = { λ l. (length l.memories.items ≤ 64) × (64 ≤ vec_capacity l.memories) };
+    ghost invariant = { λ l. (length l.memories.items ≤ 64) × (64 ≤ vec_capacity l.memories)
+        × (length l.spans.items ≡ length l.memories.items) × (64 ≤ vec_capacity l.spans) };
 }
 
 impl LentBlocks {
     /// No memories, and room for all that there may be.
     pub fn new(alloc: Global) -> Result<LentBlocks, AllocError>
-        ensures { IfOk result (λ l. l ≡ []) }
+        ensures { IfOk result (λ l. l ≡ none_lent) }
     {
         let memories = Vec::with_capacity(alloc, MOST_BLOCKS)?;
-        Ok(LentBlocks { memories })
+        let spans = Vec::with_capacity(alloc, MOST_BLOCKS)?;
+        Ok(LentBlocks { memories, spans })
     }
 
     /// How many there are, at most 64.
     pub fn len(&self) -> usize
-        ensures count { result ≡ length self.now }
+        ensures count { result ≡ length self.now.blocks }
         ensures few { result ≤ 64 }
     {
         self.memories.len()
     }
 
-    /// One more.
-    pub fn push(&mut self, cells: &'static mut [u8])
-        requires { length self.old < 64 }
-        ensures { self.new ≡ self.old ++ cells.old ∷ [] }
+    /// Whether a block overlaps one of them.
+    pub fn overlaps(&self, block: Span) -> bool
+        ensures { result ≡ overlaps_one block self.now.spans }
     {
+        self.spans.iter().any(|lent| overlap(block, *lent))
+    }
+
+    /// One more, which begins at the address.
+    pub fn push(&mut self, cells: &'static mut [u8], address: u64)
+        requires { length self.old.blocks < 64 }
+        ensures { self.new ≡ one_more self.old address cells.old }
+    {
+        self.spans.push_reserved(Span {
+            address,
+            len: cells.len() as u64,
+        });
         self.memories
             .push_reserved(HostMem::Lent(LentMem::new(cells)));
     }
@@ -56,9 +79,17 @@ impl LentBlocks {
     /// The memories.
     #[tactic(auto, using(crate::proofs::HandleLemmas::sizes_of_bytes))]
     pub fn into_memories(self) -> Vec<HostMem<'static>>
-        ensures bytes { map bytes_of result.items ≡ self }
-        ensures sizes { map (λ m. length (bytes_of m)) result.items ≡ map length self }
+        ensures bytes { map bytes_of result.items ≡ self.blocks }
+        ensures sizes { map (λ m. length (bytes_of m)) result.items ≡ map length self.blocks }
     {
         self.memories
     }
+}
+
+// Whether each of two blocks begins before the other ends.
+fn overlap(one: Span, other: Span) -> bool
+    ensures { result ≡ overlap one other }
+{
+    u128::from(one.address) < u128::from(other.address) + u128::from(other.len)
+        && u128::from(other.address) < u128::from(one.address) + u128::from(one.len)
 }

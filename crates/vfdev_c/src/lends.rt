@@ -1,12 +1,13 @@
 //! Devices over memories of the caller's.
-ghost use Rattle.std.specs.Prelude.{◌≡◌, ◌++◌, ◌∷◌, [], ◌&&◌, true, false, nat_eq, map, length, Some, None, IfOk, IfErr, if◌then◌else◌};
+ghost use Rattle.std.specs.Prelude.{◌≡◌, ◌&&◌, true, false, nat_eq, map, length, Some, None, IfOk, IfErr, if◌then◌else◌};
 ghost use Rattle.device.specs.World.{fresh, is_frame_limit, is_makeable};
 ghost use Rattle.vfdev_c.specs.Memory.{bytes_of};
-ghost use Rattle.vfdev_c.specs.Handle.{can_lend, is_made, lent_in};
+ghost use Rattle.vfdev_c.specs.Handle.{can_lend, is_lent_twice, is_made, lent_in};
+ghost use Rattle.vfdev_c.specs.Spans.{none_lent, one_more};
 
 use crate::block::Block;
 use crate::handle::Vfdev;
-use crate::lending::{LentBlocks, MOST_BLOCKS};
+use crate::lending::{LentBlocks, MOST_BLOCKS, Span};
 use crate::making::{HELD, MADE};
 use crate::memory::HostMem;
 use crate::stage::{Running, Stage};
@@ -15,26 +16,40 @@ use guest_memory::is_memory_size;
 use std::alloc::Global;
 use wire_frame::{Fault, FrameLimit};
 
-/// Lends a block as the memory of the next function of a device, which [`vfdev_make_lent`] makes of all that were lent: 0,
-/// or the number of a fault, or 11 where the handle leads to a device already.
+/// What a lender answers where the block overlaps one that was lent.
+pub const OVERLAPS: u32 = 13;
+
+/// Lends a block, which begins at the address, as the memory of the next function of a device, which [`vfdev_make_lent`] makes of
+/// all that were lent: 0, or the number of a fault, 11 where the handle leads to a device already, or 13 where the block overlaps one
+/// that was lent.
 #[unsafe(no_mangle)]
-pub extern "C" fn vfdev_lend(alloc: Global, handle: &mut Vfdev, block: Block) -> u32
+pub extern "C" fn vfdev_lend_at(
+    alloc: Global,
+    handle: &mut Vfdev,
+    block: Block,
+    address: u64,
+) -> u32
     ensures lent { handle.new.owner.held
         ≡ (if nat_eq result 0
-        then Some (Stage.Lending (lent_in handle.old.owner.held ++ block.bytes ∷ []))
+        then Some (Stage.Lending (one_more (lent_in handle.old.owner.held) address block.bytes))
         else handle.old.owner.held) }
     ensures taken { is_made handle.old.owner.held ≡ true → result ≡ 11 }
     ensures bad_make { is_made handle.old.owner.held ≡ false
         → can_lend handle.old.owner.held block.bytes ≡ false → result ≡ 10 }
+    ensures overlapping { is_made handle.old.owner.held ≡ false
+        → can_lend handle.old.owner.held block.bytes ≡ true
+        → is_lent_twice handle.old.owner.held address block.bytes ≡ true → result ≡ 13 }
     ensures no_memory { is_made handle.old.owner.held ≡ false
-        → can_lend handle.old.owner.held block.bytes ≡ true → nat_eq result 0 ≡ false → result ≡ 9 }
+        → can_lend handle.old.owner.held block.bytes ≡ true
+        → is_lent_twice handle.old.owner.held address block.bytes ≡ false
+        → nat_eq result 0 ≡ false → result ≡ 9 }
 {
     let cells = block.into_cells();
     let Some(mut stage) = handle.take(alloc) else {
-        return lend_first(alloc, handle, cells);
+        return lend_first(alloc, handle, cells, address);
     };
     let answer = match &mut *stage {
-        Stage::Lending(blocks) => lend_next(blocks, cells),
+        Stage::Lending(blocks) => lend_next(blocks, cells, address),
         Stage::Made(_) | Stage::Kept(_) => HELD,
     };
     handle.put(stage);
@@ -42,14 +57,14 @@ pub extern "C" fn vfdev_lend(alloc: Global, handle: &mut Vfdev, block: Block) ->
 }
 
 // Lends the first block.
-fn lend_first(alloc: Global, handle: &mut Vfdev, cells: &'static mut [u8]) -> u32
+fn lend_first(alloc: Global, handle: &mut Vfdev, cells: &'static mut [u8], address: u64) -> u32
     requires { handle.old.owner.held ≡ None }
     ensures lent { handle.new.owner.held
-        ≡ (if nat_eq result 0 then Some (Stage.Lending (cells.old ∷ [])) else None) }
+        ≡ (if nat_eq result 0 then Some (Stage.Lending (one_more none_lent address cells.old)) else None) }
     ensures bad_make { can_lend None cells.old ≡ false → result ≡ 10 }
     ensures no_memory { can_lend None cells.old ≡ true → nat_eq result 0 ≡ false → result ≡ 9 }
 {
-    match lending(alloc, cells) {
+    match lending(alloc, cells, address) {
         Ok(stage) => {
             handle.put(stage);
             MADE
@@ -59,8 +74,9 @@ fn lend_first(alloc: Global, handle: &mut Vfdev, cells: &'static mut [u8]) -> u3
 }
 
 // One block that is lent, in a box.
-fn lending(alloc: Global, cells: &'static mut [u8]) -> Result<Box<Stage>, Fault>
-    ensures ok { IfOk result (λ b. b.value ≡ Stage.Lending (cells.old ∷ [])) }
+fn lending(alloc: Global, cells: &'static mut [u8], address: u64) -> Result<Box<Stage>, Fault>
+    ensures ok { IfOk result
+        (λ b. b.value ≡ Stage.Lending (one_more none_lent address cells.old)) }
     ensures bad_make { can_lend None cells.old ≡ false → result ≡ Err Fault.BadMake }
     ensures no_memory { IfErr result (λ e. can_lend None cells.old ≡ true → e ≡ Fault.NoMemory) }
 {
@@ -68,21 +84,31 @@ fn lending(alloc: Global, cells: &'static mut [u8]) -> Result<Box<Stage>, Fault>
         return Err(Fault::BadMake);
     }
     let mut blocks = LentBlocks::new(alloc)?;
-    blocks.push(cells);
+    blocks.push(cells, address);
     Ok(Box::new(alloc, Stage::Lending(blocks))?)
 }
 
 // Lends one more block.
-fn lend_next(blocks: &mut LentBlocks, cells: &'static mut [u8]) -> u32
+fn lend_next(blocks: &mut LentBlocks, cells: &'static mut [u8], address: u64) -> u32
     ensures lent { blocks.new
-        ≡ (if nat_eq result 0 then blocks.old ++ cells.old ∷ [] else blocks.old) }
+        ≡ (if nat_eq result 0 then one_more blocks.old address cells.old else blocks.old) }
     ensures bad_make { can_lend (Some (Stage.Lending blocks.old)) cells.old ≡ false → result ≡ 10 }
-    ensures made { can_lend (Some (Stage.Lending blocks.old)) cells.old ≡ true → result ≡ 0 }
+    ensures overlapping { can_lend (Some (Stage.Lending blocks.old)) cells.old ≡ true
+        → is_lent_twice (Some (Stage.Lending blocks.old)) address cells.old ≡ true → result ≡ 13 }
+    ensures made { can_lend (Some (Stage.Lending blocks.old)) cells.old ≡ true
+        → is_lent_twice (Some (Stage.Lending blocks.old)) address cells.old ≡ false → result ≡ 0 }
 {
     if !is_memory_size(cells.len() as u64) || blocks.len() >= MOST_BLOCKS {
         return u32::from(Fault::BadMake.number());
     }
-    blocks.push(cells);
+    let span = Span {
+        address,
+        len: cells.len() as u64,
+    };
+    if blocks.overlaps(span) {
+        return OVERLAPS;
+    }
+    blocks.push(cells, address);
     MADE
 }
 
@@ -94,13 +120,13 @@ fn lend_next(blocks: &mut LentBlocks, cells: &'static mut [u8]) -> u32
 pub extern "C" fn vfdev_make_lent(alloc: Global, handle: &mut Vfdev, limit: u16) -> u32
     ensures made { nat_eq result 0 ≡ true
         → handle.new.owner.held
-        ≡ Some (Stage.Made (fresh limit (map length (lent_in handle.old.owner.held)))) }
+        ≡ Some (Stage.Made (fresh limit (map length (lent_in handle.old.owner.held).blocks))) }
     ensures taken { is_made handle.old.owner.held ≡ true → result ≡ 11 }
     ensures bad_make { is_made handle.old.owner.held ≡ false
-        → (is_frame_limit limit && is_makeable (map length (lent_in handle.old.owner.held))) ≡ false
+        → (is_frame_limit limit && is_makeable (map length (lent_in handle.old.owner.held).blocks)) ≡ false
         → result ≡ 10 }
     ensures no_memory { is_made handle.old.owner.held ≡ false
-        → (is_frame_limit limit && is_makeable (map length (lent_in handle.old.owner.held))) ≡ true
+        → (is_frame_limit limit && is_makeable (map length (lent_in handle.old.owner.held).blocks)) ≡ true
         → nat_eq result 0 ≡ false → result ≡ 9 }
     ensures refused { is_made handle.old.owner.held ≡ true
         → handle.new.owner.held ≡ handle.old.owner.held }

@@ -16,7 +16,7 @@ use std::alloc::Global;
 /// No room is replied where `messages` has fewer than 64 bytes, or `out` fewer than 9018, and no queue where there is no
 /// such queue, before the device is asked.
 #[unsafe(no_mangle)]
-pub extern "C" fn vfdev_serve(
+pub extern "C" fn vfdev_serve_frame(
     alloc: Global,
     handle: &mut Vfdev,
     function: u8,

@@ -27,13 +27,19 @@
 //! assert_eq!(out[..6], [2, 0, 0, 0, 0, 0x77]);
 //! # Ok::<(), Fault>(())
 //! ```
-#![deny(missing_docs, unsafe_op_in_unsafe_fn)]
+#![deny(
+    clippy::undocumented_unsafe_blocks,
+    missing_docs,
+    unsafe_op_in_unsafe_fn
+)]
 
 mod device;
 mod kinds;
+mod quiet;
 mod raw;
 mod shared;
 
 pub use device::Device;
 pub use kinds::{Fault, Messages, Pool, Queue, Replayed, Served, MOST_BYTES, MOST_FRAME, POOLS};
+pub use quiet::Quiet;
 pub use shared::{Frames, Interrupt, MmioBar, SharedDevice};

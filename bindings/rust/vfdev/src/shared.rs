@@ -2,86 +2,118 @@
 
 use crate::device::Device;
 use crate::kinds::{Fault, Messages, Pool, Queue, Served, MOST_FRAME};
+use crate::quiet::Quiet;
 use std::sync::{Arc, Mutex, MutexGuard, PoisonError};
 
 /// Where interrupt messages go: the write of an event descriptor, or an injection into a guest.
-pub trait Interrupt: Send {
+///
+/// It is called after the lock is let go, so it may call the device. Threads whose calls issue messages call it at once.
+pub trait Interrupt: Send + Sync {
     /// Vector `vector`, 0 to 2, of the virtual function of a pool.
-    fn trigger(&mut self, pool: Pool, vector: u8);
+    fn trigger(&self, pool: Pool, vector: u8);
 }
 
 /// Where frames go that left for the wire: a tap, or a socket.
-pub trait Frames: Send {
+///
+/// It is called after the lock is let go, so it may call the device. Threads that pump call it at once: frames of one queue come in
+/// their order where one thread at a time pumps that queue.
+pub trait Frames: Send + Sync {
     /// One frame, without FCS.
-    fn send(&mut self, frame: &[u8]);
+    fn send(&self, frame: &[u8]);
 }
 
-struct Inner<I, F> {
-    device: Device<'static>,
+type Room = Box<[u8; MOST_FRAME]>;
+
+struct Locked<'m> {
+    device: Device<'m>,
+    // room for frames, of those who don't pump at the moment
+    rooms: Vec<Room>,
+}
+
+struct Inner<'m, I, F> {
+    locked: Mutex<Locked<'m>>,
     interrupt: I,
     frames: F,
-    out: Box<[u8; MOST_FRAME]>,
 }
 
-/// A device that several threads share, one call at a time. It is cloned for each of them, and for each bar.
+/// A device that several threads share, one call at a time. It is cloned for each of them, and for each bar. Its memories are the
+/// archive's own, or borrowed for `'m`.
 ///
 /// ```
-/// use std::sync::{Arc, Mutex};
 /// use vfdev::{Device, Fault, Frames, Interrupt, Pool, SharedDevice};
 ///
 /// struct Nowhere;
 /// impl Interrupt for Nowhere {
-///     fn trigger(&mut self, _pool: Pool, _vector: u8) {}
+///     fn trigger(&self, _pool: Pool, _vector: u8) {}
 /// }
 /// impl Frames for Nowhere {
-///     fn send(&mut self, _frame: &[u8]) {}
+///     fn send(&self, _frame: &[u8]) {}
 /// }
 ///
-/// let shared = SharedDevice::new(Device::new(1, 4096, 1518)?, Nowhere, Nowhere);
-/// shared.with(|device| device.open(0))?;
+/// let mut memory = vec![0u8; 4096];
+/// let shared = SharedDevice::new(Device::over(vec![&mut memory[..]], 1518)?, Nowhere, Nowhere);
+/// shared.with(|mut device| device.open(0))?;
 /// let mut bar = shared.bar(0);
 /// let mut word = [0; 4];
 /// bar.read(0xfe00_0000, 0x10, &mut word);
 /// assert_eq!(u32::from_le_bytes(word), 0x7000_0000);
 /// # Ok::<(), Fault>(())
 /// ```
-pub struct SharedDevice<I, F>(Arc<Mutex<Inner<I, F>>>);
+pub struct SharedDevice<'m, I, F>(Arc<Inner<'m, I, F>>);
 
-impl<I, F> Clone for SharedDevice<I, F> {
+impl<I, F> Clone for SharedDevice<'_, I, F> {
     fn clone(&self) -> Self {
         SharedDevice(Arc::clone(&self.0))
     }
 }
 
-impl<I: Interrupt, F> Inner<I, F> {
-    fn tell(&mut self, messages: &Messages) {
-        for (pool, vectors) in messages.iter() {
-            for vector in (0..3).filter(|v| vectors & (1 << v) != 0) {
-                self.interrupt.trigger(pool, vector);
-            }
-        }
-    }
-}
-
-impl<I: Interrupt, F: Frames> SharedDevice<I, F> {
+impl<'m, I: Interrupt, F: Frames> SharedDevice<'m, I, F> {
     /// The device, with where its messages and its frames go.
-    pub fn new(device: Device<'static>, interrupt: I, frames: F) -> Self {
-        SharedDevice(Arc::new(Mutex::new(Inner {
-            device,
+    pub fn new(device: Device<'m>, interrupt: I, frames: F) -> Self {
+        SharedDevice(Arc::new(Inner {
+            locked: Mutex::new(Locked {
+                device,
+                rooms: Vec::new(),
+            }),
             interrupt,
             frames,
-            out: Box::new([0; MOST_FRAME]),
-        })))
+        }))
     }
 
     // A panic of a caller's own code under the lock leaves the device whole: each call of it is one event.
-    fn lock(&self) -> MutexGuard<'_, Inner<I, F>> {
-        self.0.lock().unwrap_or_else(PoisonError::into_inner)
+    fn lock(&self) -> MutexGuard<'_, Locked<'m>> {
+        self.0.locked.lock().unwrap_or_else(PoisonError::into_inner)
     }
 
-    /// A call that issues no messages.
-    pub fn with<T>(&self, call: impl FnOnce(&mut Device<'static>) -> T) -> T {
-        call(&mut self.lock().device)
+    // Called without the lock.
+    fn tell(&self, messages: &Messages) {
+        for (pool, vectors) in messages.iter() {
+            for vector in (0..3).filter(|v| vectors & (1 << v) != 0) {
+                self.0.interrupt.trigger(pool, vector);
+            }
+        }
+    }
+
+    /// Calls that issue no messages, under the lock: `call` may not call this shared device, and waits forever where it does.
+    ///
+    /// The calls that may issue messages, as [`Device::vf_write`], can't be reached here: [`write`](SharedDevice::write),
+    /// [`receive`](SharedDevice::receive) and [`pump`](SharedDevice::pump) tell their messages.
+    ///
+    /// ```compile_fail,E0599
+    /// # use vfdev::{Device, Frames, Interrupt, SharedDevice};
+    /// fn lost<I: Interrupt, F: Frames>(shared: &SharedDevice<'_, I, F>) {
+    ///     let _messages = shared.with(|mut device| device.vf_write(0, 0x104, 1));
+    /// }
+    /// ```
+    ///
+    /// ```compile_fail,E0599
+    /// # use vfdev::{Device, Frames, Interrupt, SharedDevice};
+    /// fn lost<I: Interrupt, F: Frames>(shared: &SharedDevice<'_, I, F>) {
+    ///     let _messages = shared.with(|mut device| device.wire(&[0; 60]));
+    /// }
+    /// ```
+    pub fn with<T>(&self, call: impl FnOnce(Quiet<'_, 'm>) -> T) -> T {
+        call(Quiet::of(&mut self.lock().device))
     }
 
     /// Writes a register of a function; messages are told.
@@ -89,9 +121,8 @@ impl<I: Interrupt, F: Frames> SharedDevice<I, F> {
     /// # Errors
     /// As [`Device::vf_write`].
     pub fn write(&self, function: u8, offset: u32, word: u32) -> Result<(), Fault> {
-        let mut inner = self.lock();
-        let messages = inner.device.vf_write(function, offset, word)?;
-        inner.tell(&messages);
+        let messages = self.lock().device.vf_write(function, offset, word)?;
+        self.tell(&messages);
         Ok(())
     }
 
@@ -100,9 +131,8 @@ impl<I: Interrupt, F: Frames> SharedDevice<I, F> {
     /// # Errors
     /// As [`Device::wire`].
     pub fn receive(&self, frame: &[u8]) -> Result<(), Fault> {
-        let mut inner = self.lock();
-        let messages = inner.device.wire(frame)?;
-        inner.tell(&messages);
+        let messages = self.lock().device.wire(frame)?;
+        self.tell(&messages);
         Ok(())
     }
 
@@ -112,14 +142,29 @@ impl<I: Interrupt, F: Frames> SharedDevice<I, F> {
     /// # Errors
     /// As [`Device::serve`].
     pub fn pump(&self, function: u8, queue: Queue, most: u32) -> Result<u32, Fault> {
+        let room = self.lock().rooms.pop();
+        let mut room = room.unwrap_or_else(|| Box::new([0; MOST_FRAME]));
+        let taken = self.pump_through(function, queue, most, &mut room);
+        self.lock().rooms.push(room);
+        taken
+    }
+
+    fn pump_through(
+        &self,
+        function: u8,
+        queue: Queue,
+        most: u32,
+        room: &mut Room,
+    ) -> Result<u32, Fault> {
         for taken in 0..most {
-            let mut guard = self.lock();
-            let inner = &mut *guard;
-            let (served, messages) = inner.device.serve(function, queue, &mut inner.out)?;
-            inner.tell(&messages);
+            let (served, messages) = self.lock().device.serve(function, queue, room)?;
+            // the frame first: who pumps in a trigger sends later ones
+            if let Served::Sent(Some(len)) = served {
+                self.0.frames.send(&room[..len]);
+            }
+            self.tell(&messages);
             match served {
-                Served::Sent(Some(len)) => inner.frames.send(&inner.out[..len]),
-                Served::Sent(None) | Served::More | Served::Dropped => {}
+                Served::Sent(_) | Served::More | Served::Dropped => {}
                 Served::Faulted => return Ok(taken + 1),
                 Served::Idle => return Ok(taken),
             }
@@ -129,7 +174,7 @@ impl<I: Interrupt, F: Frames> SharedDevice<I, F> {
 
     /// The register space of a function.
     #[must_use]
-    pub fn bar(&self, function: u8) -> MmioBar<I, F> {
+    pub fn bar(&self, function: u8) -> MmioBar<'m, I, F> {
         MmioBar {
             device: self.clone(),
             function,
@@ -141,8 +186,8 @@ impl<I: Interrupt, F: Frames> SharedDevice<I, F> {
 /// begins in the guest's addresses, and `offset` is within it.
 ///
 /// Accesses have 4 bytes. On a bus nothing can be refused: one that is reads all ones, and writes nothing.
-pub struct MmioBar<I, F> {
-    device: SharedDevice<I, F>,
+pub struct MmioBar<'m, I, F> {
+    device: SharedDevice<'m, I, F>,
     function: u8,
 }
 
@@ -151,7 +196,7 @@ const TAILS: [(u64, Queue); 2] = [(0x2018, Queue::Q0), (0x2058, Queue::Q1)];
 /// How many descriptors a ring may have: a write of a tail serves no more.
 const MOST_DESCRIPTORS: u32 = 4096;
 
-impl<I: Interrupt, F: Frames> MmioBar<I, F> {
+impl<I: Interrupt, F: Frames> MmioBar<'_, I, F> {
     /// A read.
     pub fn read(&mut self, _base: u64, offset: u64, data: &mut [u8]) {
         data.fill(0xff);
@@ -160,7 +205,7 @@ impl<I: Interrupt, F: Frames> MmioBar<I, F> {
         };
         if let Ok(word) = self
             .device
-            .with(|device| device.vf_read(self.function, offset))
+            .with(|mut device| device.vf_read(self.function, offset))
         {
             *out = word.to_le_bytes();
         }

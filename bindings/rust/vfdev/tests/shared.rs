@@ -1,14 +1,15 @@
 //! A device that threads share: bars, interrupts and frames.
 
-use std::sync::{Arc, Mutex};
+use std::sync::{mpsc, Arc, Mutex, OnceLock};
 use std::thread;
+use std::time::Duration;
 use vfdev::{Device, Fault, Frames, Interrupt, Pool, Queue, SharedDevice};
 
 #[derive(Clone, Default)]
 struct Raised(Arc<Mutex<Vec<(u8, u8)>>>);
 
 impl Interrupt for Raised {
-    fn trigger(&mut self, pool: Pool, vector: u8) {
+    fn trigger(&self, pool: Pool, vector: u8) {
         self.0.lock().unwrap().push((pool.get(), vector));
     }
 }
@@ -17,12 +18,12 @@ impl Interrupt for Raised {
 struct Tap(Arc<Mutex<Vec<Vec<u8>>>>);
 
 impl Frames for Tap {
-    fn send(&mut self, frame: &[u8]) {
+    fn send(&self, frame: &[u8]) {
         self.0.lock().unwrap().push(frame.to_vec());
     }
 }
 
-type Shared = SharedDevice<Raised, Tap>;
+type Shared = SharedDevice<'static, Raised, Tap>;
 
 fn frame(to: u8, from: u8) -> [u8; 60] {
     let mut bytes = [0xab; 60];
@@ -30,10 +31,15 @@ fn frame(to: u8, from: u8) -> [u8; 60] {
     bytes
 }
 
-// Two functions with an address each and loopback; function 0 has eight receive descriptors and an interrupt.
 fn shared() -> Result<(Shared, Raised, Tap), Fault> {
     let (raised, tap) = (Raised::default(), Tap::default());
     let shared = SharedDevice::new(Device::new(2, 65536, 1518)?, raised.clone(), tap.clone());
+    set_up(&shared)?;
+    Ok((shared, raised, tap))
+}
+
+// Two functions with an address each and loopback; function 0 has eight receive descriptors and an interrupt.
+fn set_up<I: Interrupt, F: Frames>(shared: &SharedDevice<'_, I, F>) -> Result<(), Fault> {
     for (offset, word) in [
         (0x51e0, 3),
         (0x8110, 3),
@@ -45,13 +51,13 @@ fn shared() -> Result<(Shared, Raised, Tap), Fault> {
         (0xa20c, 0x8000_0100),
         (0xa608, 2),
     ] {
-        shared.with(|device| device.pf_write(offset, word))?;
+        shared.with(|mut device| device.pf_write(offset, word))?;
     }
-    shared.with(|device| device.open(0))?;
-    shared.with(|device| device.open(1))?;
+    shared.with(|mut device| device.open(0))?;
+    shared.with(|mut device| device.open(1))?;
     let mut bar = shared.bar(0);
     for i in 0..8 {
-        shared.with(|device| {
+        shared.with(|mut device| {
             device.mem_write(0, 0x1000 + 16 * i, &(0x4000 + 0x800 * i).to_le_bytes())
         })?;
     }
@@ -67,24 +73,17 @@ fn shared() -> Result<(Shared, Raised, Tap), Fault> {
     ] {
         bar.write(0xfe00_0000, offset, &word.to_le_bytes());
     }
-    Ok((shared, raised, tap))
-}
-
-// Function 1 has two frames in its ring: one to nobody here, and one to function 0.
-fn fill_ring(shared: &Shared) -> Result<(), Fault> {
-    for (i, to) in [(0u64, 0x77), (1, 0)] {
-        shared.with(|device| device.mem_write(1, 0x6000 + 0x100 * i, &frame(to, 1)))?;
-        let words = [0x6000 + 0x100 * i, 0x2930_003c];
-        shared.with(|device| device.mem_write(1, 0x2000 + 16 * i, &words[0].to_le_bytes()))?;
-        shared.with(|device| device.mem_write(1, 0x2008 + 16 * i, &words[1].to_le_bytes()))?;
-    }
     Ok(())
 }
 
-#[test]
-fn a_tail_that_is_written_serves_the_queue() -> Result<(), Fault> {
-    let (shared, raised, tap) = shared()?;
-    fill_ring(&shared)?;
+// Function 1 has two frames in its ring, one to nobody here and one to function 0, and hands them over.
+fn send<I: Interrupt, F: Frames>(shared: &SharedDevice<'_, I, F>) -> Result<(), Fault> {
+    for (i, to) in [(0u64, 0x77), (1, 0)] {
+        shared.with(|mut device| device.mem_write(1, 0x6000 + 0x100 * i, &frame(to, 1)))?;
+        let words = [0x6000 + 0x100 * i, 0x2930_003c];
+        shared.with(|mut device| device.mem_write(1, 0x2000 + 16 * i, &words[0].to_le_bytes()))?;
+        shared.with(|mut device| device.mem_write(1, 0x2008 + 16 * i, &words[1].to_le_bytes()))?;
+    }
     let mut bar = shared.bar(1);
     for (offset, word) in [
         (0x2000, 0x2000u32),
@@ -94,6 +93,13 @@ fn a_tail_that_is_written_serves_the_queue() -> Result<(), Fault> {
     ] {
         bar.write(0, offset, &word.to_le_bytes());
     }
+    Ok(())
+}
+
+#[test]
+fn a_tail_that_is_written_serves_the_queue() -> Result<(), Fault> {
+    let (shared, raised, tap) = shared()?;
+    send(&shared)?;
     assert_eq!(*tap.0.lock().unwrap(), [frame(0x77, 1).to_vec()]);
     assert_eq!(*raised.0.lock().unwrap(), [(0, 0)]);
     assert_eq!(shared.pump(1, Queue::Q0, 8)?, 0);
@@ -133,11 +139,11 @@ fn threads_take_turns() -> Result<(), Fault> {
                 for i in 0..1000u64 {
                     let at = 0x8000 + 8 * u64::from(n);
                     shared
-                        .with(|device| device.mem_write(0, at, &i.to_le_bytes()))
+                        .with(|mut device| device.mem_write(0, at, &i.to_le_bytes()))
                         .unwrap();
                     let mut out = [0; 8];
                     shared
-                        .with(|device| device.mem_read(0, at, &mut out))
+                        .with(|mut device| device.mem_read(0, at, &mut out))
                         .unwrap();
                     assert_eq!(u64::from_le_bytes(out), i);
                 }
@@ -182,4 +188,103 @@ fn blocks_of_other_sizes_are_refused() {
     );
     assert_eq!(Device::over(Vec::new(), 1518).err(), Some(Fault::BadMake));
     assert!(Device::over(vec![&mut memory[..4096]], 9018).is_ok());
+}
+
+// What calls the device where it is called: a trigger reads its cause register, and a frame that leaves comes back to function 0.
+#[derive(Clone, Default)]
+struct Back {
+    device: Arc<OnceLock<SharedDevice<'static, Back, Back>>>,
+    told: Arc<Mutex<Vec<String>>>,
+}
+
+impl Back {
+    fn device(&self) -> &SharedDevice<'static, Back, Back> {
+        self.device.get().expect("the device is set")
+    }
+
+    fn tell(&self, what: String) {
+        self.told.lock().unwrap().push(what);
+    }
+}
+
+impl Interrupt for Back {
+    fn trigger(&self, pool: Pool, vector: u8) {
+        let received = self
+            .device()
+            .with(|mut device| device.vf_read(pool.get(), 0x101c))
+            .unwrap();
+        self.tell(format!("vector {vector}, {received} received"));
+    }
+}
+
+impl Frames for Back {
+    fn send(&self, bytes: &[u8]) {
+        self.tell(format!("a frame of {} leaves", bytes.len()));
+        self.device().receive(&frame(0, 9)).unwrap();
+    }
+}
+
+#[test]
+fn what_is_called_may_call_back() {
+    let (done, is_done) = mpsc::channel();
+    thread::spawn(move || {
+        let back = Back::default();
+        let device = Device::new(2, 65536, 1518).unwrap();
+        let shared = SharedDevice::new(device, back.clone(), back.clone());
+        assert!(back.device.set(shared.clone()).is_ok());
+        set_up(&shared).unwrap();
+        send(&shared).unwrap();
+        done.send(back.told.lock().unwrap().clone()).unwrap();
+    });
+    let told = is_done
+        .recv_timeout(Duration::from_secs(60))
+        .expect("nobody waits for the lock forever");
+    assert_eq!(
+        told,
+        [
+            "a frame of 60 leaves",
+            "vector 0, 1 received",
+            "vector 0, 2 received"
+        ]
+    );
+}
+
+#[test]
+fn memory_that_is_borrowed_is_shared_too() -> Result<(), Fault> {
+    let mut memory = vec![1u8; 2 * 65536];
+    let (first, second) = memory.split_at_mut(65536);
+    let (raised, tap) = (Raised::default(), Tap::default());
+    let device = Device::over(vec![first, second], 1518)?;
+    let shared = SharedDevice::new(device, raised.clone(), tap);
+    set_up(&shared)?;
+    thread::scope(|scope| {
+        for _ in 0..3 {
+            let shared = shared.clone();
+            scope.spawn(move || shared.receive(&frame(0, 9)));
+        }
+    });
+    drop(shared);
+    assert_eq!(raised.0.lock().unwrap().len(), 3);
+    for i in 0..3 {
+        let buffer = 0x4000 + 0x800 * i;
+        assert_eq!(memory[buffer..buffer + 60], frame(0, 9));
+    }
+    Ok(())
+}
+
+// Each write raises a cause that clears itself, so each has its message.
+#[test]
+fn each_message_of_each_thread_is_told() -> Result<(), Fault> {
+    let (shared, raised, _) = shared()?;
+    thread::scope(|scope| {
+        for _ in 0..4 {
+            scope.spawn(|| {
+                for _ in 0..500 {
+                    shared.write(0, 0x104, 1).unwrap();
+                }
+            });
+        }
+    });
+    assert_eq!(*raised.0.lock().unwrap(), [(0, 0); 2000]);
+    Ok(())
 }

@@ -1,7 +1,8 @@
 //! 200 scripts by chance: what this crate answers, written as `vfdev run` writes it, is that program's output byte for byte. A
 //! device whose calls are kept answers the same, and these calls replay.
 //!
-//! `VFDEV_PROGRAM` names the program. Where it is unset nothing is compared, and the test says so.
+//! `VFDEV_PROGRAM` names the program; where it is unset it is the one that is built in this repository. The comparison fails where there
+//! is none.
 
 mod chance;
 mod generate;
@@ -9,16 +10,33 @@ mod script;
 
 use std::env;
 use std::io::Write;
+use std::path::{Path, PathBuf};
 use std::process::{Command, Stdio};
 
+// The program, which is there.
+fn program() -> PathBuf {
+    let built = concat!(
+        env!("CARGO_MANIFEST_DIR"),
+        "/../../../crates/vfdev/out/vfdev"
+    );
+    let program = env::var_os("VFDEV_PROGRAM").map_or_else(|| PathBuf::from(built), PathBuf::from);
+    assert!(
+        program.is_file(),
+        "there is no program {}: at the top of the repository './vfdev run <examples/one_frame.script' builds it, and VFDEV_PROGRAM \
+         names another",
+        program.display()
+    );
+    program
+}
+
 // What the program writes for a script.
-fn by_program(program: &str, text: &str) -> Vec<u8> {
+fn by_program(program: &Path, text: &str) -> Vec<u8> {
     let mut child = Command::new(program)
         .arg("run")
         .stdin(Stdio::piped())
         .stdout(Stdio::piped())
         .spawn()
-        .expect("the program starts");
+        .unwrap_or_else(|error| panic!("{} doesn't start: {error}", program.display()));
     let mut input = child.stdin.take().expect("its input is a pipe");
     // the program reads the whole script before it writes
     input.write_all(text.as_bytes()).expect("the program reads");
@@ -33,10 +51,7 @@ fn by_program(program: &str, text: &str) -> Vec<u8> {
 
 #[test]
 fn scripts_by_chance_answer_alike() {
-    let Ok(program) = env::var("VFDEV_PROGRAM") else {
-        println!("left out: VFDEV_PROGRAM names no program");
-        return;
-    };
+    let program = program();
     let mut left = 0;
     let mut told = 0;
     for seed in 0..200 {

@@ -1,0 +1,100 @@
+//! The calls of a device that issue no messages.
+
+use crate::device::Device;
+use crate::kinds::{Fault, Replayed};
+
+/// A device, for the calls that issue no messages: [`SharedDevice::with`](crate::SharedDevice::with) lends it. Those that may
+/// issue some aren't here, so that no message is lost.
+///
+/// Each method does what the one of the same name does of [`Device`], and is refused as that one is.
+#[derive(Debug)]
+pub struct Quiet<'a, 'm>(&'a mut Device<'m>);
+
+impl<'a, 'm> Quiet<'a, 'm> {
+    pub(crate) fn of(device: &'a mut Device<'m>) -> Self {
+        Quiet(device)
+    }
+
+    /// Opens a function: its registers become initial, and its memory zero.
+    ///
+    /// # Errors
+    /// As [`Device::open`].
+    pub fn open(&mut self, function: u8) -> Result<(), Fault> {
+        self.0.open(function)
+    }
+
+    /// Closes a function.
+    ///
+    /// # Errors
+    /// As [`Device::end`].
+    pub fn end(&mut self, function: u8) -> Result<(), Fault> {
+        self.0.end(function)
+    }
+
+    /// Function-level reset: the registers become initial, and the memory stays.
+    ///
+    /// # Errors
+    /// As [`Device::flr`].
+    pub fn flr(&mut self, function: u8) -> Result<(), Fault> {
+        self.0.flr(function)
+    }
+
+    /// Reads a register of a function, at an offset in bytes.
+    ///
+    /// # Errors
+    /// As [`Device::vf_read`].
+    pub fn vf_read(&mut self, function: u8, offset: u32) -> Result<u32, Fault> {
+        self.0.vf_read(function, offset)
+    }
+
+    /// Fills `out` with bytes of a function's memory, from the address `at` on; where it is refused, `out` stays.
+    ///
+    /// # Errors
+    /// As [`Device::mem_read`].
+    pub fn mem_read(&mut self, function: u8, at: u64, out: &mut [u8]) -> Result<(), Fault> {
+        self.0.mem_read(function, at, out)
+    }
+
+    /// Writes bytes of a function's memory, from the address `at` on.
+    ///
+    /// # Errors
+    /// As [`Device::mem_write`].
+    pub fn mem_write(&mut self, function: u8, at: u64, source: &[u8]) -> Result<(), Fault> {
+        self.0.mem_write(function, at, source)
+    }
+
+    /// Reads a register of the physical function, at an offset in bytes.
+    ///
+    /// # Errors
+    /// As [`Device::pf_read`].
+    pub fn pf_read(&mut self, offset: u32) -> Result<u32, Fault> {
+        self.0.pf_read(offset)
+    }
+
+    /// Writes a register of the physical function.
+    ///
+    /// # Errors
+    /// As [`Device::pf_write`].
+    pub fn pf_write(&mut self, offset: u32, word: u32) -> Result<(), Fault> {
+        self.0.pf_write(offset, word)
+    }
+
+    /// Resets the device: every function is closed and every setting initial.
+    ///
+    /// # Errors
+    /// As [`Device::pf_reset`].
+    pub fn pf_reset(&mut self) -> Result<(), Fault> {
+        self.0.pf_reset()
+    }
+
+    /// How many calls are kept; 0 of a device that keeps none.
+    pub fn kept(&mut self) -> usize {
+        self.0.kept()
+    }
+
+    /// Gives another device the events of the kept calls, and tells whether it answers each as was kept: [`Device::replay`]. The
+    /// other device belongs to the caller, and its messages are compared and go nowhere.
+    pub fn replay(&mut self, other: &mut Device<'_>) -> Replayed {
+        self.0.replay(other)
+    }
+}

@@ -6,6 +6,7 @@
  *
  * The word `own` lets the device be over memories of the archive's own, and `kept` lets its calls be kept besides. */
 #include "vfdev.h"
+#include "vfdev_regs.h"
 #include <stdio.h>
 #include <stdlib.h>
 #include <string.h>
@@ -25,6 +26,7 @@ static vfdev device = VFDEV_NONE;
 static ucontext_t here, there;
 static size_t left;
 static uint32_t turn;
+static vfdev_reply last;
 
 static void vf(uint8_t function, uint32_t offset, uint32_t value)
 {
@@ -34,15 +36,15 @@ static void vf(uint8_t function, uint32_t offset, uint32_t value)
 /* ---- the calls, and what has to come before each so that it does its work */
 
 static void nothing(void) {}
-static void vf_read(void) { vfdev_vf_read(&device, 0, 8); }
-static void vf_write(void) { vf(0, 0x108, 1); }
-static void pf_read(void) { vfdev_pf_read(&device, 0x51e0); }
-static void mem_write(void) { vfdev_mem_write(&device, 1, 0x3000, bytes, sizeof bytes); }
-static void mem_read(void) { vfdev_mem_read(&device, 1, 0x3000, bytes, sizeof bytes); }
-static void more_buffers(void) { vf(0, 0x1018, ++turn & 7); }
+static void vf_read(void) { last = vfdev_vf_read(&device, 0, 8); }
+static void vf_write(void) { vf(0, VFDEV_VTEIMS, 1); }
+static void pf_read(void) { last = vfdev_pf_read(&device, VFDEV_PFVFRE(0)); }
+static void mem_write(void) { last = vfdev_mem_write(&device, 1, 0x3000, bytes, sizeof bytes); }
+static void mem_read(void) { last = vfdev_mem_read(&device, 1, 0x3000, bytes, sizeof bytes); }
+static void more_buffers(void) { vf(0, VFDEV_RDT(0), ++turn & 7); }
 static void wire(void) { vfdev_wire(&device, frame, FRAME, messages, sizeof messages); }
-static void more_frames(void) { vf(1, 0x2018, ++turn & 7); }
-static void serve(void) { vfdev_serve(&device, 1, 0, out, sizeof out, &left, messages, sizeof messages); }
+static void more_frames(void) { vf(1, VFDEV_TDT(0), ++turn & 7); }
+static void serve(void) { last = vfdev_serve(&device, 1, 0, out, sizeof out, &left, messages, sizeof messages); }
 
 static const struct workload {
     const char *name;
@@ -115,17 +117,30 @@ static size_t stack_of(void (*call)(void))
     return sizeof stack - blank;
 }
 
-static void must(uint32_t answer)
+static void must(enum vfdev_fault answer)
 {
     if (answer != VFDEV_OK)
         exit(1);
 }
 
+static void done(vfdev_reply reply)
+{
+    if (reply.kind != VFDEV_DONE)
+        exit(1);
+}
+
 static void set_up(void)
 {
-    static const uint32_t PF[][2] = {{0x51e0, 3}, {0x8110, 3}, {0xa200, 2}, {0xa204, 0x80000000u}, {0xa600, 1}};
-    static const uint32_t RECEIVE[][2] = {{0x1000, 0x1000}, {0x1008, 128}, {0x1014, 0x02000002}, {0x1028, 0x02000000}};
-    static const uint32_t SEND[][2] = {{0x2000, 0x2000}, {0x2008, 128}, {0x2028, 0x02000000}};
+    static const uint32_t PF[][2] = {
+        {VFDEV_PFVFRE(0), 3}, {VFDEV_PFVFTE(0), 3}, {VFDEV_RAL(0), 2}, {VFDEV_RAH(0), VFDEV_RAH_AV}, {VFDEV_MPSAR(0), 1}
+    };
+    static const uint32_t RECEIVE[][2] = {
+        {VFDEV_RDBAL(0), 0x1000}, {VFDEV_RDLEN(0), 128},
+        {VFDEV_SRRCTL(0), VFDEV_SRRCTL_DESCTYPE(1) | VFDEV_SRRCTL_BSIZEPACKET(2)}, {VFDEV_RXDCTL(0), VFDEV_RXDCTL_ENABLE}
+    };
+    static const uint32_t SEND[][2] = {
+        {VFDEV_TDBAL(0), 0x2000}, {VFDEV_TDLEN(0), 128}, {VFDEV_TXDCTL(0), VFDEV_TXDCTL_ENABLE}
+    };
     static const uint8_t ADDRESSES[14] = {2, 0, 0, 0, 0, 0, 2, 0, 0, 0, 0, 9, 8, 0};
     if (how == KEPT) {
         must(vfdev_make_recorded(&device, 2, MEMORY, 1518, VFDEV_MOST_CALLS));
@@ -136,17 +151,17 @@ static void set_up(void)
         must(vfdev_lend(&device, (vfdev_block){memory[1], MEMORY}));
         must(vfdev_make_lent(&device, 1518));
     }
-    vfdev_open(&device, 0);
-    vfdev_open(&device, 1);
+    done(vfdev_open(&device, 0));
+    done(vfdev_open(&device, 1));
     for (size_t i = 0; i < 5; i++)
-        vfdev_pf_write(&device, PF[i][0], PF[i][1]);
+        done(vfdev_pf_write(&device, PF[i][0], PF[i][1]));
     for (size_t i = 0; i < 8; i++) {
         const uint8_t buffer[16] = {0, 0x40}, sent[16] = {0, 0x60, 0, 0, 0, 0, 0, 0, 0x3c, 0, 0x30, 0x29};
-        vfdev_mem_write(&device, 0, 0x1000 + 16 * i, buffer, 16);
-        vfdev_mem_write(&device, 1, 0x2000 + 16 * i, sent, 16);
+        done(vfdev_mem_write(&device, 0, 0x1000 + 16 * i, buffer, 16));
+        done(vfdev_mem_write(&device, 1, 0x2000 + 16 * i, sent, 16));
     }
     memcpy(frame, ADDRESSES, sizeof ADDRESSES);
-    vfdev_mem_write(&device, 1, 0x6000, (const uint8_t[]){2, 0, 0, 0, 0, 0x77, 2, 0, 0, 0, 0, 1, 8, 0}, 14);
+    done(vfdev_mem_write(&device, 1, 0x6000, (const uint8_t[]){2, 0, 0, 0, 0, 0x77, 2, 0, 0, 0, 0, 1, 8, 0}, 14));
     for (size_t i = 0; i < 4; i++)
         vf(0, RECEIVE[i][0], RECEIVE[i][1]);
     for (size_t i = 0; i < 3; i++)

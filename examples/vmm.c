@@ -2,36 +2,24 @@
  * write their rings straight into them. A frame of the wire reaches guest 0 with its interrupt, guest 1 sends one frame to
  * the wire and one to guest 0, a register that cannot be is refused, and a frame with another's source is dropped.
  *
- * Build: gcc -Iinclude examples/vmm.c libvfdev_c.a liblibc_c.a -o vmm. It prints what examples/vmm.c.stdout has. */
+ * Build: cc -Iinclude examples/vmm.c libvfdev_c.a liblibc_c.a -o vmm. It prints what examples/vmm.c.stdout has. */
 #include "vfdev.h"
+#include "vfdev_regs.h"
 #include <stdio.h>
 #include <stdlib.h>
 #include <string.h>
 
 enum { GUESTS = 2, MEMORY = 65536, FRAME = 60 };
 
-/* Registers of the physical function and of a virtual one, as docs/REGISTERS.md has them. */
-enum {
-    PFVFRE = 0x51e0, PFVFTE = 0x8110, PFVFSPOOF = 0x8200, PFDTXGSWC = 0x8220, RAL = 0xa200, RAH = 0xa204, MPSAR = 0xa600
-};
-enum {
-    VTEIMS = 0x108, VTEIAC = 0x110, VTIVAR = 0x120, VFRDBAL = 0x1000, VFRDLEN = 0x1008, VFSRRCTL = 0x1014, VFRDT = 0x1018, VFRXDCTL = 0x1028,
-    VFTDBAL = 0x2000, VFTDLEN = 0x2008, VFTDT = 0x2018, VFTXDCTL = 0x2028, VFGPRC = 0x101c
-};
-
 static uint8_t memory[GUESTS][MEMORY];
 static uint8_t messages[VFDEV_POOLS];
 static uint8_t out[VFDEV_MOST_FRAME];
 static vfdev device = VFDEV_NONE;
 
-static const char *const KINDS[] = {
-    "done", "value", "bytes", "idle", "more", "sent", "dropped", "faulted", "refused", "no device", "no room", "no queue"
-};
-
 /* Prints a reply. */
 static void show(const char *what, vfdev_reply reply)
 {
-    printf("%s: %s", what, KINDS[reply.kind]);
+    printf("%s: %s", what, vfdev_kind_text(reply.kind));
     if (reply.kind == VFDEV_VALUE)
         printf(" 0x%08x", reply.value);
     if (reply.kind == VFDEV_REFUSED)
@@ -88,14 +76,14 @@ static void frame(uint8_t *at, uint8_t to, uint8_t from, uint8_t fill)
  * number, and the sources of guest 1 are checked. */
 static void set_up_host(void)
 {
-    pf(PFVFRE, 3);
-    pf(PFVFTE, 3);
-    pf(PFDTXGSWC, 1);
-    pf(PFVFSPOOF, 2);
+    pf(VFDEV_PFVFRE(0), 3);
+    pf(VFDEV_PFVFTE(0), 3);
+    pf(VFDEV_PFDTXGSWC, VFDEV_PFDTXGSWC_LBE);
+    pf(VFDEV_PFVFSPOOF(0), VFDEV_PFVFSPOOF_MACAS(1u << 1));
     for (uint32_t g = 0; g < GUESTS; g++) {
-        pf(RAL + 8 * g, 2);
-        pf(RAH + 8 * g, 0x80000000u | g << 8);
-        pf(MPSAR + 8 * g, 1u << g);
+        pf(VFDEV_RAL(g), 2);
+        pf(VFDEV_RAH(g), VFDEV_RAH_AV | g << 8);
+        pf(VFDEV_MPSAR(2 * g), 1u << g);
     }
 }
 
@@ -104,14 +92,14 @@ static void set_up_receiver(void)
 {
     for (size_t i = 0; i < 8; i++)
         put(0, 0x1000 + 16 * i, 0x4000 + 0x800 * i);
-    vf(0, VFRDBAL, 0x1000);
-    vf(0, VFRDLEN, 128);
-    vf(0, VFSRRCTL, 0x02000002);
-    vf(0, VFRXDCTL, 0x02000000);
-    vf(0, VFRDT, 7);
-    vf(0, VTIVAR, 0x80);
-    vf(0, VTEIAC, 1);
-    vf(0, VTEIMS, 1);
+    vf(0, VFDEV_RDBAL(0), 0x1000);
+    vf(0, VFDEV_RDLEN(0), 128);
+    vf(0, VFDEV_SRRCTL(0), VFDEV_SRRCTL_DESCTYPE(1) | VFDEV_SRRCTL_BSIZEPACKET(2));
+    vf(0, VFDEV_RXDCTL(0), VFDEV_RXDCTL_ENABLE);
+    vf(0, VFDEV_RDT(0), 7);
+    vf(0, VFDEV_VTIVAR, VFDEV_VTIVAR_RX0(0x80)); /* vector 0, valid */
+    vf(0, VFDEV_VTEIAC, 1);
+    vf(0, VFDEV_VTEIMS, 1);
 }
 
 /* Guest 1: three frames to send: to the wire, to guest 0, and one with the source of guest 0. */
@@ -122,12 +110,13 @@ static void set_up_sender(void)
     frame(memory[1] + 0x6200, 0x77, 0, 0xdd);
     for (size_t i = 0; i < 3; i++) {
         put(1, 0x2000 + 16 * i, 0x6000 + 0x100 * i);
-        put(1, 0x2008 + 16 * i, 0x2930003c);
+        put(1, 0x2008 + 16 * i,
+            VFDEV_TXD_DEXT | VFDEV_TXD_DTYP(3) | VFDEV_TXD_RS | VFDEV_TXD_EOP | VFDEV_TXD_LENGTH(FRAME));
     }
-    vf(1, VFTDBAL, 0x2000);
-    vf(1, VFTDLEN, 128);
-    vf(1, VFTXDCTL, 0x02000000);
-    vf(1, VFTDT, 3);
+    vf(1, VFDEV_TDBAL(0), 0x2000);
+    vf(1, VFDEV_TDLEN(0), 128);
+    vf(1, VFDEV_TXDCTL(0), VFDEV_TXDCTL_ENABLE);
+    vf(1, VFDEV_TDT(0), 3);
 }
 
 /* Guest 0 looks at its descriptor and buffer. */
@@ -168,7 +157,7 @@ int main(void)
             printf("  to the wire: %zu bytes, filled with %02x\n", left, out[14]);
     }
     look(1);
-    show("frames that guest 0 received", vfdev_vf_read(&device, 0, VFGPRC));
+    show("frames that guest 0 received", vfdev_vf_read(&device, 0, VFDEV_VFGPRC));
     show("a register at offset 2", vfdev_vf_read(&device, 0, 2));
     show("guest 9", vfdev_vf_read(&device, 9, 8));
     show("5 bytes of the wire", vfdev_wire(&device, arriving, 5, messages, sizeof messages));

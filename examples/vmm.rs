@@ -2,41 +2,46 @@
 //! its interrupt, guest 1 sends one frame to the wire and one to guest 0, a register that cannot be is refused, and a frame
 //! with another's source is dropped. It prints what `examples/vmm.rs.stdout` has.
 
-use vfdev::{Device, Fault, Messages, Queue, Served, MOST_FRAME};
+use vfdev::{regs, Device, Fault, Messages, Queue, Served, MOST_FRAME};
 
 const MEMORY: u64 = 65536;
 
-// Registers, as docs/REGISTERS.md has them.
 const PF: [(u32, u32); 10] = [
-    (0x51e0, 3),           // PFVFRE: both guests receive
-    (0x8110, 3),           // PFVFTE: both send
-    (0x8220, 1),           // PFDTXGSWC: frames go from guest to guest
-    (0x8200, 2),           // PFVFSPOOF: the sources of guest 1 are checked
-    (0xa200, 2),           // RAL, RAH and MPSAR: the address of guest 0
-    (0xa204, 0x8000_0000), //
-    (0xa600, 1),           //
-    (0xa208, 2),           // and of guest 1
-    (0xa20c, 0x8000_0100), //
-    (0xa608, 2),           //
+    (regs::pfvfre(0), 3),                                // both guests receive
+    (regs::pfvfte(0), 3),                                // both send
+    (regs::PFDTXGSWC, regs::PFDTXGSWC_LBE),              // frames go from guest to guest
+    (regs::pfvfspoof(0), regs::pfvfspoof_macas(1 << 1)), // the sources of guest 1 are checked
+    (regs::ral(0), 2),                                   // the address of guest 0
+    (regs::rah(0), regs::RAH_AV),
+    (regs::mpsar(0), 1),
+    (regs::ral(1), 2), // and of guest 1
+    (regs::rah(1), regs::RAH_AV | 1 << 8),
+    (regs::mpsar(2), 1 << 1),
 ];
 // A receive ring of eight descriptors at 0x1000, and an interrupt for each frame that comes.
 const RECEIVE: [(u32, u32); 8] = [
-    (0x1000, 0x1000),
-    (0x1008, 128),
-    (0x1014, 0x0200_0002),
-    (0x1028, 0x0200_0000),
-    (0x1018, 7),
-    (0x120, 0x80),
-    (0x110, 1),
-    (0x108, 1),
+    (regs::rdbal(0), 0x1000),
+    (regs::rdlen(0), 128),
+    (
+        regs::srrctl(0),
+        regs::srrctl_desctype(1) | regs::srrctl_bsizepacket(2),
+    ),
+    (regs::rxdctl(0), regs::RXDCTL_ENABLE),
+    (regs::rdt(0), 7),
+    (regs::VTIVAR, regs::vtivar_rx0(0x80)), // vector 0, valid
+    (regs::VTEIAC, 1),
+    (regs::VTEIMS, 1),
 ];
 // A transmit ring of eight descriptors at 0x2000, of which three are handed over.
 const SEND: [(u32, u32); 4] = [
-    (0x2000, 0x2000),
-    (0x2008, 128),
-    (0x2028, 0x0200_0000),
-    (0x2018, 3),
+    (regs::tdbal(0), 0x2000),
+    (regs::tdlen(0), 128),
+    (regs::txdctl(0), regs::TXDCTL_ENABLE),
+    (regs::tdt(0), 3),
 ];
+// The second word of a transmit descriptor: 60 bytes, a whole frame, whose status is reported.
+const WHOLE: u64 =
+    regs::TXD_DEXT | regs::txd_dtyp(3) | regs::TXD_RS | regs::TXD_EOP | regs::txd_length(60);
 
 // A frame of 60 bytes between addresses 02:00:00:00:00:xx.
 fn frame(to: u8, from: u8, fill: u8) -> [u8; 60] {
@@ -82,7 +87,7 @@ fn set_up(device: &mut Device<'_>) -> Result<(), Fault> {
         let i = i as u64;
         device.mem_write(1, 0x6000 + 0x100 * i, bytes)?;
         device.mem_write(1, 0x2000 + 16 * i, &(0x6000 + 0x100 * i).to_le_bytes())?;
-        device.mem_write(1, 0x2008 + 16 * i, &0x2930_003cu64.to_le_bytes())?;
+        device.mem_write(1, 0x2008 + 16 * i, &WHOLE.to_le_bytes())?;
     }
     for (offset, word) in SEND {
         device.vf_write(1, offset, word)?;
@@ -131,7 +136,7 @@ fn main() -> Result<(), Fault> {
     look(&mut device, 1)?;
     println!(
         "frames that guest 0 received: value {:#010x}",
-        device.vf_read(0, 0x101c)?
+        device.vf_read(0, regs::VFGPRC)?
     );
     show_refusal("a register at offset 2", device.vf_read(0, 2));
     show_refusal("guest 9", device.vf_read(9, 8));

@@ -1,14 +1,14 @@
 /* vfdev: a model of the Intel 82599 in SR-IOV mode, to be linked into a hypervisor.
  *
- * The archive libvfdev_c.a is made of code that is proved to meet its contracts: after each call the device is what its
- * definition says, the reply, the messages and the bytes that are handed out are those of the definition, and to each
- * virtual function an event is as if that function were alone. docs/EMBEDDING.md says what this rests on.
+ * The archive is made of code that is proved to meet its contracts: after each call the device is what its definition says, the
+ * reply, the messages and the bytes that are handed out are those of the definition, and to each virtual function an event is as if
+ * that function were alone. docs/EMBEDDING.md says what this rests on. vfdev_regs.h has the registers by name.
  *
  * What C owes, and nothing checks:
  *   - A vfdev begins as VFDEV_NONE. Its fields are never read or written, and it is never copied while it leads to
  *     anything.
- *   - A pointer with a length leads to so many bytes of one live object, also where the length is 0; it is never NULL. A
- *     buffer that is written is touched by nothing else during the call, and overlaps no other argument.
+ *   - A pointer with a length leads to so many bytes of one live object, also where the length is 0. No pointer is NULL, but for
+ *     `left` of vfdev_serve. A buffer that is written is touched by nothing else during the call, and overlaps no other argument.
  *   - One call at a time for one vfdev. It may go from thread to thread; a lock or the like orders the calls.
  *   - No call from a signal handler, or in the child of a fork of a process with threads.
  *   - malloc, realloc and free are those of one allocator, which aligns a block to each power of two up to 16 that divides
@@ -16,6 +16,12 @@
  *
  * No call takes memory but vfdev_make, vfdev_make_recorded, vfdev_lend and vfdev_make_lent. No call blocks, prints or ends the
  * process.
+ *
+ * The ABI is that of C on x86-64 Linux, with enums of 32 bits (no -fshort-enums). A header and an archive fit where vfdev_version()
+ * answers VFDEV_VERSION, which a program asks before its first call. Within one version no number gets another meaning, no struct and no
+ * signature changes, and nothing is taken away; kinds, faults and functions may be added, so a program expects numbers that it does not
+ * know. Any other change makes a new version. vfdev_lend and vfdev_serve are inline here, over vfdev_lend_at and vfdev_serve_frame of
+ * the archive: programs in other languages call these.
  */
 #ifndef VFDEV_H
 #define VFDEV_H
@@ -23,6 +29,13 @@
 #include <stdbool.h>
 #include <stddef.h>
 #include <stdint.h>
+
+/* The answer of such a call has to be looked at: compilers that can warn where it is not. */
+#if defined(__GNUC__)
+#define VFDEV_LOOK __attribute__((warn_unused_result))
+#else
+#define VFDEV_LOOK
+#endif
 
 #ifdef __cplusplus
 extern "C" {
@@ -85,7 +98,8 @@ enum vfdev_fault {
     VFDEV_ALREADY_OPEN = 7, /* the virtual function is open already */
     VFDEV_NO_MEMORY = 9,    /* the host refused memory */
     VFDEV_BAD_MAKE = 10,    /* a size or a count is outside its limits */
-    VFDEV_HELD = 11         /* the vfdev leads to something already */
+    VFDEV_HELD = 11,        /* the vfdev leads to something already */
+    VFDEV_OVERLAPS = 13     /* the block overlaps one that was lent for the same device */
 };
 
 /* What a replay answers. */
@@ -98,9 +112,16 @@ enum vfdev_replayed {
 
 /* A reply. The value is 0 but for VFDEV_VALUE and VFDEV_REFUSED. */
 typedef struct vfdev_reply {
-    uint32_t kind;  /* enum vfdev_kind */
+    enum vfdev_kind kind;
     uint32_t value; /* of VFDEV_VALUE the register, of VFDEV_REFUSED an enum vfdev_fault */
 } vfdev_reply;
+
+/* The archive answers numbers of 32 bits. */
+#ifdef __cplusplus
+static_assert(sizeof(enum vfdev_kind) == 4 && sizeof(enum vfdev_fault) == 4 && sizeof(enum vfdev_replayed) == 4, "enums have 32 bits");
+#else
+_Static_assert(sizeof(enum vfdev_kind) == 4 && sizeof(enum vfdev_fault) == 4 && sizeof(enum vfdev_replayed) == 4, "enums have 32 bits");
+#endif
 
 /* The version of the archive. */
 uint32_t vfdev_version(void);
@@ -111,29 +132,36 @@ uint32_t vfdev_version(void);
  * 1 to 64, memory is 4096 to 16777216 and a multiple of 128, frames have up to `limit` bytes, 1518 to 9018.
  * VFDEV_HELD where the vfdev leads to anything, then VFDEV_BAD_MAKE exactly where a number is outside its limits, and
  * VFDEV_NO_MEMORY only where the host refused. The vfdev leads to what it led to wherever the answer is not VFDEV_OK. */
-uint32_t vfdev_make(vfdev *device, uint32_t functions, uint64_t memory, uint16_t limit);
+VFDEV_LOOK enum vfdev_fault vfdev_make(vfdev *device, uint32_t functions, uint64_t memory, uint16_t limit);
 
 /* Makes a device as vfdev_make does, whose calls are kept from the first on, `calls` at most, 1 to VFDEV_MOST_CALLS. The makers'
  * answers are those of vfdev_make; VFDEV_BAD_MAKE also for that number.
  *
  * Room for all calls is taken at once: 9074 bytes for each, of which a call touches 32, the bytes that it brings or reads, and
  * 8 for each vector of its messages. */
-uint32_t vfdev_make_recorded(vfdev *device, uint32_t functions, uint64_t memory, uint16_t limit, uint32_t calls);
+VFDEV_LOOK enum vfdev_fault vfdev_make_recorded(vfdev *device, uint32_t functions, uint64_t memory, uint16_t limit, uint32_t calls);
+
+/* Lends a block, whose first byte is at the address, as the memory of the next virtual function: vfdev_lend, by number. */
+VFDEV_LOOK enum vfdev_fault vfdev_lend_at(vfdev *device, vfdev_block block, uint64_t address);
 
 /* Lends a block as the memory of the next virtual function of a device that is to be made; its first byte is at address 0 of
  * that memory. Blocks have the sizes of memories, and there are at most 64. VFDEV_HELD where there is a device, then
- * VFDEV_BAD_MAKE exactly where the length is no memory's or 64 were lent, and VFDEV_NO_MEMORY only where the host refused.
- * Wherever the answer is not VFDEV_OK the block is not used.
+ * VFDEV_BAD_MAKE exactly where the length is no memory's or 64 were lent, then VFDEV_OVERLAPS exactly where the block has a byte in
+ * common with one that was lent for this device, and VFDEV_NO_MEMORY only where the host refused. Wherever the answer is not VFDEV_OK
+ * the block is not used. Blocks of two devices are not compared, nor addresses that lead to the same memory.
  *
  * The block stays the device's until vfdev_free. During a call nothing else reads or writes it: no other thread, and no
  * processor of a guest. Between calls its owner may change it, as the guest's driver does: each call is proved of the bytes
  * that stand there when it begins. vfdev_open writes zeros over all of it. */
-uint32_t vfdev_lend(vfdev *device, vfdev_block block);
+VFDEV_LOOK static inline enum vfdev_fault vfdev_lend(vfdev *device, vfdev_block block)
+{
+    return vfdev_lend_at(device, block, (uint64_t)(uintptr_t)block.at);
+}
 
 /* Makes a device of closed virtual functions over the blocks that were lent, in their order. VFDEV_HELD where there is a
  * device already; VFDEV_BAD_MAKE exactly where none was lent or the limit is not 1518 to 9018; VFDEV_NO_MEMORY only where the
  * host refused. After VFDEV_NO_MEMORY the vfdev leads to nothing, and the blocks are no longer lent. */
-uint32_t vfdev_make_lent(vfdev *device, uint16_t limit);
+VFDEV_LOOK enum vfdev_fault vfdev_make_lent(vfdev *device, uint16_t limit);
 
 /* Frees what the vfdev leads to. It leads to nothing then, and a second call does nothing. Blocks that were lent are the
  * caller's again. */
@@ -152,16 +180,16 @@ void vfdev_free(vfdev *device);
  * the device refuses. */
 
 /* Opens a function: its registers become initial, and its memory zero. VFDEV_NO_SUCH_VF, VFDEV_ALREADY_OPEN. */
-vfdev_reply vfdev_open(vfdev *device, uint8_t function);
+VFDEV_LOOK vfdev_reply vfdev_open(vfdev *device, uint8_t function);
 
 /* Closes a function. VFDEV_NO_SUCH_VF, VFDEV_NOT_OPEN. */
-vfdev_reply vfdev_end(vfdev *device, uint8_t function);
+VFDEV_LOOK vfdev_reply vfdev_end(vfdev *device, uint8_t function);
 
 /* Function-level reset: the registers become initial, and the memory stays. VFDEV_NO_SUCH_VF, VFDEV_NOT_OPEN. */
-vfdev_reply vfdev_flr(vfdev *device, uint8_t function);
+VFDEV_LOOK vfdev_reply vfdev_flr(vfdev *device, uint8_t function);
 
 /* Reads a register of a function; offsets are in bytes, below 0x4000. VFDEV_NO_SUCH_VF, VFDEV_NOT_OPEN, VFDEV_BAD_OFFSET. */
-vfdev_reply vfdev_vf_read(vfdev *device, uint8_t function, uint32_t offset);
+VFDEV_LOOK vfdev_reply vfdev_vf_read(vfdev *device, uint8_t function, uint32_t offset);
 
 /* Writes a register of a function. Refused as vfdev_vf_read is. A write to a tail of a transmit queue serves nothing: the
  * caller calls vfdev_serve when it sees fit. */
@@ -170,27 +198,36 @@ vfdev_reply vfdev_vf_write(vfdev *device, uint8_t function, uint32_t offset, uin
 
 /* Reads `len` bytes of a function's memory from the address `at` on into `out`; where it is refused, `out` stays.
  * VFDEV_NO_SUCH_VF, VFDEV_NOT_OPEN, VFDEV_TOO_LONG, VFDEV_BAD_RANGE. */
-vfdev_reply vfdev_mem_read(vfdev *device, uint8_t function, uint64_t at, uint8_t *out, size_t len);
+VFDEV_LOOK vfdev_reply vfdev_mem_read(vfdev *device, uint8_t function, uint64_t at, uint8_t *out, size_t len);
 
 /* Writes `len` bytes of a function's memory from the address `at` on. VFDEV_TOO_LONG before the device is asked,
  * VFDEV_NO_SUCH_VF, VFDEV_NOT_OPEN, VFDEV_BAD_RANGE. */
-vfdev_reply vfdev_mem_write(vfdev *device, uint8_t function, uint64_t at, const uint8_t *bytes, size_t len);
+VFDEV_LOOK vfdev_reply vfdev_mem_write(vfdev *device, uint8_t function, uint64_t at, const uint8_t *bytes, size_t len);
+
+/* vfdev_serve, where `left` is not NULL. */
+VFDEV_LOOK vfdev_reply vfdev_serve_frame(vfdev *device, uint8_t function, uint8_t queue, uint8_t *out, size_t out_len, size_t *left,
+                                         uint8_t *messages, size_t messages_len);
 
 /* Takes the next descriptor of transmit queue 0 or 1 of a function. A frame that leaves for the wire stands in the first
- * *left bytes of `out`; *left is 0 where none leaves, and then `out` stays. `out_len` is at least VFDEV_MOST_FRAME.
+ * *left bytes of `out`; *left is 0 where none leaves, and then `out` stays. `left` may be NULL where no frame is wanted, as of a device
+ * without a wire; `out` is there all the same. `out_len` is at least VFDEV_MOST_FRAME.
  * VFDEV_NO_SUCH_VF, VFDEV_NOT_OPEN; else VFDEV_IDLE, VFDEV_MORE, VFDEV_SENT, VFDEV_DROPPED or VFDEV_FAULTED. */
-vfdev_reply vfdev_serve(vfdev *device, uint8_t function, uint8_t queue, uint8_t *out, size_t out_len, size_t *left,
-                        uint8_t *messages, size_t messages_len);
+VFDEV_LOOK static inline vfdev_reply vfdev_serve(vfdev *device, uint8_t function, uint8_t queue, uint8_t *out, size_t out_len,
+                                                 size_t *left, uint8_t *messages, size_t messages_len)
+{
+    size_t unwanted;
+    return vfdev_serve_frame(device, function, queue, out, out_len, left ? left : &unwanted, messages, messages_len);
+}
 
 /* Reads a register of the physical function; offsets are in bytes, below 0x20000. VFDEV_BAD_OFFSET. */
-vfdev_reply vfdev_pf_read(vfdev *device, uint32_t offset);
+VFDEV_LOOK vfdev_reply vfdev_pf_read(vfdev *device, uint32_t offset);
 
 /* Writes a register of the physical function. VFDEV_BAD_OFFSET. */
-vfdev_reply vfdev_pf_write(vfdev *device, uint32_t offset, uint32_t value);
+VFDEV_LOOK vfdev_reply vfdev_pf_write(vfdev *device, uint32_t offset, uint32_t value);
 
 /* Resets the device: every function is closed and every setting initial. VFDEV_DONE where there is a device, but for
  * VFDEV_HISTORY_FULL. */
-vfdev_reply vfdev_pf_reset(vfdev *device);
+VFDEV_LOOK vfdev_reply vfdev_pf_reset(vfdev *device);
 
 /* A frame comes from the wire: 14 to 9018 bytes without FCS, at least 18 where it has a VLAN tag. VFDEV_BAD_FRAME where it is
  * none, before the device is asked, and where it is longer than the device takes. */
@@ -211,9 +248,44 @@ size_t vfdev_kept(vfdev *device);
  *
  * VFDEV_SAME is certain of an `other` that vfdev_make or vfdev_make_lent just made, with as many functions, memories of the
  * same sizes and the same limit; it is then as `device` is. Takes no memory, and some 40 KB of stack. */
-uint32_t vfdev_replay(vfdev *device, vfdev *other);
+VFDEV_LOOK enum vfdev_replayed vfdev_replay(vfdev *device, vfdev *other);
 
-/* What a fault means, as a sentence. */
+/* ---- texts ------------------------------------------------------------------------------------------------------- */
+
+/* What a kind of reply is, in a few words. */
+static inline const char *vfdev_kind_text(enum vfdev_kind kind)
+{
+    switch (kind) {
+    case VFDEV_DONE: return "done";
+    case VFDEV_VALUE: return "value";
+    case VFDEV_BYTES: return "bytes";
+    case VFDEV_IDLE: return "idle";
+    case VFDEV_MORE: return "more";
+    case VFDEV_SENT: return "sent";
+    case VFDEV_DROPPED: return "dropped";
+    case VFDEV_FAULTED: return "faulted";
+    case VFDEV_REFUSED: return "refused";
+    case VFDEV_NO_DEVICE: return "no device";
+    case VFDEV_NO_ROOM: return "no room";
+    case VFDEV_NO_QUEUE: return "no queue";
+    case VFDEV_HISTORY_FULL: return "no more calls can be kept";
+    default: return "no kind of this version";
+    }
+}
+
+/* What a replay answered, in a few words. */
+static inline const char *vfdev_replayed_text(enum vfdev_replayed answer)
+{
+    switch (answer) {
+    case VFDEV_SAME: return "the same";
+    case VFDEV_DIFFERENT: return "different";
+    case VFDEV_NOT_RECORDED: return "not recorded";
+    case VFDEV_NO_OTHER: return "no other device";
+    default: return "no answer of this version";
+    }
+}
+
+/* What a fault means, as a sentence: of a maker's answer, or of the value of a reply that is VFDEV_REFUSED. */
 static inline const char *vfdev_fault_text(uint32_t fault)
 {
     switch (fault) {
@@ -228,6 +300,7 @@ static inline const char *vfdev_fault_text(uint32_t fault)
     case VFDEV_NO_MEMORY: return "no memory";
     case VFDEV_BAD_MAKE: return "a size or a count is outside its limits";
     case VFDEV_HELD: return "the handle leads to something already";
+    case VFDEV_OVERLAPS: return "the block overlaps one that was lent";
     default: return "no fault of this version";
     }
 }

@@ -190,6 +190,9 @@ static void lends_blocks(void)
     memset(block, 9, sizeof block);
     EQUAL(vfdev_lend(&device, (vfdev_block){block, 4095}), VFDEV_BAD_MAKE);
     EQUAL(vfdev_lend(&device, (vfdev_block){block, sizeof block}), VFDEV_OK);
+    /* the order of refusals: a size that is no memory's, a block that overlaps */
+    EQUAL(vfdev_lend(&device, (vfdev_block){block, 4095}), VFDEV_BAD_MAKE);
+    EQUAL(vfdev_lend(&device, (vfdev_block){block, sizeof block}), VFDEV_OVERLAPS);
     EQUAL(vfdev_make_lent(&device, 1518), VFDEV_OK);
     EQUAL(vfdev_lend(&device, (vfdev_block){block, sizeof block}), VFDEV_HELD);
     REPLY(vfdev_open(&device, 0), VFDEV_DONE, 0);
@@ -201,6 +204,69 @@ static void lends_blocks(void)
     REPLY(vfdev_mem_read(&device, 0, 4094, bytes, 2), VFDEV_BYTES, 0);
     EQUAL(bytes[1], 10);
     vfdev_free(&device);
+}
+
+/* Blocks of 4096 bytes at 4096 and at 12288: what has a byte in common with one is refused, and what only touches it is lent. */
+static void refuses_blocks_that_overlap(void)
+{
+    static uint8_t bytes[6 * 4096];
+    static const struct {
+        size_t at;
+        size_t len;
+        enum vfdev_fault due;
+    } next[] = {{4096, 4096, VFDEV_OVERLAPS}, {0, 4224, VFDEV_OVERLAPS}, {8064, 4096, VFDEV_OVERLAPS}, {0, 24576, VFDEV_OVERLAPS},
+                {8192, 4224, VFDEV_OVERLAPS}, {16256, 4096, VFDEV_OVERLAPS}, {0, 4096, VFDEV_OK}, {8192, 4096, VFDEV_OK},
+                {16384, 8192, VFDEV_OK}, {20480, 4096, VFDEV_OVERLAPS}};
+    vfdev device = VFDEV_NONE, second = VFDEV_NONE;
+    EQUAL(vfdev_lend(&device, (vfdev_block){bytes + 4096, 4096}), VFDEV_OK);
+    EQUAL(vfdev_lend(&device, (vfdev_block){bytes + 12288, 4096}), VFDEV_OK);
+    for (size_t at = 0; at < sizeof next / sizeof *next; at++) {
+        EQUAL(vfdev_lend(&device, (vfdev_block){bytes + next[at].at, next[at].len}), next[at].due);
+    }
+    /* five were lent, and function 1 has the block at 12288 */
+    EQUAL(vfdev_make_lent(&device, 1518), VFDEV_OK);
+    bytes[12288] = 1;
+    bytes[8192] = 1;
+    REPLY(vfdev_open(&device, 1), VFDEV_DONE, 0);
+    EQUAL(bytes[12288], 0);
+    EQUAL(bytes[8192], 1);
+    REPLY(vfdev_open(&device, 5), VFDEV_REFUSED, VFDEV_NO_SUCH_VF);
+    vfdev_free(&device);
+    /* a block is free again */
+    EQUAL(vfdev_lend(&second, (vfdev_block){bytes, 4096}), VFDEV_OK);
+    vfdev_free(&second);
+    EQUAL(vfdev_lend(&second, (vfdev_block){bytes, 4096}), VFDEV_OK);
+    vfdev_free(&second);
+}
+
+/* Two services of frames whose length nobody wants: one leaves, and one stays. */
+static void serves_where_no_frame_is_wanted(void)
+{
+    vfdev device = VFDEV_NONE;
+    EQUAL(vfdev_make(&device, 2, 65536, 1518), VFDEV_OK);
+    set_up(&device);
+    REPLY(vfdev_serve(&device, 1, 0, out, sizeof out, NULL, messages, 64), VFDEV_SENT, 0);
+    EQUAL(messages[0], 0);
+    REPLY(vfdev_serve(&device, 1, 0, out, sizeof out, NULL, messages, 64), VFDEV_SENT, 0);
+    EQUAL(messages[0], 1);
+    REPLY(vfdev_serve(&device, 1, 0, out, sizeof out, NULL, messages, 64), VFDEV_IDLE, 0);
+    REPLY(vfdev_serve(&device, 1, 2, out, sizeof out, NULL, messages, 64), VFDEV_NO_QUEUE, 0);
+    vfdev_free(&device);
+}
+
+/* Each number of an enum has a text of its own, and the next one has none. */
+static void numbers_have_texts(void)
+{
+    for (unsigned number = 0; number <= VFDEV_HISTORY_FULL; number++) {
+        EQUAL(strncmp(vfdev_kind_text((enum vfdev_kind)number), "no kind", 7) != 0, 1);
+    }
+    EQUAL(strncmp(vfdev_kind_text((enum vfdev_kind)13), "no kind", 7), 0);
+    for (unsigned number = 0; number <= VFDEV_OVERLAPS; number++) {
+        EQUAL(strncmp(vfdev_fault_text(number), "no fault", 8) == 0, number == 8 || number == 12);
+    }
+    for (unsigned number = 0; number <= VFDEV_NO_OTHER; number++) {
+        EQUAL(strncmp(vfdev_replayed_text((enum vfdev_replayed)number), "no answer", 9) != 0, 1);
+    }
 }
 
 /* A frame from the wire, a read of its bytes, and two services: 4 calls. */
@@ -329,6 +395,9 @@ int main(void)
     refuses_arguments_by_name();
     frames_come_and_leave_with_their_messages();
     lends_blocks();
+    refuses_blocks_that_overlap();
+    serves_where_no_frame_is_wanted();
+    numbers_have_texts();
     kept_calls_replay();
     finds_planted_differences();
     asks_no_device_of_a_full_history();

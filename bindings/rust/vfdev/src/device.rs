@@ -9,11 +9,11 @@ use crate::raw;
 /// [`Device::recorded`] keeps its calls, and refuses each event as [`Fault::HistoryFull`] once no more can be kept.
 ///
 /// ```
-/// use vfdev::{Device, Fault};
+/// use vfdev::{regs, Device, Fault};
 /// let mut device = Device::new(2, 65536, 1518)?;
 /// device.open(0)?;
-/// assert_eq!(device.vf_read(0, 0x10)?, 0x7000_0000);
-/// assert_eq!(device.vf_read(1, 0x10), Err(Fault::NotOpen));
+/// assert_eq!(device.vf_read(0, regs::VFLINKS)?, 0x7000_0000);
+/// assert_eq!(device.vf_read(1, regs::VFLINKS), Err(Fault::NotOpen));
 /// # Ok::<(), Fault>(())
 /// ```
 #[derive(Debug)]
@@ -84,7 +84,13 @@ impl Device<'static> {
 
 impl<'m> Device<'m> {
     /// A device of closed functions, each over one of the blocks. Nobody else reaches the blocks while the device is there;
-    /// [`open`](Device::open) writes zeros over all of one.
+    /// [`open`](Device::open) writes zeros over all of one. That each is a `&mut` keeps two functions from sharing memory: no block
+    /// can be given twice, nor overlap another.
+    ///
+    /// ```compile_fail,E0499
+    /// let mut memory = vec![0u8; 4096];
+    /// let device = vfdev::Device::over(vec![&mut memory[..], &mut memory[..]], 1518);
+    /// ```
     ///
     /// # Errors
     /// [`Fault::BadMake`] and [`Fault::NoMemory`] as [`Device::new`] has them.
@@ -106,8 +112,9 @@ impl<'m> Device<'m> {
                 at: cells.as_mut_ptr(),
                 len: cells.len(),
             };
+            let address = block.at as u64;
             // SAFETY: the block leads to bytes that are borrowed for 'm, which outlives the device, and to nobody else.
-            made(unsafe { raw::vfdev_lend(&mut device.handle, block) })?;
+            made(unsafe { raw::vfdev_lend_at(&mut device.handle, block, address) })?;
         }
         // SAFETY: the reference leads to one live value, which only this function holds.
         made(unsafe { raw::vfdev_make_lent(&mut device.handle, limit) })?;
@@ -216,7 +223,7 @@ impl<'m> Device<'m> {
         // device's alone.
         let reply = unsafe {
             let handle = &mut self.handle;
-            raw::vfdev_serve(
+            raw::vfdev_serve_frame(
                 handle, function, queue, start, MOST_FRAME, &mut left, at, len,
             )
         };

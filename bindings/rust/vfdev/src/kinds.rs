@@ -65,6 +65,9 @@ pub enum Fault {
     NoMemory,
     /// A size or a count is outside its limits.
     BadMake,
+    /// A block overlaps one that was lent for the same device. Blocks that are borrowed, as [`Device::over`](crate::Device::over) takes
+    /// them, never do.
+    Overlaps,
     /// No more calls of this device can be kept.
     HistoryFull,
     /// The archive has another version than this crate.
@@ -85,6 +88,7 @@ impl Fault {
             7 => Fault::AlreadyOpen,
             9 => Fault::NoMemory,
             10 => Fault::BadMake,
+            13 => Fault::Overlaps,
             other => Fault::Other(other),
         }
     }
@@ -104,6 +108,7 @@ impl Fault {
             Fault::NoMemory => 9,
             Fault::BadMake => 10,
             Fault::HistoryFull => 12,
+            Fault::Overlaps => 13,
             Fault::Version => 0,
             Fault::Other(number) => number,
         }
@@ -122,6 +127,7 @@ impl fmt::Display for Fault {
             Fault::AlreadyOpen => "the virtual function is open already",
             Fault::NoMemory => "no memory",
             Fault::BadMake => "a size or a count is outside its limits",
+            Fault::Overlaps => "the block overlaps one that was lent",
             Fault::HistoryFull => "no more calls can be kept",
             Fault::Version => "the archive has another version than this crate",
             Fault::Other(number) => return write!(f, "fault {number}"),

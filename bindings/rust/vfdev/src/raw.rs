@@ -1,4 +1,4 @@
-//! The functions of the archive, as `include/vfdev.h` has them. Nothing compares these declarations with the archive's.
+//! The functions of the archive, as `include/vfdev.h` declares them. Nothing compares these declarations with the archive's.
 
 /// What C holds of a device.
 #[repr(C)]
@@ -41,7 +41,7 @@ extern "C" {
         limit: u16,
         calls: u32,
     ) -> u32;
-    pub fn vfdev_lend(d: &mut Vfdev, block: Block) -> u32;
+    pub fn vfdev_lend_at(d: &mut Vfdev, block: Block, address: u64) -> u32;
     pub fn vfdev_make_lent(d: &mut Vfdev, limit: u16) -> u32;
     pub fn vfdev_free(d: &mut Vfdev);
     pub fn vfdev_open(d: &mut Vfdev, function: u8) -> Reply;
@@ -64,7 +64,7 @@ extern "C" {
         bytes: *const u8,
         len: usize,
     ) -> Reply;
-    pub fn vfdev_serve(
+    pub fn vfdev_serve_frame(
         d: &mut Vfdev,
         function: u8,
         queue: u8,

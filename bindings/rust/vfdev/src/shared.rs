@@ -3,6 +3,7 @@
 use crate::device::Device;
 use crate::kinds::{Fault, Messages, Pool, Queue, Served, MOST_FRAME};
 use crate::quiet::Quiet;
+use crate::regs;
 use std::sync::{Arc, Mutex, MutexGuard, PoisonError};
 
 /// Where interrupt messages go: the write of an event descriptor, or an injection into a guest.
@@ -40,7 +41,7 @@ struct Inner<'m, I, F> {
 /// archive's own, or borrowed for `'m`.
 ///
 /// ```
-/// use vfdev::{Device, Fault, Frames, Interrupt, Pool, SharedDevice};
+/// use vfdev::{regs, Device, Fault, Frames, Interrupt, Pool, SharedDevice};
 ///
 /// struct Nowhere;
 /// impl Interrupt for Nowhere {
@@ -55,7 +56,7 @@ struct Inner<'m, I, F> {
 /// shared.with(|mut device| device.open(0))?;
 /// let mut bar = shared.bar(0);
 /// let mut word = [0; 4];
-/// bar.read(0xfe00_0000, 0x10, &mut word);
+/// bar.read(0xfe00_0000, u64::from(regs::VFLINKS), &mut word);
 /// assert_eq!(u32::from_le_bytes(word), 0x7000_0000);
 /// # Ok::<(), Fault>(())
 /// ```
@@ -100,14 +101,14 @@ impl<'m, I: Interrupt, F: Frames> SharedDevice<'m, I, F> {
     /// [`receive`](SharedDevice::receive) and [`pump`](SharedDevice::pump) tell their messages.
     ///
     /// ```compile_fail,E0599
-    /// # use vfdev::{Device, Frames, Interrupt, SharedDevice};
+    /// # use vfdev::{Frames, Interrupt, SharedDevice};
     /// fn lost<I: Interrupt, F: Frames>(shared: &SharedDevice<'_, I, F>) {
-    ///     let _messages = shared.with(|mut device| device.vf_write(0, 0x104, 1));
+    ///     let _messages = shared.with(|mut device| device.vf_write(0, vfdev::regs::VTEICS, 1));
     /// }
     /// ```
     ///
     /// ```compile_fail,E0599
-    /// # use vfdev::{Device, Frames, Interrupt, SharedDevice};
+    /// # use vfdev::{Frames, Interrupt, SharedDevice};
     /// fn lost<I: Interrupt, F: Frames>(shared: &SharedDevice<'_, I, F>) {
     ///     let _messages = shared.with(|mut device| device.wire(&[0; 60]));
     /// }
@@ -192,7 +193,7 @@ pub struct MmioBar<'m, I, F> {
 }
 
 /// Tails of the two transmit queues: a write hands descriptors over.
-const TAILS: [(u64, Queue); 2] = [(0x2018, Queue::Q0), (0x2058, Queue::Q1)];
+const TAILS: [(u32, Queue); 2] = [(regs::tdt(0), Queue::Q0), (regs::tdt(1), Queue::Q1)];
 /// How many descriptors a ring may have: a write of a tail serves no more.
 const MOST_DESCRIPTORS: u32 = 4096;
 
@@ -224,7 +225,7 @@ impl<I: Interrupt, F: Frames> MmioBar<'_, I, F> {
             return;
         }
         for (tail, queue) in TAILS {
-            if offset == tail {
+            if place == tail {
                 let _taken = self.device.pump(self.function, queue, MOST_DESCRIPTORS);
             }
         }

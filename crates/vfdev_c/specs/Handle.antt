@@ -17,14 +17,14 @@ use Rattle.device.specs.Outcome.{left_by}
 use Rattle.device.specs.Lone.{keep, lone_of, lone_seen, lone_after, seen_by}
 use Rattle.history.specs.Entries.{Entry, is_cap, events, given}
 use Rattle.vfdev_c.specs.declared.reply.VfdevReply.{VfdevReply}
-use Rattle.vfdev_c.specs.declared.stage.Stage.{Stage}
-use Rattle.vfdev_c.specs.declared.stage.Stage.TheVariants.{Lending, Made, Kept}
+use Rattle.vfdev_c.specs.declared.handle_state.HandleState.{HandleState}
+use Rattle.vfdev_c.specs.declared.handle_state.HandleState.TheVariants.{Lending, Made, Kept}
 use Rattle.vfdev_c.specs.Recorded.{is_full, taking, made_like}
 use Rattle.vfdev_c.specs.Spans.{Lent, none_lent, span, overlaps_one}
 
 -- what a handle leads to: nothing, memories that were lent for a device, a device, or a device whose calls are kept
 abbrev pub Held : Type 0
-Held = Option Stage
+Held = Option HandleState
 
 -- ---- replies, as C sees them
 

@@ -11,19 +11,19 @@ use Rattle.std.specs.Coded.{coded_option}
 use Rattle.std.specs.Box.Ownership.{box_owns}
 use Rattle.std.specs.Global.{Global}
 use Rattle.std_heap.specs.contracts.GlobalAllocator.TheImpl.{ghosts}
-use Rattle.vfdev_c.specs.contracts.stage.Stage as stage
+use Rattle.vfdev_c.specs.contracts.handle_state.HandleState as state
 
 -- what a handle leads to, as a type
-abbrev pub stage_row : RattleType
-stage_row = stage.the_row
+abbrev pub state_row : RattleType
+state_row = state.the_row
 
 -- the block of it that is at the pointer, with the right to free it, or nothing
-abbrev pub stage_owns : Ptr → Option stage_row.Denot → Fml
-stage_owns at (Some held) = fex Global (λ heap. box_owns (ghosts.dealloc_token heap) stage_row at held)
-stage_owns at None = ftrue
+abbrev pub state_owns : Ptr → Option state_row.Denot → Fml
+state_owns at (Some held) = fex Global (λ heap. box_owns (ghosts.dealloc_token heap) state_row at held)
+state_owns at None = ftrue
 
-abbrev pub stage_coded : Coded (Option stage_row.Denot)
-stage_coded = coded_option stage_row.coded
+abbrev pub state_coded : Coded (Option state_row.Denot)
+state_coded = coded_option state_row.coded
 
 -- what a block owns: all of its bytes
 abbrev pub block_owns : Ptr → ℕ → List ℕ → Fml

@@ -4,8 +4,8 @@ ghost use Rattle.device.specs.declared.event.Event.{Event};
 ghost use Rattle.vfdev_c.specs.Handle.{after, reply_to, raised_by, messages_in, bytes_in, where_room, wire_asked, write_asked, Isolated};
 
 use crate::handle::Vfdev;
+use crate::handle_state::MOST_FRAME;
 use crate::reply::VfdevReply;
-use crate::stage::MOST_FRAME;
 use device::{MemSlice, Request};
 use irq_causes::Messages;
 use std::alloc::Global;

@@ -6,10 +6,10 @@ ghost use Rattle.device.specs.Request.{event_of};
 ghost use Rattle.vfdev_c.specs.Handle.{after, reply_to, raised_by, left_of, frame_in, length_in, bytes_in, Isolated};
 ghost use Rattle.vfdev_c.specs.Recorded.{kept_as};
 
-use crate::loose::Loose;
+use crate::handle_state::HandleState;
 use crate::owner::Owner;
+use crate::raw_box::RawBox;
 use crate::reply::VfdevReply;
-use crate::stage::Stage;
 use device::{Queue, Request};
 use irq_causes::Messages;
 use std::alloc::Global;
@@ -41,14 +41,14 @@ impl Vfdev {
 
     // Takes out what it leads to.
     #[inline]
-    pub(crate) fn take(&mut self, alloc: Global) -> Option<Box<Stage>>
+    pub(crate) fn take(&mut self, alloc: Global) -> Option<Box<HandleState>>
         ensures value { MatchOption result (self.old.owner.held ≡ None)
             (λ b. self.old.owner.held ≡ Some b.value) }
         ensures left { self.new.owner.held ≡ None }
     {
         let Vfdev { live, owner } = replace(self, Vfdev::none());
         if live {
-            Some(owner.into_loose(alloc).into_box())
+            Some(owner.into_raw_box(alloc).into_box())
         } else {
             None
         }
@@ -56,12 +56,12 @@ impl Vfdev {
 
     // Lets it lead to what is in a box.
     #[inline]
-    pub(crate) fn put(&mut self, stage: Box<Stage>)
-        ensures { self.new.owner.held ≡ Some stage.value }
+    pub(crate) fn put(&mut self, state: Box<HandleState>)
+        ensures { self.new.owner.held ≡ Some state.value }
     {
         *self = Vfdev {
             live: true,
-            owner: Owner::of(Loose::of(stage)),
+            owner: Owner::of(RawBox::of(state)),
         };
     }
 
@@ -76,19 +76,19 @@ impl Vfdev {
         ensures isolated { Isolated self.old.owner.held
             (Ok (event_of request.entry)) self.new.owner.held }
     {
-        let Some(mut stage) = self.take(alloc) else {
+        let Some(mut state) = self.take(alloc) else {
             return (VfdevReply::no_device(), Messages::none());
         };
-        let given = match &mut *stage {
-            Stage::Made(running) => running.take(request),
-            Stage::Kept(recorder) => {
+        let given = match &mut *state {
+            HandleState::Made(running) => running.take(request),
+            HandleState::Kept(recorder) => {
                 // apart from the other arms, whose answers so stay in registers
                 let (reply, raised) = recorder.take(request);
                 (reply, raised)
             }
-            Stage::Lending(_) => (VfdevReply::no_device(), Messages::none()),
+            HandleState::Lending(_) => (VfdevReply::no_device(), Messages::none()),
         };
-        self.put(stage);
+        self.put(state);
         given
     }
 
@@ -102,18 +102,18 @@ impl Vfdev {
         ensures isolated { Isolated self.old.owner.held
             (Ok (Event.Wire bytes.now)) self.new.owner.held }
     {
-        let Some(mut stage) = self.take(alloc) else {
+        let Some(mut state) = self.take(alloc) else {
             return (VfdevReply::no_device(), Messages::none());
         };
-        let given = match &mut *stage {
-            Stage::Made(running) => running.wire(bytes),
-            Stage::Kept(recorder) => {
+        let given = match &mut *state {
+            HandleState::Made(running) => running.wire(bytes),
+            HandleState::Kept(recorder) => {
                 let (reply, raised) = recorder.wire(bytes);
                 (reply, raised)
             }
-            Stage::Lending(_) => (VfdevReply::no_device(), Messages::none()),
+            HandleState::Lending(_) => (VfdevReply::no_device(), Messages::none()),
         };
-        self.put(stage);
+        self.put(state);
         given
     }
 
@@ -135,15 +135,15 @@ impl Vfdev {
         ensures isolated { Isolated self.old.owner.held
             (Ok (Event.MemRead function at (length out.old))) self.new.owner.held }
     {
-        let Some(mut stage) = self.take(alloc) else {
+        let Some(mut state) = self.take(alloc) else {
             return VfdevReply::no_device();
         };
-        let reply = match &mut *stage {
-            Stage::Made(running) => running.mem_read(function, at, out),
-            Stage::Kept(recorder) => recorder.mem_read(function, at, out),
-            Stage::Lending(_) => VfdevReply::no_device(),
+        let reply = match &mut *state {
+            HandleState::Made(running) => running.mem_read(function, at, out),
+            HandleState::Kept(recorder) => recorder.mem_read(function, at, out),
+            HandleState::Lending(_) => VfdevReply::no_device(),
         };
-        self.put(stage);
+        self.put(state);
         reply
     }
 
@@ -171,18 +171,18 @@ impl Vfdev {
             (Ok (Event.Serve function queue)) self.new.owner.held }
     {
         *left = 0;
-        let Some(mut stage) = self.take(alloc) else {
+        let Some(mut state) = self.take(alloc) else {
             return (VfdevReply::no_device(), Messages::none());
         };
-        let given = match &mut *stage {
-            Stage::Made(running) => running.serve(function, queue, out, left),
-            Stage::Kept(recorder) => {
+        let given = match &mut *state {
+            HandleState::Made(running) => running.serve(function, queue, out, left),
+            HandleState::Kept(recorder) => {
                 let (reply, raised) = recorder.serve(function, queue, out, left);
                 (reply, raised)
             }
-            Stage::Lending(_) => (VfdevReply::no_device(), Messages::none()),
+            HandleState::Lending(_) => (VfdevReply::no_device(), Messages::none()),
         };
-        self.put(stage);
+        self.put(state);
         given
     }
 }

@@ -7,10 +7,10 @@ ghost use Rattle.vfdev_c.specs.Spans.{none_lent, one_more};
 
 use crate::block::Block;
 use crate::handle::Vfdev;
+use crate::handle_state::{HandleState, Running};
 use crate::lending::{LentBlocks, MOST_BLOCKS, Span};
 use crate::making::{HELD, MADE};
 use crate::memory::HostMem;
-use crate::stage::{Running, Stage};
 use device::Device;
 use guest_memory::is_memory_size;
 use std::alloc::Global;
@@ -31,7 +31,7 @@ pub extern "C" fn vfdev_lend_at(
 ) -> u32
     ensures lent { handle.new.owner.held
         ≡ (if nat_eq result 0
-        then Some (Stage.Lending (one_more (lent_in handle.old.owner.held) address block.bytes))
+        then Some (HandleState.Lending (one_more (lent_in handle.old.owner.held) address block.bytes))
         else handle.old.owner.held) }
     ensures taken { is_made handle.old.owner.held ≡ true → result ≡ 11 }
     ensures bad_make { is_made handle.old.owner.held ≡ false
@@ -45,14 +45,14 @@ pub extern "C" fn vfdev_lend_at(
         → nat_eq result 0 ≡ false → result ≡ 9 }
 {
     let cells = block.into_cells();
-    let Some(mut stage) = handle.take(alloc) else {
+    let Some(mut state) = handle.take(alloc) else {
         return lend_first(alloc, handle, cells, address);
     };
-    let answer = match &mut *stage {
-        Stage::Lending(blocks) => lend_next(blocks, cells, address),
-        Stage::Made(_) | Stage::Kept(_) => HELD,
+    let answer = match &mut *state {
+        HandleState::Lending(blocks) => lend_next(blocks, cells, address),
+        HandleState::Made(_) | HandleState::Kept(_) => HELD,
     };
-    handle.put(stage);
+    handle.put(state);
     answer
 }
 
@@ -60,13 +60,13 @@ pub extern "C" fn vfdev_lend_at(
 fn lend_first(alloc: Global, handle: &mut Vfdev, cells: &'static mut [u8], address: u64) -> u32
     requires { handle.old.owner.held ≡ None }
     ensures lent { handle.new.owner.held
-        ≡ (if nat_eq result 0 then Some (Stage.Lending (one_more none_lent address cells.old)) else None) }
+        ≡ (if nat_eq result 0 then Some (HandleState.Lending (one_more none_lent address cells.old)) else None) }
     ensures bad_make { can_lend None cells.old ≡ false → result ≡ 10 }
     ensures no_memory { can_lend None cells.old ≡ true → nat_eq result 0 ≡ false → result ≡ 9 }
 {
     match lending(alloc, cells, address) {
-        Ok(stage) => {
-            handle.put(stage);
+        Ok(state) => {
+            handle.put(state);
             MADE
         }
         Err(fault) => u32::from(fault.number()),
@@ -74,9 +74,9 @@ fn lend_first(alloc: Global, handle: &mut Vfdev, cells: &'static mut [u8], addre
 }
 
 // One block that is lent, in a box.
-fn lending(alloc: Global, cells: &'static mut [u8], address: u64) -> Result<Box<Stage>, Fault>
+fn lending(alloc: Global, cells: &'static mut [u8], address: u64) -> Result<Box<HandleState>, Fault>
     ensures ok { IfOk result
-        (λ b. b.value ≡ Stage.Lending (one_more none_lent address cells.old)) }
+        (λ b. b.value ≡ HandleState.Lending (one_more none_lent address cells.old)) }
     ensures bad_make { can_lend None cells.old ≡ false → result ≡ Err Fault.BadMake }
     ensures no_memory { IfErr result (λ e. can_lend None cells.old ≡ true → e ≡ Fault.NoMemory) }
 {
@@ -85,18 +85,18 @@ fn lending(alloc: Global, cells: &'static mut [u8], address: u64) -> Result<Box<
     }
     let mut blocks = LentBlocks::new(alloc)?;
     blocks.push(cells, address);
-    Ok(Box::new(alloc, Stage::Lending(blocks))?)
+    Ok(Box::new(alloc, HandleState::Lending(blocks))?)
 }
 
 // Lends one more block.
 fn lend_next(blocks: &mut LentBlocks, cells: &'static mut [u8], address: u64) -> u32
     ensures lent { blocks.new
         ≡ (if nat_eq result 0 then one_more blocks.old address cells.old else blocks.old) }
-    ensures bad_make { can_lend (Some (Stage.Lending blocks.old)) cells.old ≡ false → result ≡ 10 }
-    ensures overlapping { can_lend (Some (Stage.Lending blocks.old)) cells.old ≡ true
-        → is_lent_twice (Some (Stage.Lending blocks.old)) address cells.old ≡ true → result ≡ 13 }
-    ensures made { can_lend (Some (Stage.Lending blocks.old)) cells.old ≡ true
-        → is_lent_twice (Some (Stage.Lending blocks.old)) address cells.old ≡ false → result ≡ 0 }
+    ensures bad_make { can_lend (Some (HandleState.Lending blocks.old)) cells.old ≡ false → result ≡ 10 }
+    ensures overlapping { can_lend (Some (HandleState.Lending blocks.old)) cells.old ≡ true
+        → is_lent_twice (Some (HandleState.Lending blocks.old)) address cells.old ≡ true → result ≡ 13 }
+    ensures made { can_lend (Some (HandleState.Lending blocks.old)) cells.old ≡ true
+        → is_lent_twice (Some (HandleState.Lending blocks.old)) address cells.old ≡ false → result ≡ 0 }
 {
     if !is_memory_size(cells.len() as u64) || blocks.len() >= MOST_BLOCKS {
         return u32::from(Fault::BadMake.number());
@@ -120,7 +120,7 @@ fn lend_next(blocks: &mut LentBlocks, cells: &'static mut [u8], address: u64) ->
 pub extern "C" fn vfdev_make_lent(alloc: Global, handle: &mut Vfdev, limit: u16) -> u32
     ensures made { nat_eq result 0 ≡ true
         → handle.new.owner.held
-        ≡ Some (Stage.Made (fresh limit (map length (lent_in handle.old.owner.held).blocks))) }
+        ≡ Some (HandleState.Made (fresh limit (map length (lent_in handle.old.owner.held).blocks))) }
     ensures taken { is_made handle.old.owner.held ≡ true → result ≡ 11 }
     ensures bad_make { is_made handle.old.owner.held ≡ false
         → (is_frame_limit limit && is_makeable (map length (lent_in handle.old.owner.held).blocks)) ≡ false
@@ -135,24 +135,24 @@ pub extern "C" fn vfdev_make_lent(alloc: Global, handle: &mut Vfdev, limit: u16)
     ensures given_back { is_made handle.old.owner.held ≡ false → is_frame_limit limit ≡ true
         → nat_eq result 0 ≡ false → handle.new.owner.held ≡ None }
 {
-    let Some(stage) = handle.take(alloc) else {
+    let Some(state) = handle.take(alloc) else {
         return u32::from(Fault::BadMake.number());
     };
-    if matches!(&*stage, Stage::Made(_) | Stage::Kept(_)) {
-        handle.put(stage);
+    if matches!(&*state, HandleState::Made(_) | HandleState::Kept(_)) {
+        handle.put(state);
         return HELD;
     }
     if FrameLimit::new(limit).is_none() {
-        handle.put(stage);
+        handle.put(state);
         return u32::from(Fault::BadMake.number());
     }
-    let blocks = match Box::into_inner(stage) {
-        Stage::Lending(blocks) => blocks,
-        Stage::Made(_) | Stage::Kept(_) => unreachable!(),
+    let blocks = match Box::into_inner(state) {
+        HandleState::Lending(blocks) => blocks,
+        HandleState::Made(_) | HandleState::Kept(_) => unreachable!(),
     };
     match boxed_over(alloc, blocks.into_memories(), limit) {
-        Ok(stage) => {
-            handle.put(stage);
+        Ok(state) => {
+            handle.put(state);
             MADE
         }
         Err(fault) => u32::from(fault.number()),
@@ -165,10 +165,10 @@ pub(crate) fn boxed_over(
     alloc: Global,
     memories: Vec<HostMem<'static>>,
     limit: u16,
-) -> Result<Box<Stage>, Fault>
+) -> Result<Box<HandleState>, Fault>
     ensures ok { IfOk result
         (λ b. b.value
-        ≡ Stage.Made (fresh limit (map (λ m. length (bytes_of m)) memories.entry.items))) }
+        ≡ HandleState.Made (fresh limit (map (λ m. length (bytes_of m)) memories.entry.items))) }
     ensures bad_make { (is_frame_limit limit && is_makeable
         (map (λ m. length (bytes_of m)) memories.entry.items)) ≡ false
         → result ≡ Err Fault.BadMake }
@@ -178,5 +178,5 @@ pub(crate) fn boxed_over(
         ≡ true → e ≡ Fault.NoMemory) }
 {
     let device = Device::with_limit(alloc, memories, limit)?;
-    Ok(Box::new(alloc, Stage::Made(Running::of(device)))?)
+    Ok(Box::new(alloc, HandleState::Made(Running::of(device)))?)
 }

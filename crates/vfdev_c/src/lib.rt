@@ -13,16 +13,16 @@
 pub mod block;
 pub mod events;
 pub mod handle;
+pub mod handle_state;
 pub mod laws;
 mod lending;
 pub mod lends;
-pub mod loose;
 pub mod making;
 pub mod memory;
 pub mod owner;
+pub mod raw_box;
 mod recorder;
 pub mod recording;
 pub mod reply;
 pub mod service;
-pub mod stage;
 pub mod version;

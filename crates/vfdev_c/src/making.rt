@@ -6,9 +6,9 @@ ghost use Rattle.vfdev_c.specs.Memory.{bytes_of};
 ghost use Rattle.vfdev_c.specs.Handle.{can_make, is_made, is_lending, lent_in};
 
 use crate::handle::Vfdev;
+use crate::handle_state::HandleState;
 use crate::lends::boxed_over;
 use crate::memory::HostMem;
-use crate::stage::Stage;
 use guest_memory::{FlatMem, is_memory_size};
 use std::alloc::Global;
 use wire_frame::{Fault, FrameLimit};
@@ -29,7 +29,7 @@ pub extern "C" fn vfdev_make(
     limit: u16,
 ) -> u32
     ensures made { handle.new.owner.held
-        ≡ (if nat_eq result 0 then Some (Stage.Made (fresh limit (replicate functions size)))
+        ≡ (if nat_eq result 0 then Some (HandleState.Made (fresh limit (replicate functions size)))
         else handle.old.owner.held) }
     ensures taken { is_some handle.old.owner.held ≡ true → result ≡ 11 }
     ensures bad_make { is_some handle.old.owner.held ≡ false → can_make functions size limit ≡ false
@@ -41,8 +41,8 @@ pub extern "C" fn vfdev_make(
         return HELD;
     }
     match boxed(alloc, functions, size, limit) {
-        Ok(stage) => {
-            handle.put(stage);
+        Ok(state) => {
+            handle.put(state);
             MADE
         }
         Err(fault) => u32::from(fault.number()),
@@ -60,8 +60,8 @@ pub extern "C" fn vfdev_free(alloc: Global, handle: &mut Vfdev)
 // A device in a box.
 #[inline(never)]
 #[tactic(auto, using(crate::proofs::HandleLemmas::makeable))]
-fn boxed(alloc: Global, functions: u32, size: u64, limit: u16) -> Result<Box<Stage>, Fault>
-    ensures ok { IfOk result (λ b. b.value ≡ Stage.Made (fresh limit (replicate functions size))) }
+fn boxed(alloc: Global, functions: u32, size: u64, limit: u16) -> Result<Box<HandleState>, Fault>
+    ensures ok { IfOk result (λ b. b.value ≡ HandleState.Made (fresh limit (replicate functions size))) }
     ensures bad_make { can_make functions size limit ≡ false → result ≡ Err Fault.BadMake }
     ensures no_memory { IfErr result
         (λ e. can_make functions size limit ≡ true → e ≡ Fault.NoMemory) }

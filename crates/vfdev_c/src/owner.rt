@@ -1,10 +1,10 @@
 //! What a handle leads to, as a pointer that C may hold.
 ghost use Rattle.std.specs.Prelude.{◌≡◌, Option, Some, None, is_some, true};
-ghost use Rattle.vfdev_c.specs.Ownership.{stage_owns, stage_coded};
-ghost use Rattle.vfdev_c.specs.declared.stage.Stage.{Stage};
+ghost use Rattle.vfdev_c.specs.Ownership.{state_owns, state_coded};
+ghost use Rattle.vfdev_c.specs.declared.handle_state.HandleState.{HandleState};
 
-use crate::loose::Loose;
-use crate::stage::Stage;
+use crate::handle_state::HandleState;
+use crate::raw_box::RawBox;
 use std::alloc::Global;
 use std::marker::Model;
 
@@ -14,11 +14,11 @@ use std::marker::Model;
 pub struct Owner {
     at: *mut u8,
     /// What it leads to.
-    pub ghost held: { Option Stage } by { stage_coded },
+    pub ghost held: { Option HandleState } by { state_coded },
 }
 
 impl Model for Owner {
-    ghost also_owns = { λ o. stage_owns o.at o.held };
+    ghost also_owns = { λ o. state_owns o.at o.held };
 }
 
 // What C holds may go to another thread.
@@ -37,22 +37,22 @@ impl Owner {
 
     /// The right to what is in a box.
     #[inline]
-    pub fn of(loose: Loose<Stage, Global>) -> Owner
-        ensures { result.held ≡ Some loose.value }
+    pub fn of(raw: RawBox<HandleState, Global>) -> Owner
+        ensures { result.held ≡ Some raw.value }
     {
-        let Loose { at, alloc: _ } = loose;
+        let RawBox { at, alloc: _ } = raw;
         Owner { at: at as *mut u8 }
     }
 
     /// What it leads to, where it leads to anything.
     #[inline]
-    pub fn into_loose(self, alloc: Global) -> Loose<Stage, Global>
+    pub fn into_raw_box(self, alloc: Global) -> RawBox<HandleState, Global>
         requires { is_some self.held ≡ true }
         ensures { Some result.value ≡ self.held }
     {
         let Owner { at } = self;
-        Loose {
-            at: at as *mut Stage,
+        RawBox {
+            at: at as *mut HandleState,
             alloc,
         }
     }

@@ -11,9 +11,9 @@ ghost use Rattle.history.specs.Entries.{entry, events, given, is_cap};
 ghost use Rattle.vfdev_c.specs.Handle.{shown, history_full, bytes_shown, frame_in, length_in, IsolatedStep};
 ghost use Rattle.vfdev_c.specs.Recorded.{recorded, is_full, taking, kept_as, made_like};
 
+use crate::handle_state::{Running, isolates, lay, put_frame};
 use crate::memory::HostMem;
 use crate::reply::VfdevReply;
-use crate::stage::{Running, isolates, lay, put_frame};
 use device::{Device, Outcome, Queue, Request, Response};
 use history::{Caller, History};
 use irq_causes::Messages;

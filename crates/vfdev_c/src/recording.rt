@@ -5,9 +5,9 @@ ghost use Rattle.vfdev_c.specs.Handle.{can_record, is_recorded, is_unrecorded, c
 ghost use Rattle.vfdev_c.specs.Recorded.{recorded};
 
 use crate::handle::Vfdev;
+use crate::handle_state::HandleState;
 use crate::making::{HELD, MADE, can_make, memories};
 use crate::recorder::Recorder;
-use crate::stage::Stage;
 use device::Device;
 use history::MOST_CALLS;
 use std::alloc::Global;
@@ -34,7 +34,7 @@ pub extern "C" fn vfdev_make_recorded(
     calls: u32,
 ) -> u32
     ensures made { handle.new.owner.held ≡ (if nat_eq result 0
-        then Some (Stage.Kept (recorded (fresh limit (replicate functions size)) [] calls))
+        then Some (HandleState.Kept (recorded (fresh limit (replicate functions size)) [] calls))
         else handle.old.owner.held) }
     ensures taken { is_some handle.old.owner.held ≡ true → result ≡ 11 }
     ensures bad_make { is_some handle.old.owner.held ≡ false →
@@ -46,8 +46,8 @@ pub extern "C" fn vfdev_make_recorded(
         return HELD;
     }
     match boxed(alloc, functions, size, limit, calls) {
-        Ok(stage) => {
-            handle.put(stage);
+        Ok(state) => {
+            handle.put(state);
             MADE
         }
         Err(fault) => u32::from(fault.number()),
@@ -60,14 +60,14 @@ pub extern "C" fn vfdev_kept(alloc: Global, handle: &mut Vfdev) -> usize
     ensures kept { result ≡ length (calls_in handle.old.owner.held) }
     ensures unchanged { handle.new.owner.held ≡ handle.old.owner.held }
 {
-    let Some(stage) = handle.take(alloc) else {
+    let Some(state) = handle.take(alloc) else {
         return 0;
     };
-    let kept = match &*stage {
-        Stage::Kept(recorder) => recorder.kept(),
-        Stage::Made(_) | Stage::Lending(_) => 0,
+    let kept = match &*state {
+        HandleState::Kept(recorder) => recorder.kept(),
+        HandleState::Made(_) | HandleState::Lending(_) => 0,
     };
-    handle.put(stage);
+    handle.put(state);
     kept
 }
 
@@ -90,38 +90,38 @@ pub extern "C" fn vfdev_replay(alloc: Global, handle: &mut Vfdev, other: &mut Vf
     ensures unchanged { handle.new.owner.held ≡ handle.old.owner.held }
     ensures stepped { other.new.owner.held ≡ replayed handle.old.owner.held other.old.owner.held }
 {
-    let Some(stage) = handle.take(alloc) else {
+    let Some(state) = handle.take(alloc) else {
         return NOT_RECORDED;
     };
-    let answer = match &*stage {
-        Stage::Kept(recorder) => replay_on(alloc, recorder, other),
-        Stage::Made(_) | Stage::Lending(_) => NOT_RECORDED,
+    let answer = match &*state {
+        HandleState::Kept(recorder) => replay_on(alloc, recorder, other),
+        HandleState::Made(_) | HandleState::Lending(_) => NOT_RECORDED,
     };
-    handle.put(stage);
+    handle.put(state);
     answer
 }
 
 // The same, of calls that are kept.
 fn replay_on(alloc: Global, recorder: &Recorder, other: &mut Vfdev) -> u32
-    ensures same { (result ≡ 0) ↔ IsSame (Some (Stage.Kept recorder.now)) other.old.owner.held }
-    ensures made_like { IsMadeLike (Some (Stage.Kept recorder.now)) other.old.owner.held →
+    ensures same { (result ≡ 0) ↔ IsSame (Some (HandleState.Kept recorder.now)) other.old.owner.held }
+    ensures made_like { IsMadeLike (Some (HandleState.Kept recorder.now)) other.old.owner.held →
         result ≡ 0 }
-    ensures twin { IsMadeLike (Some (Stage.Kept recorder.now)) other.old.owner.held →
-        other.new.owner.held ≡ Some (Stage.Made recorder.now.live) }
+    ensures twin { IsMadeLike (Some (HandleState.Kept recorder.now)) other.old.owner.held →
+        other.new.owner.held ≡ Some (HandleState.Made recorder.now.live) }
     ensures different { is_unrecorded other.old.owner.held ≡ true →
         nat_eq result 0 ≡ false → result ≡ 1 }
     ensures no_other { is_unrecorded other.old.owner.held ≡ false → result ≡ 3 }
     ensures stepped { other.new.owner.held
-        ≡ replayed (Some (Stage.Kept recorder.now)) other.old.owner.held }
+        ≡ replayed (Some (HandleState.Kept recorder.now)) other.old.owner.held }
 {
-    let Some(mut stage) = other.take(alloc) else {
+    let Some(mut state) = other.take(alloc) else {
         return NO_OTHER;
     };
-    let answer = match &mut *stage {
-        Stage::Made(running) => said(recorder.replays(running)),
-        Stage::Kept(_) | Stage::Lending(_) => NO_OTHER,
+    let answer = match &mut *state {
+        HandleState::Made(running) => said(recorder.replays(running)),
+        HandleState::Kept(_) | HandleState::Lending(_) => NO_OTHER,
     };
-    other.put(stage);
+    other.put(state);
     answer
 }
 
@@ -141,9 +141,9 @@ fn boxed(
     size: u64,
     limit: u16,
     calls: u32,
-) -> Result<Box<Stage>, Fault>
+) -> Result<Box<HandleState>, Fault>
     ensures ok { IfOk result (λ b.
-        b.value ≡ Stage.Kept (recorded (fresh limit (replicate functions size)) [] calls)) }
+        b.value ≡ HandleState.Kept (recorded (fresh limit (replicate functions size)) [] calls)) }
     ensures bad_make { can_record functions size limit calls ≡ false → result ≡ Err Fault.BadMake }
     ensures no_memory { IfErr result (λ e.
         can_record functions size limit calls ≡ true → e ≡ Fault.NoMemory) }
@@ -155,5 +155,5 @@ fn boxed(
     let memories = memories(alloc, functions, size)?;
     let device = Device::with_limit(alloc, memories, limit)?;
     let recorder = Recorder::new(alloc, device, cap)?;
-    Ok(Box::new(alloc, Stage::Kept(recorder))?)
+    Ok(Box::new(alloc, HandleState::Kept(recorder))?)
 }

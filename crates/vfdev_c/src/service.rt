@@ -4,8 +4,8 @@ ghost use Rattle.vfdev_c.specs.Handle.{after, reply_to, raised_by, messages_in, 
 
 use crate::events::{POOLS, put_messages};
 use crate::handle::Vfdev;
+use crate::handle_state::MOST_FRAME;
 use crate::reply::VfdevReply;
-use crate::stage::MOST_FRAME;
 use device::Queue;
 use irq_causes::Messages;
 use std::alloc::Global;

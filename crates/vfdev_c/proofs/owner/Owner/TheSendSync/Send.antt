@@ -9,15 +9,15 @@ use denote.Param.Send.{IsSend, AllSend, owning_send, struct_send, sendable}
 use Rattle.std.specs.Prelude.{Option, Some, None}
 use Rattle.std.proofs.Crossing as heap
 use Rattle.std_alloc.proofs.SendSync.{quiet, lies}
-use Rattle.vfdev_c.specs.Ownership.{stage_row, stage_owns}
-use Rattle.vfdev_c.proofs.stage.Stage.TheSendSync as stage
+use Rattle.vfdev_c.specs.Ownership.{state_row, state_owns}
+use Rattle.vfdev_c.proofs.handle_state.HandleState.TheSendSync as state
 use Rattle.vfdev_c.specs.contracts.owner.Owner.{the_row, the_type}
 
-stage_send : IsSend stage_row
-stage_send = stage.the_send
+state_send : IsSend state_row
+state_send = state.the_send
 
-owned : (at : Ptr) (held : Option stage_row.Denot) → Keyless (stage_owns at held)
-owned at (Some world) = λ allocator. (lies stage_row stage_send at world, heap.frees.frees allocator (raw (lone stage_row.mir)) at)
+owned : (at : Ptr) (held : Option state_row.Denot) → Keyless (state_owns at held)
+owned at (Some world) = λ allocator. (lies state_row state_send at world, heap.frees.frees allocator (raw (lone state_row.mir)) at)
 owned at None = tt
 
 pub send : IsSend the_row

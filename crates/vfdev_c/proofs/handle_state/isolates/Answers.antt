@@ -1,7 +1,7 @@
 -- The isolation law of one event.
 use Rattle.std.proofs.Common.{[], ◌∷◌}
 use Rattle.vfdev_c.specs.Handle.{IsolatedStep}
-use Rattle.vfdev_c.proofs.stage.isolates.Goals as goal
+use Rattle.vfdev_c.proofs.handle_state.isolates.Goals as goal
 
 -- the law, at the list of the one event
 pub returns : goal.returns

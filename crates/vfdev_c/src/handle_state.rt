@@ -26,7 +26,7 @@ pub const MOST_FRAME: usize = 9018;
 
 /// What a handle leads to, where it leads to anything.
 #[derive(Drop)]
-pub enum Stage {
+pub enum HandleState {
     /// Memories that were lent for a device that is not made yet.
     Lending(LentBlocks),
     /// A device.

@@ -1,5 +1,5 @@
 //! The host.
-ghost use Rattle.std.specs.Prelude.{◌≡◌, ◌≢◌, ℕ, ◌+◌, ◌*◌, ◌<◌, ◌≤◌, ◌++◌, ◌&&◌, [], IfSome, List, nat_le, is_some, length, replicate, is_ok, true, if◌then◌else◌};
+ghost use Rattle.std.specs.Prelude.{◌≡◌, ◌≢◌, ℕ, ◌+◌, ◌*◌, ◌<◌, ◌≤◌, ◌++◌, ◌&&◌, [], IfErr, IfSome, List, nat_le, is_some, length, replicate, is_ok, true, if◌then◌else◌};
 ghost use Rattle.mailbox.specs.declared.writes.Write.{Write};
 ghost use Rattle.mailbox.specs.Host.{function_at, other_holds, is_taken, address_in, outcome, host_after, host_without, is_admitted, host_admitting, is_placed};
 ghost use Rattle.mailbox.specs.Function.{absent};
@@ -86,12 +86,14 @@ impl Host {
     }
 
     /// Gives a function its policy. It is refused, and nothing changes, where the address is not one station's or another
-    /// function holds it, where the place of a port VLAN is none of the ids', and where the function is up.
+    /// function holds it, where the place of a port VLAN is none of the ids', and where the function is up: by
+    /// [`Fault::BadMake`].
     ///
     /// A function that is not up makes no register, so that nothing is to be written.
     pub fn admit(&mut self, pool: PoolId, policy: &Policy) -> Result<(), Fault>
         ensures host { self.new ≡ host_admitting self.old pool policy.now }
         ensures variant { is_ok result ≡ is_admitted self.old pool policy.now }
+        ensures err { IfErr result (λ e. e ≡ Fault.BadMake) }
         ensures within { IsWithin self.old → IsWithin self.new }
         ensures settings { IsWithin self.old → settings_of self.new ≡ settings_of self.old }
     {
@@ -103,6 +105,7 @@ impl Host {
     fn take(&mut self, pool: PoolId, policy: &Policy) -> Result<(), Fault>
         ensures host { self.new ≡ host_admitting self.old pool policy.now }
         ensures variant { is_ok result ≡ is_admitted self.old pool policy.now }
+        ensures err { IfErr result (λ e. e ≡ Fault.BadMake) }
         ensures pool { pool < 64 }
     {
         let p = usize::from(pool.get());

@@ -31,7 +31,7 @@ fn is_in_own_vlan<R: SenderRules>(rules: &R, frame: &FrameBuf) -> bool
 /// of the pool. Where its VLAN check is on, the id of a tagged frame must be an id of the pool, and for an untagged frame
 /// the pool must take untagged frames. Each check works by itself.
 #[tactic(auto, unfolding(crate::specs::Permitted::permitted))]
-pub fn honest_by<R: SenderRules>(rules: &R, frame: &FrameBuf) -> bool
+pub fn passes_anti_spoof<R: SenderRules>(rules: &R, frame: &FrameBuf) -> bool
     ensures { result ≡ permitted (R.rules rules.now) frame.now }
 {
     (!rules.checks_address() || owns_source(rules, frame))
@@ -42,5 +42,5 @@ pub fn honest_by<R: SenderRules>(rules: &R, frame: &FrameBuf) -> bool
 pub fn honest(tables: &Tables, pool: PoolId, frame: &FrameBuf) -> bool
     ensures { result ≡ permitted (own tables.now pool) frame.now }
 {
-    honest_by(&PoolRules { tables, pool }, frame)
+    passes_anti_spoof(&PoolRules { tables, pool }, frame)
 }

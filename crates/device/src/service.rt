@@ -7,7 +7,7 @@ ghost use Rattle.device.specs.Replies.{is_sent};
 ghost use Rattle.device.specs.Outcome.{reply_by};
 
 use crate::outcome::{Acted, Outcome};
-use anti_spoof::honest_by;
+use anti_spoof::passes_anti_spoof;
 use guest_memory::GuestMem;
 use pool_filter::SenderRules;
 use tx_desc::Progress;
@@ -48,7 +48,7 @@ pub fn serve_queue<R: SenderRules, M: GuestMem>(
                 Progress::Dropped => Outcome::Dropped,
                 Progress::Faulted => Outcome::Faulted,
                 Progress::Ended => {
-                    if honest_by(rules, frame) {
+                    if passes_anti_spoof(rules, frame) {
                         unit.sent();
                         Outcome::Sent
                     } else {

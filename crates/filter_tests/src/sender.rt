@@ -1,6 +1,6 @@
 //! Frames that pools try to send, and the checks that stop them.
 use crate::compare::{assert_equal, assert_equal_at};
-use anti_spoof::{honest, honest_by};
+use anti_spoof::{honest, passes_anti_spoof};
 use pool_filter::{Own, Tables};
 use std::test::Fail;
 use wire_frame::{FrameBuf, PoolId};
@@ -120,10 +120,10 @@ fn held_settings_are_checked(rt: HostRuntime) -> Result<(), Fail> {
         tables.own(pool, &mut own);
         let [tagged, elsewhere, untagged, nobodys] = &frames;
         let found = [
-            honest_by(&own, tagged),
-            honest_by(&own, elsewhere),
-            honest_by(&own, untagged),
-            honest_by(&own, nobodys),
+            passes_anti_spoof(&own, tagged),
+            passes_anti_spoof(&own, elsewhere),
+            passes_anti_spoof(&own, untagged),
+            passes_anti_spoof(&own, nobodys),
         ];
         assert_equal_at(&rt, found, passes, checks);
     }

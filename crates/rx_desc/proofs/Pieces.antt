@@ -1,12 +1,13 @@
 -- The loops over the pieces of a frame, one piece at a time.
-use Rattle.std.proofs.Common.{◌≡◌, ℕ, zero, suc, ◌+◌, ◌-◌, ◌*◌, ◌/◌, ◌<◌, ◌≤◌, min, List, [], ◌∷◌, length, take, drop, set, get_or, map, Option, Bool, true, false, nat_lt, ◌||◌, refl, sym, ◌∙◌, ap, arith, eqb, inl, inr}
+use Rattle.std.proofs.Common.{◌≡◌, ℕ, zero, suc, ◌+◌, ◌-◌, ◌*◌, ◌/◌, ◌<◌, ◌≤◌, min, List, [], ◌∷◌, length, take, drop, set, get_or, map, Option, None, Bool, true, false, nat_lt, ◌||◌, refl, sym, ◌∙◌, ap, arith, eqb, inl, inr}
 use Rattle.std.proofs.lemmas.List.{drop_more, take_more, take_more_set, take_min, drop_min, take_all, get_or-map, length-map}
 use Rattle.std.proofs.lemmas.Nat.{div-mul-add}
 use Rattle.std.proofs.lemmas.Bool.{ltb-false, lt-ltb, le-ltb, cases_eq, eq-eqb, ne_eqb}
 use Rattle.guest_memory.specs.Memory.{Write, overwrite, write_all, two_words, word_at}
 use Rattle.rings.specs.Ring.{RingState, owned, head_after}
 use Rattle.rx_desc.specs.declared.placing.Placed.TheVariants.{Put, NoRoom, Faulted}
-use Rattle.rx_desc.specs.Receive.{deliver_pieces, pieces, slots, data_writes, is_nil, cut, zip_writes, back_writes, passes_end, status}
+use Rattle.rx_desc.specs.declared.placing.RxConfig.{RxConfig}
+use Rattle.rx_desc.specs.Receive.{deliver, deliver_pieces, pieces, slots, data_writes, is_nil, cut, zip_writes, back_writes, passes_end, status}
 
 -- the writes from the piece at i on; xs is what is left of the data
 pub rest_writes : List ℕ → ℕ → ℕ → ℕ → List ℕ → List Write
@@ -198,6 +199,11 @@ pieces-one b xs some few =
     let sum : length xs + b - 1 ≡ 1 * b + (length xs - 1) = omega arith in
     let count : count_of b xs ≡ 1 = ap (λ (n : ℕ). n / b) sum ∙ div-mul-add 1 b (length xs - 1) (omega arith) in
     ap (λ (k : ℕ). cut b k xs) count ∙ cut-one b xs few
+
+-- a frame that is placed with its tag and fits one buffer is one piece
+pub deliver-whole : (config : RxConfig) (lb : Bool) (frame xs m : List ℕ) (r : RingState) → r.enabled ≡ true → config.strip_tag ≡ false → 1 ≤ length frame → length xs ≤ config.buffer_size → xs ≡ frame → deliver config lb frame m r ≡ deliver_pieces lb None (xs ∷ []) m r
+unfolding deliver
+deliver-whole config lb frame xs m r on plain some fits same = rw (on, plain, sym same, pieces-one config.buffer_size xs (omega (arith, some, ap length same)) fits) refl
 
 -- what one piece is written as, and its write-back
 pub record One (lb : Bool) (tag : Option ℕ) (places xs m : List ℕ) (s a word : ℕ) : Type 0 where

@@ -52,7 +52,7 @@ impl<'a> Parts<'a> {
 }
 
 // Writes the bytes over those of the memory from `at` on.
-#[inline]
+#[inline(always)]
 pub(crate) fn write_parts<M: GuestMem>(memory: &mut M, at: u64, source: Parts)
     requires inside { at + length (text_of source) ≤ length (M.bytes memory.old) }
     requires fits { at + length (text_of source) < 2 ^ 64 }
@@ -61,7 +61,7 @@ pub(crate) fn write_parts<M: GuestMem>(memory: &mut M, at: u64, source: Parts)
     ensures size { length (M.bytes memory.new) ≡ length (M.bytes memory.old) }
 {
     if source.front.is_empty() {
-        write_bytes(memory, at, source.back);
+        memory.write_at(at, source.back);
     } else {
         write_both(memory, at, source);
     }

@@ -103,46 +103,28 @@ pub fn place_within<M: GuestMem>(
         return Placed::NoRoom;
     }
     let size = config.buffer_size;
-    let strip_tag = config.strip_tag;
-    if strip_tag {
-        return place_stripped(memory, memory_size, ring, size, strip_tag, frame, loopback);
+    let bytes = frame.bytes();
+    if config.strip_tag || bytes.len() > size {
+        return place_frame(
+            memory,
+            memory_size,
+            ring,
+            size,
+            config.strip_tag,
+            frame,
+            loopback,
+        );
     }
-    place_frame(memory, memory_size, ring, size, strip_tag, frame, loopback)
+    let source = Parts {
+        front: &bytes[..0],
+        back: bytes,
+    };
+    place_one(memory, memory_size, ring, source, loopback, None)
 }
 
-// Places a frame where tags are stripped. It stands apart, so that other frames are placed in few instructions.
+// Places a frame, without its tag where tags are stripped. It stands apart, so that a whole frame in one buffer is placed in few
+// instructions.
 #[inline(never)]
-fn place_stripped<M: GuestMem>(
-    memory: &mut M,
-    memory_size: u64,
-    ring: &mut Ring,
-    size: usize,
-    strip_tag: bool,
-    frame: &FrameBuf,
-    loopback: bool,
-) -> Placed
-    requires known { memory_size ≡ length (M.bytes memory.old) }
-    requires least { 1024 ≤ size }
-    requires most { size ≤ 16384 }
-    requires inside { LiesInside (length (M.bytes memory.old)) ring.old }
-    ensures placed { result
-        ≡ (deliver_pieces loopback (tag_taken strip_tag frame.now)
-        (pieces size (data_of strip_tag frame.now)) (M.bytes memory.old) ring.old).placed }
-    ensures written { M.bytes memory.new
-        ≡ (deliver_pieces loopback (tag_taken strip_tag frame.now)
-        (pieces size (data_of strip_tag frame.now)) (M.bytes memory.old) ring.old).memory }
-    ensures ring { ring.new
-        ≡ (deliver_pieces loopback (tag_taken strip_tag frame.now)
-        (pieces size (data_of strip_tag frame.now)) (M.bytes memory.old) ring.old).ring }
-    ensures size { length (M.bytes memory.new) ≡ length (M.bytes memory.old) }
-    ensures inside { LiesInside (length (M.bytes memory.new)) ring.new }
-    ensures on { IsTrue ring.new.enabled → IsTrue ring.old.enabled }
-{
-    place_frame(memory, memory_size, ring, size, strip_tag, frame, loopback)
-}
-
-// Places a frame, without its tag where tags are stripped.
-#[inline]
 fn place_frame<M: GuestMem>(
     memory: &mut M,
     memory_size: u64,
@@ -247,8 +229,9 @@ fn place_data<M: GuestMem>(
     )
 }
 
-// Places `source` in one buffer. Nothing is kept beside the word of its descriptor.
-#[inline]
+// Places `source` in one buffer. Nothing is kept beside the word of its descriptor. It stands in line, and calls the memory
+// itself: a call through a table is followed by a test for each function in line around it.
+#[inline(always)]
 fn place_one<M: GuestMem>(
     memory: &mut M,
     memory_size: u64,
@@ -276,7 +259,7 @@ fn place_one<M: GuestMem>(
     let Some(at) = ring.head_slot() else {
         return Placed::NoRoom;
     };
-    let buffer = read_word(memory, at);
+    let buffer = memory.read_word(at);
     let descriptor = RxDescriptor { at, buffer };
     let count = source.len() as u64;
     if !descriptor.holds(count, memory_size) {
@@ -284,7 +267,7 @@ fn place_one<M: GuestMem>(
         return Placed::Faulted;
     }
     write_parts(memory, buffer, source);
-    write_words(memory, at, 0, status(count, loopback, tag, true));
+    memory.write_words(at, 0, status(count, loopback, tag, true));
     ring.advance(1);
     Placed::Put
 }

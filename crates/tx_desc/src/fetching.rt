@@ -8,8 +8,8 @@ ghost use Rattle.tx_desc.specs.Lent.{fetched_in, lent_after};
 use crate::Pending;
 use crate::descriptor::{Kind, TxDescriptor};
 use crate::outcome::{Fetched, Progress, Served};
-use crate::stretch::Stretch;
-use guest_memory::{GuestMem, read_words, write_word};
+use crate::memory_range::MemoryRange;
+use guest_memory::GuestMem;
 use rings::Ring;
 use wire_frame::{FrameBuf, FrameLimit, PortVlan};
 
@@ -78,7 +78,7 @@ pub fn fetch_within<M: GuestMem>(
     let Some(at) = ring.head_slot() else {
         return Served::unreported(Progress::Idle);
     };
-    let (buffer, word) = read_words(memory, at);
+    let (buffer, word) = memory.read_words(at);
     let descriptor = TxDescriptor { at, buffer, word };
     match descriptor.kind(memory_size) {
         Kind::Context => {
@@ -132,7 +132,7 @@ fn take_data<M: GuestMem>(
     let outcome = gather(memory, pending, frame, descriptor, rule, limit);
     let reported = descriptor.wants_report();
     if reported {
-        write_word(memory, descriptor.at + 8, descriptor.done_word());
+        memory.write_word(descriptor.at + 8, descriptor.done_word());
     }
     ring.advance(1);
     Served { outcome, reported }
@@ -212,7 +212,7 @@ fn take_whole<M: GuestMem>(
         return false;
     }
     let at = descriptor.buffer;
-    frame.fill_from(&Stretch { memory, at, len }, len);
+    frame.fill_from(&MemoryRange { memory, at, len }, len);
     true
 }
 

@@ -15,9 +15,9 @@
 pub mod any_memory;
 mod descriptor;
 pub mod fetching;
+mod memory_range;
 pub mod outcome;
 pub mod pending;
-mod stretch;
 
 pub use any_memory::fetch;
 pub use fetching::{fetch_in, fetch_into, fetch_within};

@@ -7,8 +7,8 @@ ghost use Rattle.tx_desc.specs.Lent.{fetched_in, lent_after};
 
 use crate::Pending;
 use crate::descriptor::{Kind, TxDescriptor};
-use crate::outcome::{Fetched, Progress, Served};
 use crate::memory_range::MemoryRange;
+use crate::outcome::{Fetched, Progress, Served};
 use guest_memory::GuestMem;
 use rings::Ring;
 use wire_frame::{FrameBuf, FrameLimit, PortVlan};

@@ -1,4 +1,4 @@
-pub mod PoolLemmas
+pub mod StoreLemmas
 pub mod ReadLemmas
 pub mod ReplayLemmas
 pub mod WordLemmas

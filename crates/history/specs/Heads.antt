@@ -1,4 +1,4 @@
--- The entry that a head stands for, by the bytes behind it in the pool of bytes: first those that the call brought or read, and then
+-- The entry that a head stands for, by its bytes in the store: first those that the call brought or read, and then
 -- the words of its messages.
 use Rattle.std.specs.Prelude.{◌≤◌, ◌+◌, ◌*◌, ◌++◌, ◌==◌, ℕ, Bool, List, [], length, take, drop, slice_index, if◌then◌else◌}
 use Rattle.std.specs.Int.{bit_at}
@@ -116,19 +116,19 @@ messages_with vectors bytes =
 
 -- so many bytes from a place on
 abbrev pub part : List ℕ → ℕ → ℕ → List ℕ
-part pool start count = take count (drop start pool)
+part store start count = take count (drop start store)
 
 abbrev pub moved_of : List ℕ → Head → List ℕ
-moved_of pool h = part pool h.start h.count
+moved_of store h = part store h.start h.count
 
 abbrev pub words_of : List ℕ → Head → List ℕ
-words_of pool h = part pool (h.start + h.count) (words_len h.vectors)
+words_of store h = part store (h.start + h.count) (words_len h.vectors)
 
 abbrev pub entry_of : List ℕ → Head → Entry
-entry_of pool h = entry h.caller (event_with (moved_of pool h) h.event)
-    (record { reply = reply_with (moved_of pool h) h.reply; raised = messages_with h.vectors (words_of pool h) })
+entry_of store h = entry h.caller (event_with (moved_of store h) h.event)
+    (record { reply = reply_with (moved_of store h) h.reply; raised = messages_with h.vectors (words_of store h) })
 
--- the head's bytes stand in the pool
-pub record Stands (pool : List ℕ) (h : Head) : Type 0 where
-  pub inside : h.start + h.count + words_len h.vectors ≤ length pool
-  pub sound : IsSound (event_with (moved_of pool h) h.event)
+-- the head's bytes stand in the store
+pub record Stands (store : List ℕ) (h : Head) : Type 0 where
+  pub inside : h.start + h.count + words_len h.vectors ≤ length store
+  pub sound : IsSound (event_with (moved_of store h) h.event)

@@ -83,7 +83,7 @@ impl PackedCaller {
     }
 }
 
-/// A kept call without its bytes. In the pool, from `start` on, stand the `count` bytes that it brought or read, and then
+/// A kept call without its bytes. In the store, from `start` on, stand the `count` bytes that it brought or read, and then
 /// those of the words of its messages.
 #[derive(Clone, Copy)]
 pub struct Head {

@@ -19,7 +19,7 @@ use wire_frame::{Fault, FrameBuf, FrameLimit};
 /// How many entries a history may have at most.
 pub const MOST_CALLS: usize = 65_536;
 
-// How many bytes of the pool one entry takes at most: those of the longest frame, which is longer than any access to a
+// How many bytes of the store one entry takes at most: those of the longest frame, which is longer than any access to a
 // memory, and a word of messages for each of three vectors.
 const MOST_BYTES: usize = 9018 + 3 * 8;
 
@@ -27,7 +27,7 @@ const MOST_BYTES: usize = 9018 + 3 * 8;
 #[derive(Drop)]
 pub struct History {
     heads: Vec<Head>,
-    pool: Vec<u8>,
+    store: Vec<u8>,
     cap: usize,
 }
 
@@ -56,8 +56,8 @@ impl History {
             return Err(Fault::BadMake);
         }
         let heads = Vec::with_capacity(alloc, cap)?;
-        let pool = room_for(alloc, cap)?;
-        Ok(History { heads, pool, cap })
+        let store = room_for(alloc, cap)?;
+        Ok(History { heads, store, cap })
     }
 
     /// How many entries there are.
@@ -110,9 +110,9 @@ impl History {
             ++ entry caller (event_of request.entry) (answer_in device.now taken.now) ∷ [] }
         ensures cap { self.new.cap ≡ self.old.cap }
     {
-        let start = self.pool.len() as u32;
-        let count = append_moved(&mut self.pool, request, device, taken.outcome);
-        let vectors = append_words(&mut self.pool, taken.messages.words());
+        let start = self.store.len() as u32;
+        let count = append_moved(&mut self.store, request, device, taken.outcome);
+        let vectors = append_words(&mut self.store, taken.messages.words());
         self.heads.push_reserved(Head {
             event: head_of(request),
             reply: kind_of(taken.outcome),
@@ -129,7 +129,7 @@ impl History {
         ensures cap { self.new.cap ≡ self.old.cap }
     {
         self.heads.clear();
-        self.pool.clear();
+        self.store.clear();
     }
 
     /// Who made a call, counted from the oldest.
@@ -149,7 +149,7 @@ impl History {
     {
         let head = self.heads[index];
         let start = head.start as usize;
-        let bytes = part(self.pool.as_slice(), start, usize::from(head.count));
+        let bytes = part(self.store.as_slice(), start, usize::from(head.count));
         match head.event {
             EventHead::Open(pool) => Request::Open(pool),
             EventHead::End(pool) => Request::End(pool),
@@ -180,10 +180,10 @@ impl History {
             ↔ (answer_in device.now taken.now ≡ (entry_at self.now index).answer) }
     {
         let head = self.heads[index];
-        let pool = self.pool.as_slice();
+        let store = self.store.as_slice();
         let (start, count) = (head.start as usize, usize::from(head.count));
-        let bytes = part(pool, start, count);
-        let words = part(pool, start + count, words_len(head.vectors));
+        let bytes = part(store, start, count);
+        let words = part(store, start + count, words_len(head.vectors));
         let same_reply = is_reply(head.reply, bytes, device, taken.outcome, room);
         let same_messages = are_messages(taken.messages, head.vectors, words);
         same_reply && same_messages
@@ -193,8 +193,8 @@ impl History {
 // Room for the bytes of so many entries, and for no more.
 fn room_for(alloc: Global, cap: usize) -> Result<Vec<u8>, AllocError>
     requires few { cap ≤ 65536 }
-    ensures none { IfOk result (λ pool. vec_len pool ≡ 0) }
-    ensures room { IfOk result (λ pool. vec_capacity pool ≡ cap * 9042) }
+    ensures none { IfOk result (λ store. vec_len store ≡ 0) }
+    ensures room { IfOk result (λ store. vec_capacity store ≡ cap * 9042) }
 {
     Vec::with_capacity(alloc, cap * MOST_BYTES)
 }

@@ -5,7 +5,7 @@
 //! second device by an entry, and [`History::gives`] tells besides whether that device answers as was kept; both go through all
 //! entries as [`History::step_all`] and [`History::gives_all`].
 //!
-//! An entry is a head of 32 bytes and, in a pool that all entries share, the bytes of its frame, or those that it wrote to or
+//! An entry is a head of 32 bytes and, in a store that all entries share, the bytes of its frame, or those that it wrote to or
 //! read from a memory, and 8 bytes for each vector of which some pool got a message. The room for as many entries as there
 //! may be, of any bytes, is taken when a history is made, and no other call takes memory. It is not touched before it is
 //! used, so a host that gives memory as it is touched holds no more than the entries take. Nothing here waits. The crate

@@ -1,4 +1,4 @@
-//! The messages of an answer as words in a pool of bytes, without the words that are 0.
+//! The messages of an answer as words in a store of bytes, without the words that are 0.
 ghost use Rattle.std.specs.Prelude.{◌≡◌, ◌≤◌, ◌<◌, ◌+◌, ◌*◌, ◌++◌, length, not, ◌==◌, IsTrue, ◌↔◌, vec_len, vec_capacity};
 ghost use Rattle.std.specs.Int.{bit_at};
 ghost use Rattle.wire_frame.specs.Bits.{has_bit};
@@ -13,20 +13,20 @@ use wire_frame::has_bit;
 // Adds a word that is not 0, and tells whether it is one.
 #[inline]
 #[tactic(auto, unfolding(crate::specs::Heads::word_bytes))]
-fn append_word(pool: &mut Vec<u8>, word: u64) -> bool
-    requires { vec_len pool.old + 8 ≤ vec_capacity pool.old }
-    ensures items { pool.new.items ≡ pool.old.items ++ word_bytes word }
+fn append_word(store: &mut Vec<u8>, word: u64) -> bool
+    requires { vec_len store.old + 8 ≤ vec_capacity store.old }
+    ensures items { store.new.items ≡ store.old.items ++ word_bytes word }
     ensures kept { result ≡ not (word == 0) }
-    ensures len { vec_len pool.new ≡ vec_len pool.old + length (word_bytes word) }
+    ensures len { vec_len store.new ≡ vec_len store.old + length (word_bytes word) }
     ensures most { length (word_bytes word) ≤ 8 }
-    ensures capacity { vec_capacity pool.old ≤ vec_capacity pool.new }
+    ensures capacity { vec_capacity store.old ≤ vec_capacity store.new }
 {
     if word == 0 {
         return false;
     }
     let mut bytes = [0; 8];
     LittleEndian::write_u64(&mut bytes, word);
-    append(pool, &bytes);
+    append(store, &bytes);
     true
 }
 
@@ -44,18 +44,18 @@ fn vectors_of(first: bool, second: bool, third: bool) -> Vectors
 /// Adds the words of messages that are not 0, and tells the vectors that they are of.
 #[inline]
 #[tactic(auto, using(crate::proofs::WordLemmas::unpacked, crate::proofs::WordLemmas::packed_len))]
-pub fn append_words(pool: &mut Vec<u8>, words: [u64; 3]) -> Vectors
-    requires { vec_len pool.old + 24 ≤ vec_capacity pool.old }
-    ensures items { pool.new.items ≡ pool.old.items ++ packed words }
+pub fn append_words(store: &mut Vec<u8>, words: [u64; 3]) -> Vectors
+    requires { vec_len store.old + 24 ≤ vec_capacity store.old }
+    ensures items { store.new.items ≡ store.old.items ++ packed words }
     ensures kept { messages_with result (packed words) ≡ masks_of words }
     ensures count { length (packed words) ≡ words_len result }
     ensures most { length (packed words) ≤ 24 }
-    ensures len { vec_len pool.new ≡ vec_len pool.old + length (packed words) }
-    ensures capacity { vec_capacity pool.old ≤ vec_capacity pool.new }
+    ensures len { vec_len store.new ≡ vec_len store.old + length (packed words) }
+    ensures capacity { vec_capacity store.old ≤ vec_capacity store.new }
 {
-    let first = append_word(pool, words[0]);
-    let second = append_word(pool, words[1]);
-    let third = append_word(pool, words[2]);
+    let first = append_word(store, words[0]);
+    let second = append_word(store, words[1]);
+    let third = append_word(store, words[2]);
     vectors_of(first, second, third)
 }
 

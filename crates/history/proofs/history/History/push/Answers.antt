@@ -5,12 +5,12 @@ use Rattle.device.specs.Outcome.{answer_in}
 use Rattle.history.specs.declared.caller.Caller.{Caller}
 use Rattle.history.specs.Entries.{Entry, entry}
 use Rattle.history.specs.Heads.{entry_of, packed}
-use Rattle.history.proofs.PoolLemmas.{Adds, entries_added, heads_stand, room_left}
+use Rattle.history.proofs.StoreLemmas.{Adds, entries_added, heads_stand, room_left}
 use Rattle.history.proofs.history.History.push.Goals as goal
 use Rattle.history.proofs.history.History.push.Given as given
 
 adds : (g : given.Over) (c : goal.After-push_reserved g)
-    → Adds c.args.device.now (event_of c.args.request) c.args.taken.now.outcome c.args.taken.now.messages c.self.inside.pool.items c.append_words-vectors.new.pool.items
+    → Adds c.args.device.now (event_of c.args.request) c.args.taken.now.outcome c.args.taken.now.messages c.self.inside.store.items c.append_words-vectors.new.store.items
     (record { event = c.head_of.result; reply = c.kind_of.result; start = c.len-start.result; count = c.append_moved-count.result; caller = c.new.result; vectors = c.append_words-vectors.result })
 adds g c =
     let moved = c.append_moved-count.ensures in
@@ -44,6 +44,6 @@ invariant_of-self g c =
 
 pub returns-clause-entries : goal.returns-clause-entries
 returns-clause-entries g c =
-    let before : List Entry = map (entry_of c.self.inside.pool.items) c.self.inside.heads.items in
+    let before : List Entry = map (entry_of c.self.inside.store.items) c.self.inside.heads.items in
     let by : Caller → List Entry = λ who. before ++ entry who (event_of c.args.request) (answer_in c.args.device.now c.args.taken.now) ∷ [] in
     rw (← c.self.view_is) (entries_added _ _ _ _ _ _ _ _ _ (adds g c) c.push_reserved.ensures.items c.self.invariant.stand ∙ ap by c.new.ensures)

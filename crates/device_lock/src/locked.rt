@@ -33,10 +33,7 @@ impl<M: GuestMem, L: Ledger> LockedDevice<M, L> {
         let locked = LockedDevice {
             inner: Mutex::new(recorded),
         };
-        match Arc::new(alloc, locked) {
-            Ok(arc) => Ok(arc),
-            Err(_) => Err(Fault::NoMemory),
-        }
+        Ok(Arc::new(alloc, locked)?)
     }
 
     /// Takes the recorded device out of the lock again, for its last owner; None where somebody else has it too, for whom it stays.

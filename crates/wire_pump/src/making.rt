@@ -26,10 +26,7 @@ pub fn channel(alloc: Global) -> Result<(FrameSender, FrameReceiver), Fault>
     ensures received { IfOk result (λ r. r.1.received ≡ []) }
     ensures no_memory { IfErr result (λ fault. fault ≡ NoMemory) }
 {
-    match ends(alloc) {
-        Ok(ends) => Ok(ends),
-        Err(AllocError) => Err(Fault::NoMemory),
-    }
+    Ok(ends(alloc)?)
 }
 
 // The two ends.

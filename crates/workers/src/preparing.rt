@@ -55,10 +55,7 @@ pub fn prepare<M: GuestMem, L: Ledger, R: Wait>(
         return Ok(Vec::new(alloc));
     };
     let open = record_first(rt, script, go, device, shares)?;
-    match pools_in(alloc, &open) {
-        Ok(pools) => Ok(pools),
-        Err(AllocError) => Err(Fault::NoMemory),
-    }
+    Ok(pools_in(alloc, &open)?)
 }
 
 // Records the first events of a script, and answers for each pool whether it is open after them.

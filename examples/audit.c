@@ -1,5 +1,5 @@
-/* A device whose calls are kept, and an auditor. A guest opens, writes its memory and reads it; then no more calls can be kept. A
- * fresh device answers each kept call as it was kept. One of which a register was written before does not.
+/* A device whose calls are recorded, and an auditor. A guest opens, writes its memory and reads it; then the recording is full. A
+ * fresh device gives each recorded answer. A device with a register that was written before does not.
  *
  * Build: cc -Iinclude examples/audit.c libvfdev_c.a liblibc_c.a -o audit. It prints what examples/audit.c.stdout has. */
 #include "vfdev.h"
@@ -19,7 +19,7 @@ static void must(vfdev_reply reply)
     }
 }
 
-/* Replays the kept calls on a device of the same make that was given one more event before, or none. */
+/* Replays the recording on a device of the same make that was given one more event before, or none. */
 static void audit(vfdev *device, int planted)
 {
     vfdev other = VFDEV_NONE;

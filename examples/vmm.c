@@ -1,6 +1,7 @@
 /* Two guests of a hypervisor that links vfdev. The memories are the hypervisor's own, lent to the device: the guests' drivers
  * write their rings straight into them. A frame of the wire reaches guest 0 with its interrupt, guest 1 sends one frame to
- * the wire and one to guest 0, a register that cannot be is refused, and a frame with another's source is dropped.
+ * the wire and one to guest 0, a read at offset 2, where no register is, is refused, and a frame with another's source is
+ * dropped.
  *
  * Build: cc -Iinclude examples/vmm.c libvfdev_c.a liblibc_c.a -o vmm. It prints what examples/vmm.c.stdout has. */
 #include "vfdev.h"

@@ -1,6 +1,6 @@
 //! Two guests of a hypervisor that links vfdev: what `examples/vmm.c` does, in Rust. A frame of the wire reaches guest 0 with
-//! its interrupt, guest 1 sends one frame to the wire and one to guest 0, a register that cannot be is refused, and a frame
-//! with another's source is dropped. It prints what `examples/vmm.rs.stdout` has.
+//! its interrupt, guest 1 sends one frame to the wire and one to guest 0, a read at offset 2, where no register is,
+//! is refused, and a frame with another's source is dropped. It prints what `examples/vmm.rs.stdout` has.
 
 use vfdev::{regs, Device, Fault, Messages, Queue, Served, MOST_FRAME};
 

@@ -1,7 +1,7 @@
 /* vfdev: a model of the Intel 82599 in SR-IOV mode, to be linked into a hypervisor.
  *
- * The archive is made of code that is proved to meet its contracts: after each call the device is what its definition says, the
- * reply, the messages and the bytes that are handed out are those of the definition, and to each virtual function an event is as if
+ * The archive is made of code that is proved to meet its contracts. After each call the device is what its definition says. The
+ * reply, the messages and the bytes that are handed out are those of the definition. To each virtual function an event is as if
  * that function were alone. docs/EMBEDDING.md says what this rests on. vfdev_regs.h has the registers by name.
  *
  * What C owes, and nothing checks:
@@ -30,7 +30,7 @@
 #include <stddef.h>
 #include <stdint.h>
 
-/* The answer of such a call has to be looked at: compilers that can warn where it is not. */
+/* The answer of such a call has to be looked at: compilers that can warn do so where it is not. */
 #if defined(__GNUC__)
 #define VFDEV_LOOK __attribute__((warn_unused_result))
 #else
@@ -51,11 +51,11 @@ extern "C" {
 /* How many bytes of a guest's memory one call reads or writes at most. */
 #define VFDEV_MOST_BYTES 2048u
 
-/* How many calls of a device may be kept at most. */
+/* How many calls of a device can be recorded at most. */
 #define VFDEV_MOST_CALLS 65536u
 
 /* What C holds of a device. It leads to nothing, to blocks that were lent for a device, to a device, or to a device whose calls
- * are kept. */
+ * are recorded. */
 typedef struct vfdev {
     bool live;
     void *owner;
@@ -75,7 +75,7 @@ enum vfdev_kind {
     VFDEV_VALUE = 1,     /* a register was read: the value */
     VFDEV_BYTES = 2,     /* the bytes of the memory stand where they were asked */
     VFDEV_IDLE = 3,      /* no descriptor was taken: the pool may not transmit, or the queue is off or empty */
-    VFDEV_MORE = 4,      /* a descriptor was taken, and its frame goes on */
+    VFDEV_MORE = 4,      /* a descriptor was taken; its frame continues in the next one, or it is a context descriptor */
     VFDEV_SENT = 5,      /* a frame was sent */
     VFDEV_DROPPED = 6,   /* a frame was dropped: it is overlong or no frame, or its pool's settings do not permit it */
     VFDEV_FAULTED = 7,   /* the descriptor cannot be used, and the queue is off now */
@@ -83,7 +83,7 @@ enum vfdev_kind {
     VFDEV_NO_DEVICE = 9, /* there is no device: none was made, or it was freed */
     VFDEV_NO_ROOM = 10,  /* there is no room for a frame, or for the messages; the device was not asked */
     VFDEV_NO_QUEUE = 11, /* there is no transmit queue of that number; the device was not asked */
-    VFDEV_HISTORY_FULL = 12 /* no more calls of this device can be kept; it was not asked, and nothing has changed */
+    VFDEV_HISTORY_FULL = 12 /* the recording of this device is full; it was not asked, and nothing has changed */
 };
 
 /* Why a call is refused, and what the makers answer. */
@@ -104,10 +104,10 @@ enum vfdev_fault {
 
 /* What a replay answers. */
 enum vfdev_replayed {
-    VFDEV_SAME = 0,         /* the other device answered each kept call as it was kept */
-    VFDEV_DIFFERENT = 1,    /* it answered one otherwise */
-    VFDEV_NOT_RECORDED = 2, /* no calls are kept of the first device, or there is none; the other was not asked */
-    VFDEV_NO_OTHER = 3      /* there is no other device, or its own calls are kept; it was not asked */
+    VFDEV_SAME = 0,         /* the other device gave the recorded answer to each recorded call */
+    VFDEV_DIFFERENT = 1,    /* it gave another answer to one of them */
+    VFDEV_NOT_RECORDED = 2, /* there is no first device, or its calls are not recorded; the other was not asked */
+    VFDEV_NO_OTHER = 3      /* there is no other device, or its own calls are recorded; it was not asked */
 };
 
 /* A reply. The value is 0 but for VFDEV_VALUE and VFDEV_REFUSED. */
@@ -131,17 +131,18 @@ uint32_t vfdev_version(void);
 /* Makes a device of `functions` closed virtual functions, each over `memory` zero bytes of the archive's own. Functions are
  * 1 to 64, memory is 4096 to 16777216 and a multiple of 128, frames have up to `limit` bytes, 1518 to 9018.
  * VFDEV_HELD where the vfdev leads to anything, then VFDEV_BAD_MAKE exactly where a number is outside its limits, and
- * VFDEV_NO_MEMORY only where the host refused. The vfdev leads to what it led to wherever the answer is not VFDEV_OK. */
+ * VFDEV_NO_MEMORY only where the host refused. Where the answer is not VFDEV_OK, the vfdev leads to what it led to before. */
 VFDEV_LOOK enum vfdev_fault vfdev_make(vfdev *device, uint32_t functions, uint64_t memory, uint16_t limit);
 
-/* Makes a device as vfdev_make does, whose calls are kept from the first on, `calls` at most, 1 to VFDEV_MOST_CALLS. The makers'
+/* Makes a device as vfdev_make does, whose calls are recorded from the first on, `calls` at most, 1 to VFDEV_MOST_CALLS. The makers'
  * answers are those of vfdev_make; VFDEV_BAD_MAKE also for that number.
  *
  * Room for all calls is taken at once: 9074 bytes for each, of which a call touches 32, the bytes that it brings or reads, and
  * 8 for each vector of its messages. */
 VFDEV_LOOK enum vfdev_fault vfdev_make_recorded(vfdev *device, uint32_t functions, uint64_t memory, uint16_t limit, uint32_t calls);
 
-/* Lends a block, whose first byte is at the address, as the memory of the next virtual function: vfdev_lend, by number. */
+/* Lends a block, whose first byte is at the address, as the memory of the next virtual function. vfdev_lend calls
+ * it with the address of the block. */
 VFDEV_LOOK enum vfdev_fault vfdev_lend_at(vfdev *device, vfdev_block block, uint64_t address);
 
 /* Lends a block as the memory of the next virtual function of a device that is to be made; its first byte is at address 0 of
@@ -172,8 +173,8 @@ void vfdev_free(vfdev *device);
  * Each call gives one event to the device and answers its reply. A call whose reply is VFDEV_REFUSED has changed nothing.
  *
  * Messages: messages[p] has bit v set where the call issued the interrupt of vector v, 0 to 2, of function p, for p below 64.
- * Whatever is replied they are those of this call, so zeros where none was issued, but for VFDEV_NO_ROOM because of
- * messages_len, which leaves them alone. The calls without messages issue none.
+ * Whatever the reply is, they are those of this call: zeros where no interrupt was issued. One reply leaves them alone, VFDEV_NO_ROOM
+ * because of messages_len. The calls that have no argument `messages` issue no interrupts.
  *
  * Refusals, the first that fits: VFDEV_NO_ROOM for messages_len below 64; VFDEV_NO_QUEUE; VFDEV_NO_ROOM for a frame;
  * VFDEV_BAD_FRAME of bytes that are no frame, VFDEV_TOO_LONG of bytes to be written; VFDEV_NO_DEVICE; VFDEV_HISTORY_FULL; what
@@ -204,13 +205,13 @@ VFDEV_LOOK vfdev_reply vfdev_mem_read(vfdev *device, uint8_t function, uint64_t 
  * VFDEV_NO_SUCH_VF, VFDEV_NOT_OPEN, VFDEV_BAD_RANGE. */
 VFDEV_LOOK vfdev_reply vfdev_mem_write(vfdev *device, uint8_t function, uint64_t at, const uint8_t *bytes, size_t len);
 
-/* vfdev_serve, where `left` is not NULL. */
+/* As vfdev_serve, but `left` must not be NULL. */
 VFDEV_LOOK vfdev_reply vfdev_serve_frame(vfdev *device, uint8_t function, uint8_t queue, uint8_t *out, size_t out_len, size_t *left,
                                          uint8_t *messages, size_t messages_len);
 
 /* Takes the next descriptor of transmit queue 0 or 1 of a function. A frame that leaves for the wire stands in the first
  * *left bytes of `out`; *left is 0 where none leaves, and then `out` stays. `left` may be NULL where no frame is wanted, as of a device
- * without a wire; `out` is there all the same. `out_len` is at least VFDEV_MOST_FRAME.
+ * without a wire; `out` is needed all the same. `out_len` is at least VFDEV_MOST_FRAME.
  * VFDEV_NO_SUCH_VF, VFDEV_NOT_OPEN; else VFDEV_IDLE, VFDEV_MORE, VFDEV_SENT, VFDEV_DROPPED or VFDEV_FAULTED. */
 VFDEV_LOOK static inline vfdev_reply vfdev_serve(vfdev *device, uint8_t function, uint8_t queue, uint8_t *out, size_t out_len,
                                                  size_t *left, uint8_t *messages, size_t messages_len)
@@ -233,21 +234,22 @@ VFDEV_LOOK vfdev_reply vfdev_pf_reset(vfdev *device);
  * none, before the device is asked, and where it is longer than the device takes. */
 vfdev_reply vfdev_wire(vfdev *device, const uint8_t *frame, size_t len, uint8_t *messages, size_t messages_len);
 
-/* ---- kept calls --------------------------------------------------------------------------------------------------
+/* ---- recording and replay ----------------------------------------------------------------------------------------
  *
- * Of a device of vfdev_make_recorded each event that the device is asked is kept with its answer, also one that it refuses: the
- * reply with its bytes, and the messages of each pool. What is refused before the device is asked is not. A read of more than
- * 65535 bytes is kept as one of 65535, which is refused alike. */
+ * The recording of a device of vfdev_make_recorded has each event that the device is asked, with its answer: the reply with its
+ * bytes, and the messages of each pool. An event that the device refuses is recorded too. One that is refused before the device is
+ * asked is not. A read of more than 65535 bytes is recorded as one of 65535, which is refused in the same way. */
 
-/* How many calls are kept; 0 where none are. */
+/* How many calls are recorded; 0 where none are. */
 size_t vfdev_kept(vfdev *device);
 
-/* Gives `other`, a device whose own calls are not kept, the events of the kept calls in their order, and answers VFDEV_SAME
- * exactly where it answered each as was kept, and else VFDEV_DIFFERENT. VFDEV_NOT_RECORDED, then VFDEV_NO_OTHER. Nothing of
- * `device` changes; `other` is what the events make of it.
+/* Replays the recording of `device`: gives `other`, a device whose own calls are not recorded, the recorded events in their order.
+ * Answers VFDEV_SAME exactly where `other` gave each recorded answer, and else VFDEV_DIFFERENT. But it answers VFDEV_NOT_RECORDED
+ * where the calls of `device` are not recorded, and then VFDEV_NO_OTHER where there is no such `other`. Nothing of `device` changes;
+ * `other` is what the events make of it.
  *
- * VFDEV_SAME is certain of an `other` that vfdev_make or vfdev_make_lent just made, with as many functions, memories of the
- * same sizes and the same limit; it is then as `device` is. Takes no memory, and some 40 KB of stack. */
+ * VFDEV_SAME is certain where vfdev_make or vfdev_make_lent just made `other`, with as many functions, memories of the same sizes
+ * and the same limit; it is then as `device` is. A replay takes no memory, and some 40 KB of stack. */
 VFDEV_LOOK enum vfdev_replayed vfdev_replay(vfdev *device, vfdev *other);
 
 /* ---- texts ------------------------------------------------------------------------------------------------------- */

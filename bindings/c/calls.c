@@ -1,5 +1,5 @@
 /* The calls of vfdev.h, by numbers worked out by hand: makers and freeing, refusals in their order, frames that come and leave,
- * kept calls and their replay. It writes nothing, and ends with 0, where all is as it should be. */
+ * recordings and their replay. It writes nothing, and ends with 0, where all is as it should be. */
 #include "vfdev.h"
 
 #include <stdio.h>
@@ -280,7 +280,7 @@ static void frames(vfdev *device)
     REPLY(vfdev_serve(device, 1, 0, out, sizeof out, &left, messages, 64), VFDEV_SENT, 0);
 }
 
-/* A device of functions over 65,536 bytes each, whose calls are not kept. */
+/* A device of functions over 65,536 bytes each, whose calls are not recorded. */
 static vfdev other(uint32_t functions)
 {
     vfdev device = VFDEV_NONE;
@@ -329,7 +329,7 @@ static void finds_planted_differences(void)
     /* a third function changes no answer */
     vfdev large = other(3);
     EQUAL(vfdev_replay(&device, &large), VFDEV_SAME);
-    /* there is no other device, and no calls are kept of that one */
+    /* there is no other device, and that one has no recording */
     EQUAL(vfdev_replay(&device, &none), VFDEV_NO_OTHER);
     EQUAL(vfdev_replay(&none, &large), VFDEV_NOT_RECORDED);
     EQUAL(vfdev_replay(&large, &small), VFDEV_NOT_RECORDED);

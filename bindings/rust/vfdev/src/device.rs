@@ -5,8 +5,8 @@ use crate::raw;
 
 /// A device. Calls take `&mut self`, so that one is made at a time; [`SharedDevice`](crate::SharedDevice) has a lock.
 ///
-/// Functions are numbers from 0 to 255, of which those that the device does not have are refused. A device of
-/// [`Device::recorded`] keeps its calls, and refuses each event as [`Fault::HistoryFull`] once no more can be kept.
+/// A function is named by a number from 0 to 255; one that the device does not have is refused. The calls of a device of
+/// [`Device::recorded`] are recorded. Once the recording is full, each event is refused as [`Fault::HistoryFull`].
 ///
 /// ```
 /// use vfdev::{regs, Device, Fault};
@@ -52,7 +52,8 @@ impl Device<'static> {
         made(answer).map(|()| device)
     }
 
-    /// The same, of which each event that it is asked is kept with its answer, from the first on, `calls` at most.
+    /// The same, with a recording: each event that the device is asked is recorded with its answer, from the first on, `calls` at
+    /// most.
     ///
     /// # Errors
     /// As [`Device::new`]; [`Fault::BadMake`] also where `calls` is not 1 to 65536.
@@ -84,8 +85,8 @@ impl Device<'static> {
 
 impl<'m> Device<'m> {
     /// A device of closed functions, each over one of the blocks. Nobody else reaches the blocks while the device is there;
-    /// [`open`](Device::open) writes zeros over all of one. That each is a `&mut` keeps two functions from sharing memory: no block
-    /// can be given twice, nor overlap another.
+    /// [`open`](Device::open) writes zeros over the whole block of its function. Each block is a `&mut`, so no block can be given
+    /// twice or overlap another, and no two functions share memory.
     ///
     /// ```compile_fail,E0499
     /// let mut memory = vec![0u8; 4096];
@@ -169,8 +170,8 @@ impl<'m> Device<'m> {
         value(unsafe { raw::vfdev_vf_read(&mut self.handle, function, offset) })
     }
 
-    /// Writes a register of a function, and answers the messages that this issues. A write to a tail of a transmit queue
-    /// serves nothing: [`serve`](Device::serve) does.
+    /// Writes a register of a function, and answers the messages that this issues. A write to the tail of a transmit queue
+    /// doesn't serve the queue: call [`serve`](Device::serve) for that.
     ///
     /// # Errors
     /// As [`vf_read`](Device::vf_read).
@@ -183,7 +184,7 @@ impl<'m> Device<'m> {
         Ok(messages)
     }
 
-    /// Fills `out` with bytes of a function's memory; where it is refused, `out` stays.
+    /// Fills `out` with bytes of a function's memory, from the address `at` on. Where this is refused, `out` stays as it was.
     ///
     /// # Errors
     /// [`Fault::NoSuchVf`], [`Fault::NotOpen`], [`Fault::TooLong`], [`Fault::BadRange`].
@@ -194,7 +195,7 @@ impl<'m> Device<'m> {
         bytes(unsafe { raw::vfdev_mem_read(&mut self.handle, function, at, start, len) })
     }
 
-    /// Writes bytes of a function's memory.
+    /// Writes bytes of a function's memory, from the address `at` on.
     ///
     /// # Errors
     /// [`Fault::TooLong`], [`Fault::NoSuchVf`], [`Fault::NotOpen`], [`Fault::BadRange`].
@@ -265,10 +266,10 @@ impl<'m> Device<'m> {
         done(unsafe { raw::vfdev_pf_reset(&mut self.handle) })
     }
 
-    /// A frame comes from the wire; the messages that this issues.
+    /// A frame comes from the wire. Answers the messages that this issues.
     ///
     /// # Errors
-    /// [`Fault::BadFrame`] where the bytes are none, or more than the device takes.
+    /// [`Fault::BadFrame`] where the bytes are no frame, or the frame is longer than the device takes.
     #[inline]
     pub fn wire(&mut self, frame: &[u8]) -> Result<Messages, Fault> {
         let mut messages = Messages::NONE;
@@ -279,15 +280,15 @@ impl<'m> Device<'m> {
         Ok(messages)
     }
 
-    /// How many calls are kept; 0 of a device that keeps none.
+    /// How many calls are recorded; 0 of a device that records none.
     pub fn kept(&mut self) -> usize {
         // SAFETY: the reference leads to one live value, which only this device holds.
         unsafe { raw::vfdev_kept(&mut self.handle) }
     }
 
-    /// Gives another device the events of the kept calls in their order, and tells whether it answers each as was kept: the
-    /// reply with its bytes, and all messages. A device that was just made, with as many functions, memories of the same
-    /// sizes and the same limit, does, and is then as this one is.
+    /// Replays the recording on another device: gives it the recorded events in their order, and tells whether it gives each
+    /// recorded answer, that is the reply with its bytes, and all messages. A device that was just made, with as many functions,
+    /// memories of the same sizes and the same limit, does, and is then as this one is.
     ///
     /// ```
     /// use vfdev::{Device, Fault, Replayed};

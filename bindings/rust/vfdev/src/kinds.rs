@@ -68,7 +68,7 @@ pub enum Fault {
     /// A block overlaps one that was lent for the same device. Blocks that are borrowed, as [`Device::over`](crate::Device::over) takes
     /// them, never do.
     Overlaps,
-    /// No more calls of this device can be kept.
+    /// The recording of this device is full.
     HistoryFull,
     /// The archive has another version than this crate.
     Version,
@@ -184,9 +184,9 @@ pub enum Queue {
 pub enum Served {
     /// No descriptor was taken: the pool may not transmit, or the queue is off or empty.
     Idle,
-    /// A descriptor was taken, and its frame goes on.
+    /// A descriptor was taken. Its frame continues in the next one, or it is a context descriptor.
     More,
-    /// A frame was sent. So many bytes of it left for the wire, or none where it went to other functions alone.
+    /// A frame was sent. `Some` is the length of the frame that left for the wire; `None` where it went to other functions alone.
     Sent(Option<usize>),
     /// A frame was dropped: it is overlong or no frame, or its pool's settings do not permit it.
     Dropped,
@@ -197,12 +197,12 @@ pub enum Served {
 /// What a replay tells of another device.
 #[derive(Clone, Copy, Debug, PartialEq, Eq)]
 pub enum Replayed {
-    /// It answered each kept call as it was kept.
+    /// It gave the recorded answer to each recorded call.
     Same,
-    /// It answered one otherwise.
+    /// It gave another answer to one of them.
     Different,
-    /// No calls are kept of the first device; the other was not asked.
+    /// The first device has no recording; the other was not asked.
     NotRecorded,
-    /// The other device's own calls are kept; it was not asked.
+    /// The other device's own calls are recorded; it was not asked.
     NoOther,
 }

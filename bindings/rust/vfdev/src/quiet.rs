@@ -3,10 +3,10 @@
 use crate::device::Device;
 use crate::kinds::{Fault, Replayed};
 
-/// A device, for the calls that issue no messages: [`SharedDevice::with`](crate::SharedDevice::with) lends it. Those that may
-/// issue some aren't here, so that no message is lost.
+/// A device, for the calls that issue no messages: [`SharedDevice::with`](crate::SharedDevice::with) lends it. Calls that may
+/// issue messages aren't here, so that no message is lost.
 ///
-/// Each method does what the one of the same name does of [`Device`], and is refused as that one is.
+/// Each method does what the method of the same name of [`Device`] does, and is refused as that one is.
 #[derive(Debug)]
 pub struct Quiet<'a, 'm>(&'a mut Device<'m>);
 
@@ -87,13 +87,13 @@ impl<'a, 'm> Quiet<'a, 'm> {
         self.0.pf_reset()
     }
 
-    /// How many calls are kept; 0 of a device that keeps none.
+    /// How many calls are recorded; 0 of a device that records none.
     pub fn kept(&mut self) -> usize {
         self.0.kept()
     }
 
-    /// Gives another device the events of the kept calls, and tells whether it answers each as was kept: [`Device::replay`]. The
-    /// other device belongs to the caller, and its messages are compared and go nowhere.
+    /// Replays the recording on another device, and tells whether it gives each recorded answer: [`Device::replay`]. The other
+    /// device belongs to the caller. Its messages are compared, and aren't passed on.
     pub fn replay(&mut self, other: &mut Device<'_>) -> Replayed {
         self.0.replay(other)
     }

@@ -1,4 +1,5 @@
-//! The functions of the archive, as `include/vfdev.h` declares them. Nothing compares these declarations with the archive's.
+//! The functions of the archive, as `include/vfdev.h` declares them. No tool compares these declarations with the archive: they are read
+//! and tested.
 
 /// What C holds of a device.
 #[repr(C)]

@@ -8,7 +8,8 @@ use std::sync::{Arc, Mutex, MutexGuard, PoisonError};
 
 /// Where interrupt messages go: the write of an event descriptor, or an injection into a guest.
 ///
-/// It is called after the lock is let go, so it may call the device. Threads whose calls issue messages call it at once.
+/// It is called after the lock is let go, so it may call the device. Several threads may call it at the same time, each whose calls
+/// issue messages.
 pub trait Interrupt: Send + Sync {
     /// Vector `vector`, 0 to 2, of the virtual function of a pool.
     fn trigger(&self, pool: Pool, vector: u8);
@@ -16,8 +17,8 @@ pub trait Interrupt: Send + Sync {
 
 /// Where frames go that left for the wire: a tap, or a socket.
 ///
-/// It is called after the lock is let go, so it may call the device. Threads that pump call it at once: frames of one queue come in
-/// their order where one thread at a time pumps that queue.
+/// It is called after the lock is let go, so it may call the device. Threads that pump may call it at the same time. The frames of one
+/// queue come in their order where one thread at a time pumps that queue.
 pub trait Frames: Send + Sync {
     /// One frame, without FCS.
     fn send(&self, frame: &[u8]);
@@ -95,10 +96,10 @@ impl<'m, I: Interrupt, F: Frames> SharedDevice<'m, I, F> {
         }
     }
 
-    /// Calls that issue no messages, under the lock: `call` may not call this shared device, and waits forever where it does.
+    /// Calls that issue no messages, under the lock. `call` may not call this shared device: it would wait forever.
     ///
-    /// The calls that may issue messages, as [`Device::vf_write`], can't be reached here: [`write`](SharedDevice::write),
-    /// [`receive`](SharedDevice::receive) and [`pump`](SharedDevice::pump) tell their messages.
+    /// The calls that may issue messages, as [`Device::vf_write`], can't be reached here. Use [`write`](SharedDevice::write),
+    /// [`receive`](SharedDevice::receive) and [`pump`](SharedDevice::pump), which pass their messages to the [`Interrupt`].
     ///
     /// ```compile_fail,E0599
     /// # use vfdev::{Frames, Interrupt, SharedDevice};
@@ -117,7 +118,7 @@ impl<'m, I: Interrupt, F: Frames> SharedDevice<'m, I, F> {
         call(Quiet::of(&mut self.lock().device))
     }
 
-    /// Writes a register of a function; messages are told.
+    /// Writes a register of a function. Its messages go to the [`Interrupt`].
     ///
     /// # Errors
     /// As [`Device::vf_write`].
@@ -127,7 +128,7 @@ impl<'m, I: Interrupt, F: Frames> SharedDevice<'m, I, F> {
         Ok(())
     }
 
-    /// A frame comes from the tap; messages are told.
+    /// A frame comes from the tap. Its messages go to the [`Interrupt`].
     ///
     /// # Errors
     /// As [`Device::wire`].
@@ -137,8 +138,8 @@ impl<'m, I: Interrupt, F: Frames> SharedDevice<'m, I, F> {
         Ok(())
     }
 
-    /// Serves a transmit queue until it is idle or off, or `most` descriptors were taken; messages are told, and frames that
-    /// leave are sent. It answers how many descriptors were taken. The lock is taken anew for each.
+    /// Serves a transmit queue until it is idle or off, or `most` descriptors were taken. Messages go to the [`Interrupt`], and
+    /// frames that leave for the wire to [`Frames`]. Answers how many descriptors were taken. The lock is taken anew for each.
     ///
     /// # Errors
     /// As [`Device::serve`].
@@ -186,13 +187,14 @@ impl<'m, I: Interrupt, F: Frames> SharedDevice<'m, I, F> {
 /// The register space of a virtual function (its BAR 0), as a bus of rust-vmm calls a device: `base` is where the space
 /// begins in the guest's addresses, and `offset` is within it.
 ///
-/// Accesses have 4 bytes. On a bus nothing can be refused: one that is reads all ones, and writes nothing.
+/// Accesses have 4 bytes. A bus can't report a refusal. So a read that is refused gives all ones, and a write that is refused does
+/// nothing.
 pub struct MmioBar<'m, I, F> {
     device: SharedDevice<'m, I, F>,
     function: u8,
 }
 
-/// Tails of the two transmit queues: a write hands descriptors over.
+/// Tails of the two transmit queues: a write hands descriptors to the device.
 const TAILS: [(u32, Queue); 2] = [(regs::tdt(0), Queue::Q0), (regs::tdt(1), Queue::Q1)];
 /// How many descriptors a ring may have: a write of a tail serves no more.
 const MOST_DESCRIPTORS: u32 = 4096;

@@ -1,5 +1,5 @@
 //! 200 scripts by chance: what this crate answers, written as `vfdev run` writes it, is that program's output byte for byte. A
-//! device whose calls are kept answers the same, and these calls replay.
+//! device whose calls are recorded answers the same, and the recording replays.
 //!
 //! `VFDEV_PROGRAM` names the program; where it is unset it is the one that is built in this repository. The comparison fails where there
 //! is none.

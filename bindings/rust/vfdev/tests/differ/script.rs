@@ -20,8 +20,8 @@ pub fn run(text: &str) -> String {
     through(device, text).0
 }
 
-/// The same by a device whose calls are kept, which replay on one as it is made; once they are behind
-/// that one too, they replay no more.
+/// The same by a device whose calls are recorded. The recording replays on a device as it is made. After that it doesn't replay on
+/// the same device once more.
 pub fn run_recorded(text: &str) -> String {
     let (functions, memory, limit) = asked(text);
     let calls = text.lines().count() as u32;

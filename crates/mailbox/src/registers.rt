@@ -31,5 +31,3 @@ pub const CTS: u32 = 0x2000_0000;
 pub const NACK: u32 = 0x4000_0000;
 /// Bit ACK of word 0: the message is granted.
 pub const ACK: u32 = 0x8000_0000;
-/// How many types of messages there are.
-pub const TYPES: u32 = 0x1_0000;

@@ -8,12 +8,16 @@ use crate::words::{bytes_of, bytes_of_two, word_of, words_of};
 /// A memory that others write too, by a device's accesses to it. An access lies inside the memory, and no call takes memory of
 /// the host. The number of bytes never changes.
 ///
-/// Each call adds itself to the trace and nothing else. The accesses of words are one access each, with bodies over those of
-/// bytes, which may be written anew for a memory that has a shorter way to a word.
+/// Each call adds itself to the trace and nothing else. An access of words is one access. The accesses of words have bodies here,
+/// over those of bytes, which may be written anew for a memory that has a shorter way to a word.
+///
+/// `loan` names the reference that a memory keeps, where it works on a memory that it was lent. No call exchanges that reference,
+/// so whoever lent the memory knows afterwards what was done with it.
 pub trait Dma: Drop {
     ghost extent: { Self → ℕ };
 
     ghost trace: { Self → List Access };
+    ghost loan: { Self → ℕ };
 
     /// The number of bytes.
     fn size(&self) -> u64
@@ -24,13 +28,15 @@ pub trait Dma: Drop {
         requires { addr + length out.old ≤ extent self.old }
         ensures traced { trace self.new ≡ trace self.old ++ Read addr out.new ∷ [] }
         ensures len { length out.new ≡ length out.old }
-        ensures size { extent self.new ≡ extent self.old };
+        ensures size { extent self.new ≡ extent self.old }
+        ensures loan { loan self.new ≡ loan self.old };
 
     /// Writes `source` over the bytes from `addr` on.
     fn write_at(&mut self, addr: u64, source: &[u8])
         requires { addr + length source.now ≤ extent self.old }
         ensures traced { trace self.new ≡ trace self.old ++ Wrote addr source.now ∷ [] }
-        ensures size { extent self.new ≡ extent self.old };
+        ensures size { extent self.new ≡ extent self.old }
+        ensures loan { loan self.new ≡ loan self.old };
 
     /// The word at `addr`, lowest byte first.
     #[inline]
@@ -38,6 +44,7 @@ pub trait Dma: Drop {
         requires { addr + 8 ≤ extent self.old }
         ensures traced { trace self.new ≡ trace self.old ++ Read addr (word_bytes result) ∷ [] }
         ensures size { extent self.new ≡ extent self.old }
+        ensures loan { loan self.new ≡ loan self.old }
     {
         let mut word = [0u8; 8];
         self.read_at(addr, &mut word);
@@ -51,6 +58,7 @@ pub trait Dma: Drop {
         ensures traced { trace self.new
             ≡ trace self.old ++ Read addr (two_words result.0 result.1) ∷ [] }
         ensures size { extent self.new ≡ extent self.old }
+        ensures loan { loan self.new ≡ loan self.old }
     {
         let mut words = [0u8; 16];
         self.read_at(addr, &mut words);
@@ -63,6 +71,7 @@ pub trait Dma: Drop {
         requires { addr + 8 ≤ extent self.old }
         ensures traced { trace self.new ≡ trace self.old ++ Wrote addr (word_bytes word) ∷ [] }
         ensures size { extent self.new ≡ extent self.old }
+        ensures loan { loan self.new ≡ loan self.old }
     {
         self.write_at(addr, &bytes_of(word));
     }
@@ -74,6 +83,7 @@ pub trait Dma: Drop {
         ensures traced { trace self.new
             ≡ trace self.old ++ Wrote addr (two_words low high) ∷ [] }
         ensures size { extent self.new ≡ extent self.old }
+        ensures loan { loan self.new ≡ loan self.old }
     {
         self.write_at(addr, &bytes_of_two(low, high));
     }
@@ -82,5 +92,6 @@ pub trait Dma: Drop {
     fn clear(&mut self)
         ensures traced { trace self.new
             ≡ trace self.old ++ Wrote 0 (replicate (extent self.old) 0) ∷ [] }
-        ensures size { extent self.new ≡ extent self.old };
+        ensures size { extent self.new ≡ extent self.old }
+        ensures loan { loan self.new ≡ loan self.old };
 }

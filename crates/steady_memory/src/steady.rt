@@ -1,5 +1,5 @@
 //! A memory that nobody else writes, as a memory that others may write.
-ghost use Rattle.std.specs.Prelude.{◌≡◌, List, ℕ, ◌∷◌, length};
+ghost use Rattle.std.specs.Prelude.{◌≡◌, List, ℕ, [], ◌∷◌, length};
 ghost use Rattle.live_memory.specs.Trace.{Answered, Wrote, left};
 ghost use Rattle.steady_memory.specs.Calm.{IsCalm, begun_calm};
 ghost use Rattle.steady_memory.specs.Stored.{answered_prop};
@@ -17,43 +17,40 @@ pub trait Calm: Dma {
     ghost calm: { (s : Self) → IsCalm (Self.Dma.trace s) (bytes s) (Self.Dma.extent s) };
 }
 
-/// A memory, with what was done with it since. Its trace begins with all bytes that it had then, as if they were written.
+/// A memory that is lent, with what was done with it since. Its trace begins with all bytes that it had then, as if they were
+/// written.
 #[derive(Drop)]
-pub struct Steady<M: GuestMem> {
-    memory: M,
+pub struct Steady<'a, M: GuestMem> {
+    memory: &'a mut M,
     first: Shadow<M>,
     done: Trace,
-    ghost answered: { Answered done.accesses (M.bytes first.value) } by { answered_prop done.accesses (M.bytes first.value) },
-    ghost written: { M.bytes memory ≡ left done.accesses (M.bytes first.value) },
+    ghost answered: { Answered done.accesses (M.bytes first.value) }
+        by { answered_prop done.accesses (M.bytes first.value) },
+    ghost written: { M.bytes memory.now ≡ left done.accesses (M.bytes first.value) },
 }
 
-impl<M: GuestMem> Steady<M> {
+impl<'a, M: GuestMem> Steady<'a, M> {
     /// A memory with which nothing was done yet.
     #[inline]
-    pub fn new(memory: M) -> Steady<M>
-        ensures memory { result.memory ≡ memory }
+    pub fn new(memory: &'a mut M) -> Steady<'a, M>
+        ensures loan { result.memory.ghost_name ≡ memory.entry.ghost_name }
+        ensures memory { result.memory.now ≡ memory.old }
+        ensures done { result.done.accesses ≡ [] }
     {
-        let first = Shadow::of(&memory);
+        let first = Shadow::of(memory);
         Steady {
             memory,
             first,
             done: Step::Begin.trace(),
         }
     }
-
-    /// The memory, as it was left.
-    #[inline]
-    pub fn into_memory(self) -> M
-        ensures { result ≡ self.memory }
-    {
-        self.memory
-    }
 }
 
-impl<M: GuestMem> Dma for Steady<M> {
-    ghost extent = { λ s. length (M.bytes s.memory) };
+impl<M: GuestMem> Dma for Steady<'_, M> {
+    ghost extent = { λ s. length (M.bytes s.memory.now) };
 
     ghost trace = { λ s. Wrote 0 (M.bytes s.first.value) ∷ s.done.accesses };
+    ghost loan = { λ s. s.memory.ghost_name };
 
     #[inline]
     fn size(&self) -> u64 {
@@ -78,9 +75,10 @@ impl<M: GuestMem> Dma for Steady<M> {
     }
 }
 
-impl<M: GuestMem> Calm for Steady<M> {
-    ghost bytes = { λ s. M.bytes s.memory };
+impl<M: GuestMem> Calm for Steady<'_, M> {
+    ghost bytes = { λ s. M.bytes s.memory.now };
 
     ghost calm = { λ s.
-        begun_calm s.done.accesses (M.bytes s.first.value) (M.bytes s.memory) s.answered s.written };
+        begun_calm s.done.accesses (M.bytes s.first.value) (M.bytes s.memory.now) s.answered
+        s.written };
 }

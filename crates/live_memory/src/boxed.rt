@@ -9,6 +9,7 @@ impl Dma for Box<dyn Dma + Send> {
     ghost extent = { λ b. (Dma-box b).extent b.value };
 
     ghost trace = { λ b. (Dma-box b).trace b.value };
+
     ghost loan = { λ b. (Dma-box b).loan b.value };
 
     fn size(&self) -> u64 {

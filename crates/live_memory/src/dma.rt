@@ -17,6 +17,7 @@ pub trait Dma: Drop {
     ghost extent: { Self → ℕ };
 
     ghost trace: { Self → List Access };
+
     ghost loan: { Self → ℕ };
 
     /// The number of bytes.

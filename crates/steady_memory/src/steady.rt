@@ -24,8 +24,7 @@ pub struct Steady<'a, M: GuestMem> {
     memory: &'a mut M,
     first: Shadow<M>,
     done: Trace,
-    ghost answered: { Answered done.accesses (M.bytes first.value) }
-        by { answered_prop done.accesses (M.bytes first.value) },
+    ghost answered: { Answered done.accesses (M.bytes first.value) } by { answered_prop done.accesses (M.bytes first.value) },
     ghost written: { M.bytes memory.now ≡ left done.accesses (M.bytes first.value) },
 }
 
@@ -50,6 +49,7 @@ impl<M: GuestMem> Dma for Steady<'_, M> {
     ghost extent = { λ s. length (M.bytes s.memory.now) };
 
     ghost trace = { λ s. Wrote 0 (M.bytes s.first.value) ∷ s.done.accesses };
+
     ghost loan = { λ s. s.memory.ghost_name };
 
     #[inline]

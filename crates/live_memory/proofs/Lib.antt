@@ -1,0 +1,3 @@
+pub mod Accesses
+mod Before
+mod WordBytes

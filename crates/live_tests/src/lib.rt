@@ -1,0 +1,14 @@
+//! Tests of memories that others write too, and of those that nobody else writes.
+//!
+//! Contracts alone see a trace, so it can't be printed and compared. Here functions have the accesses that they make in their
+//! contracts, written by hand, and the definitions are tried on traces written by hand.
+#![tactic(auto)]
+
+#[cfg(test)]
+mod by_hand;
+#[cfg(test)]
+mod compare;
+#[cfg(test)]
+mod restless;
+#[cfg(test)]
+mod steady;

@@ -1,0 +1,3 @@
+pub mod Calm
+pub mod Steps
+pub mod Stored

@@ -5,7 +5,7 @@
 //! |---|---|---|
 //! | [`Command`], [`Mode`] | what the words of a command line ask for | `modes` |
 //! | [`drive`] | reads a script, gives its events to a device by one thread, and writes the text of a mode | `modes` |
-//! | [`drive_threads`] | reads a script, has its events done by a thread for each guest, and writes what was kept of them | `thread_mode` |
+//! | [`drive_threads`] | reads a script, has its events done by a thread for each guest, and writes what was kept of them | `modes` |
 //! | [`Fault`], [`status`] | why a script was not done, and the status that a program ends with then | `modes` |
 //! | [`Script`] | a script, which [`Script::read`] reads and checks whole | `script` |
 //! | [`prepare`] | records the events before `go`, and answers the pools that are open there | `workers` |
@@ -18,7 +18,7 @@
 
 pub use modes::drive::drive;
 pub use modes::status::status;
+pub use modes::threads::drive_threads;
 pub use modes::{Command, Fault, Mode};
 pub use script::Script;
-pub use thread_mode::threads::drive_threads;
 pub use workers::{Ended, Gate, OpenGate, prepare, run_workers, sweep};

@@ -1,3 +1,5 @@
 pub mod Faults
 pub mod Isolation
 pub mod Program
+pub mod Report
+pub mod Room

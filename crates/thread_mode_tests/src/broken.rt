@@ -1,13 +1,13 @@
 //! Readers and writers that break at a call, under threads.
 use super::played::{SCRIPT, run_threads};
 use modes::Fault;
+use modes::threads::drive_threads;
 use script_support::broken::{Parts, Taken, calls_of};
 use script_support::short::long_script;
 use std::process::Abort;
 use std::sync::Wait;
 use std::test::Fail;
 use std::thread::Threads;
-use thread_mode::threads::drive_threads;
 
 // Whether a call among these fails, and what is told then.
 fn told(fails_at: usize, calls: usize) -> (bool, Result<(), Fault>) {

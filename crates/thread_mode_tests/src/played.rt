@@ -1,8 +1,8 @@
 //! Runs of a script by threads.
 use modes::Fault;
+use modes::threads::drive_threads;
 use std::sync::Wait;
 use std::thread::Threads;
-use thread_mode::threads::drive_threads;
 
 /// What a script gives and writes.
 pub fn run_threads<R: Threads + Wait + Copy + Send + AllocGlobal + 'static>(

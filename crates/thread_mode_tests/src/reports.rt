@@ -5,12 +5,12 @@ use device::{Device, Event};
 use device_lock::{Recorded, Share, Shares};
 use guest_memory::{FlatMem, GuestMem};
 use lock_support::{frame_to_3, line_of, recorded};
+use modes::report::write_report;
 use std::alloc::Global;
 use std::marker::Brand;
 use std::sync::ledger::{Blank, Ledger};
 use std::test::Fail;
 use test_support::memories;
-use thread_mode::report::write_report;
 
 // The report where the other device gives the kept answers.
 const SAME: &str =

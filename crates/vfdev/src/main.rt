@@ -1,8 +1,8 @@
 //! The program `vfdev`: reads a script of events on standard input, gives them to a device, and writes its answers on
 //! standard output.
 //!
-//! The words of the command line say in which mode; what the program does then stands in `modes`, and for `threads` in `thread_mode`,
-//! whose calls it has from `host`. Where it fails it writes a line on standard error, and the failure has its status.
+//! The words of the command line say in which mode; what the program does then stands in `modes`, whose calls it has from `host`. Where
+//! it fails it writes a line on standard error, and the failure has its status.
 #![tactic(auto)]
 
 use host::{Command, Fault, drive, drive_threads, status};

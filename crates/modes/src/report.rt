@@ -5,12 +5,12 @@ ghost use Rattle.std.specs.String.{string_bytes};
 ghost use Rattle.transcript.specs.Known.{Began};
 ghost use Rattle.transcript.specs.Lines.{numbered};
 ghost use Rattle.modes.specs.Faults.{is_late};
-ghost use Rattle.thread_mode.specs.Report.{caller_line, caller_name, line_of, number_end, replay_line, report_text, BeganToReport, Reported, Tells};
+ghost use Rattle.modes.specs.Report.{caller_line, caller_name, line_of, number_end, replay_line, report_text, BeganToReport, Reported, Tells};
 
+use crate::fault::Fault;
 use device::Device;
 use device_lock::{CALLERS, Caller, Recorded, Share};
 use guest_memory::GuestMem;
-use modes::Fault;
 use std::alloc::{AllocError, Global};
 use std::io::Write;
 use std::sync::ledger::Ledger;

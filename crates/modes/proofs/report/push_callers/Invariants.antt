@@ -2,8 +2,8 @@
 use Rattle.std.proofs.Common.{◌≡◌, ◌++◌, drop}
 use Rattle.std.specs.String.{string_bytes}
 use Rattle.transcript.specs.Lines.{numbered}
-use Rattle.thread_mode.specs.Report.{line_of}
-use Rattle.thread_mode.proofs.report.push_callers.Given as goal
+use Rattle.modes.specs.Report.{line_of}
+use Rattle.modes.proofs.report.push_callers.Given as goal
 
 abbrev pub invariant-loop-number : goal.invariant-loop-number
 invariant-loop-number l =

@@ -1,6 +1,6 @@
 -- The shares of the others stay.
 use Rattle.std.proofs.Common.{◌≡◌}
-use Rattle.thread_mode.proofs.threads.seat_all.Given as goal
+use Rattle.modes.proofs.threads.seat_all.Given as goal
 
 abbrev pub invariant-loop-port : goal.invariant-loop-port
 invariant-loop-port g l = record {

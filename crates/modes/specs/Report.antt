@@ -10,7 +10,7 @@ use Rattle.recorder.specs.Legal.{calls_of}
 use Rattle.recorder.specs.Held.{Held}
 use Rattle.transcript.specs.Known.{Began}
 use Rattle.transcript.specs.Lines.{numbered}
-use Rattle.thread_mode.specs.declared.report.Report.{Report}
+use Rattle.modes.specs.declared.report.Report.{Report}
 
 -- ---- what is told
 

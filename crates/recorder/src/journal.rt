@@ -11,10 +11,9 @@ ghost use Rattle.history.specs.Entries.{events, given};
 ghost use Rattle.recorder.specs.Callers.{may};
 ghost use Rattle.recorder.specs.Legal.{Legal, calls_of, kept_raises};
 ghost use Rattle.recorder.specs.Held.{Records, Rebased, folded, folded_raises};
-ghost use Rattle.recorder.specs.Last.{last_of};
+ghost use Rattle.shadow.specs.Last.{last_of};
 ghost use Rattle.recorder.specs.Made.{IsFresh, begun};
 
-use crate::asked::Asked;
 use crate::share::CALLERS;
 use device::laws::isolation;
 use device::{Answer, Device, Request, Response, Span};
@@ -22,6 +21,7 @@ use guest_memory::GuestMem;
 use history::{Caller, History};
 use irq_causes::Messages;
 use irq_line::DeviceSeat;
+use shadow::Asked;
 use std::marker::Model;
 use wire_frame::FrameBuf;
 

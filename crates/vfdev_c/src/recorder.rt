@@ -148,6 +148,7 @@ impl Recorder {
 
     /// The same, of a service of a transmit queue. A frame that leaves for the wire is laid into the first bytes of `out`, and
     /// `left` is its length, and else 0.
+    #[tactic(auto, using(crate::proofs::HandleLemmas::isolated_of))]
     pub fn serve(
         &mut self,
         function: u8,

@@ -5,7 +5,7 @@ use Rattle.std.specs.Int.{bit_at}
 use Rattle.irq_line.specs.Line.{raised}
 use Rattle.device.specs.declared.event.Answer.{Answer}
 use Rattle.device.specs.Request.{event_of}
-use Rattle.device.specs.World.{step, fresh, sizes_of}
+use Rattle.device.specs.World.{step, fresh}
 use Rattle.device.proofs.Shape.{step_shape}
 use Rattle.history.specs.Entries.{Entry, entry}
 use Rattle.history.specs.Recording.{Logged, made_like}

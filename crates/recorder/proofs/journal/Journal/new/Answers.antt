@@ -1,5 +1,5 @@
 -- The base is the device as it is, and nothing is kept or raised.
-use Rattle.std.proofs.Common.{arith, ◌≡◌, ◌≤◌, sym, ap, subst}
+use Rattle.std.proofs.Common.{arith, ◌≡◌, ◌≤◌, sym, subst}
 use Rattle.history.specs.Recording.{Logged, made_like}
 use Rattle.history.proofs.ReplayLemmas.{fresh_again}
 use Rattle.recorder.specs.Legal.{AreAllowed}

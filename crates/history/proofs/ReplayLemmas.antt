@@ -1,5 +1,7 @@
 -- Devices as they are made, one more call, and one call on in those that are kept.
-use Rattle.std.proofs.Common.{◌≡◌, ℕ, ◌+◌, ◌<◌, Bool, true, false, ◌&&◌, List, [], ◌∷◌, ◌++◌, length, map, drop, get_or, refl, sym, ap, ◌∙◌, subst}
+use Rattle.std.proofs.Common.{◌≡◌, ℕ, ◌+◌, ◌<◌, ◌≤◌, Bool, true, false, true≢false, ◌&&◌, List, [], ◌∷◌, ◌++◌, length, map, drop, get_or, refl, sym, ap, ◌∙◌, subst, arith}
+use Rattle.std.specs.Prelude.{is_some, Option, Some, None, IfSome}
+use Rattle.std.specs.Global.{Box}
 use Rattle.std.proofs.Common.{add-one}
 use Rattle.std.proofs.Math.Seq.{drop-cons}
 use Rattle.std.proofs.lemmas.List.{map-append}
@@ -8,8 +10,11 @@ use Rattle.vf_unit.specs.Unit.{Closed, size_of}
 use Rattle.device.specs.Events.{Event}
 use Rattle.device.specs.World.{World, step, fresh, sizes_of, answers, world_after}
 use Rattle.device.proofs.Append.{answers_append, world_after_append}
+use Rattle.device.proofs.Shape.{step_shape}
 use Rattle.history.specs.declared.caller.Caller.{Caller}
 use Rattle.history.specs.Entries.{Entry, entry, events, given, Leads}
+use Rattle.history.specs.Fields.{base_of, logged}
+use Rattle.history.specs.Recording.{made_like, keeping}
 
 -- ---- devices as they are made
 
@@ -42,6 +47,56 @@ leads_more base calls live c e l = record {
   where
     call : Entry
     call = entry c e (step live e).answer
+
+-- ---- the base
+
+-- a device without a twin has the same base after a step, which changes neither limit nor sizes
+pub base_kept : (twin : Option (Box World)) (live lent new : World) (e : Event) → lent ≡ live → new ≡ (step lent e).world → sizes_of new ≡ sizes_of lent
+    → base_of twin new ≡ base_of twin live
+base_kept None live lent new e same world sizes = let limit : new.limit ≡ live.limit = ap (λ (w : World). w.limit) world ∙ (step_shape lent e).limit ∙ ap (λ (w : World). w.limit) same in
+    let long : sizes_of new ≡ sizes_of live = sizes ∙ ap sizes_of same in λ i. fresh (limit i) (long i)
+base_kept (Some twin) live lent new e same world sizes = refl
+
+pub base_first : (twin : Option (Box World)) (w : World) → w ≡ made_like w → IfSome twin (λ t. t.value ≡ w) → base_of twin w ≡ w
+base_first None w made same = sym made
+base_first (Some twin) w made same = same
+
+pub base_made : (twin : Option (Box World)) (w : World) → is_some twin ≡ false → base_of twin w ≡ made_like w
+base_made None w none = refl
+base_made (Some twin) w none = absurd (true≢false none)
+
+-- one more call that is kept, by whatever names: the device is the one that its box lends
+pub leads_on : (twin : Option (Box World)) (live lent new : World) (calls more : List Entry) (c : Caller) (e : Event) → Leads (base_of twin live) calls live
+    → lent ≡ live → new ≡ (step lent e).world → sizes_of new ≡ sizes_of lent → more ≡ calls ++ entry c e (step lent e).answer ∷ []
+    → Leads (base_of twin new) more new
+leads_on twin live lent new calls more c e l same world sizes entries =
+    let base = base_kept twin live lent new e same world sizes in
+    let kept : more ≡ calls ++ entry c e (step live e).answer ∷ [] = entries ∙ ap (λ (w : World). calls ++ entry c e (step w e).answer ∷ []) same in
+    let now : new ≡ (step live e).world = world ∙ ap (λ (w : World). (step w e).world) same in
+    subst (λ (b : World). Leads b more new) (sym base)
+    (subst (λ (xs : List Entry). Leads (base_of twin live) xs new) (sym kept)
+    (subst (λ (w : World). Leads (base_of twin live) (calls ++ entry c e (step live e).answer ∷ []) w) (sym now) (leads_more (base_of twin live) calls live c e l)))
+
+-- and what contracts see of it
+pub logged_on : (twin : Option (Box World)) (live lent new : World) (calls more : List Entry) (cap after : ℕ) (c : Caller) (e : Event)
+    → lent ≡ live → new ≡ (step lent e).world → sizes_of new ≡ sizes_of lent → more ≡ calls ++ entry c e (step lent e).answer ∷ [] → after ≡ cap
+    → logged twin new more after ≡ keeping (logged twin live calls cap) c e
+logged_on twin live lent new calls more cap after c e same world sizes entries room = λ i. record {
+  base = base_kept twin live lent new e same world sizes i;
+  kept = (entries ∙ ap (λ (w : World). calls ++ entry c e (step w e).answer ∷ []) same) i;
+  live = (world ∙ ap (λ (w : World). (step w e).world) same) i;
+  cap = room i;
+  has_twin = is_some twin;
+}
+
+-- ---- the number of functions
+
+after_shape : (w : World) (es : List Event) → length (world_after w es).functions ≡ length w.functions
+after_shape w [] = refl
+after_shape w (e ∷ es) = after_shape (step w e).world es ∙ (step_shape w e).functions
+
+pub functions_kept : (base live : World) (calls : List Entry) → world_after base (events calls) ≡ live → length live.functions ≤ 64 → length base.functions ≤ 64
+functions_kept base live calls is few = omega (arith, after_shape base (events calls), ap (λ w. length w.functions) is, few)
 
 -- ---- one call on
 

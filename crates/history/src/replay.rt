@@ -1,15 +1,18 @@
 //! Devices that keep their calls, and devices that go through kept ones.
 ghost use Rattle.std.specs.Prelude.{◌≡◌, ◌<◌, ◌++◌, ◌∷◌, [], length, IsTrue, ◌↔◌};
 ghost use Rattle.device.specs.World.{sizes_of, step, answers, world_after};
+ghost use Rattle.device.specs.declared.event.Event.{Event};
+ghost use Rattle.device.specs.Outcome.{messages_or_refused};
 ghost use Rattle.device.specs.Request.{event_of};
 ghost use Rattle.device.specs.Takes.{Takes};
 ghost use Rattle.history.specs.Entries.{entry, entry_at, events, given};
 
 use crate::caller::Caller;
 use crate::history::History;
-use device::{Device, Request, Response};
+use device::{Device, Outcome, Request, Response};
 use guest_memory::GuestMem;
-use wire_frame::FrameBuf;
+use irq_causes::Messages;
+use wire_frame::{Fault, FrameBuf};
 
 /// Room that a replay lays out what it needs in: the frame of an entry, a frame that is sent, and bytes that are read. Nothing
 /// of it is kept.
@@ -57,6 +60,38 @@ impl History {
         let taken = device.take(request, frame);
         self.push(caller, request, device, &taken);
         taken
+    }
+
+    /// The same, of a frame from the wire, which stays where it stands.
+    #[inline]
+    pub fn record_wire<M: GuestMem>(
+        &mut self,
+        caller: Caller,
+        frame: &FrameBuf,
+        device: &mut Device<M>,
+    ) -> Result<Messages, Fault>
+        requires { length self.old.entries < self.old.cap }
+        ensures world { device.new ≡ (step device.old (Event.Wire frame.now)).world }
+        ensures answer { messages_or_refused result
+            ≡ (step device.old (Event.Wire frame.now)).answer }
+        ensures sizes { sizes_of device.new ≡ sizes_of device.old }
+        ensures entries { self.new.entries ≡ self.old.entries
+            ++ entry caller (Event.Wire frame.now) (step device.old (Event.Wire frame.now)).answer ∷ [] }
+        ensures cap { self.new.cap ≡ self.old.cap }
+    {
+        let came = device.wire(frame);
+        let (outcome, messages) = match came {
+            Ok(messages) => (Outcome::Done, messages),
+            Err(fault) => (Outcome::Refused(fault), Messages::none()),
+        };
+        let taken = Response {
+            outcome,
+            messages,
+            sent: None,
+            left: None,
+        };
+        self.push(caller, Request::Wire(frame), device, &taken);
+        came
     }
 
     /// Steps a device by what was asked in a call, counted from the oldest.

@@ -2,17 +2,19 @@
 use Rattle.std.specs.Prelude.{◌≡◌, ℕ, true, ◌==◌, if◌then◌else◌, List, slice_index}
 use Rattle.std.specs.List.{All, sum_by}
 use Rattle.std.specs.Int.{bit_at}
-use Rattle.device.specs.World.{World, answers, world_after}
+use Rattle.device.specs.World.{World}
 use Rattle.history.specs.Callers.{caller_number}
-use Rattle.history.specs.Entries.{Entry, events, given}
+use Rattle.history.specs.Entries.{Entry, Leads}
 use Rattle.recorder.specs.Callers.{may}
 
--- from the base on the calls' events are answered as the calls say and lead to the live world, and each is an event that its
--- caller may make
+-- each call is an event that its caller may make
+abbrev pub AreAllowed : List Entry → Type 0
+AreAllowed calls = All (λ (call : Entry). may call.caller call.event ≡ true) calls
+
+-- the calls lead from the base to the live world, and are allowed
 pub record Legal (base : World) (calls : List Entry) (live : World) : Type 0 where
-  pub answers : answers base (events calls) ≡ given calls
-  pub world : world_after base (events calls) ≡ live
-  pub allowed : All (λ (call : Entry). may call.caller call.event ≡ true) calls
+  pub leads : Leads base calls live
+  pub allowed : AreAllowed calls
 
 -- how many of the calls are the caller's of that number
 abbrev pub calls_of : ℕ → List Entry → ℕ

@@ -11,17 +11,16 @@ ghost use Rattle.history.specs.Entries.{events, given};
 ghost use Rattle.recorder.specs.Callers.{may};
 ghost use Rattle.recorder.specs.Legal.{Legal, calls_of, kept_raises};
 ghost use Rattle.recorder.specs.Held.{Records, Rebased, folded, folded_raises};
-ghost use Rattle.recorder.specs.Last.{last_of};
+ghost use Rattle.shadow.specs.Last.{last_of};
 ghost use Rattle.recorder.specs.Made.{IsFresh, begun};
 
-use crate::asked::Asked;
 use crate::share::CALLERS;
-use device::laws::isolation;
 use device::{Answer, Device, Request, Response, Span};
 use guest_memory::GuestMem;
-use history::{Caller, History};
+use history::{Caller, History, Recording};
 use irq_causes::Messages;
 use irq_line::DeviceSeat;
+use shadow::Asked;
 use std::marker::Model;
 use wire_frame::FrameBuf;
 
@@ -31,12 +30,8 @@ const MOST_FOLDED: u64 = 1 << 62;
 /// A device, the line that its messages go to, and the calls that it took since a base.
 #[derive(Drop)]
 pub struct Journal<M: GuestMem> {
-    // in boxes, so that a journal is small wherever it is moved
-    live: Box<Device<M>>,
-    // the base, where there is one that can be moved
-    twin: Option<Box<Device<M>>>,
+    recording: Recording<M>,
     line: DeviceSeat,
-    history: History,
     // how many calls were folded away, and how many of each caller
     folded: u64,
     tallies: [u64; CALLERS],
@@ -70,10 +65,8 @@ impl<M: GuestMem> Journal<M> {
         ensures begun { result ≡ begun live.value history.cap (is_some twin) line }
     {
         Journal {
-            live,
-            twin,
+            recording: Recording::new(live, twin, history),
             line,
-            history,
             folded: 0,
             tallies: no_calls(),
         }
@@ -94,10 +87,10 @@ impl<M: GuestMem> Journal<M> {
         ensures full { IfNone result (length self.old.kept ≡ self.old.cap) }
         ensures unchanged { IfNone result (self.new ≡ self.old) }
     {
-        if self.history.is_full() {
+        if self.recording.history().is_full() {
             return None;
         }
-        let taken = self.history.record(caller, request, &mut self.live, frame);
+        let taken = self.recording.record(caller, request, frame);
         raise_all(&mut self.line, &taken.messages);
         Some(taken)
     }
@@ -107,7 +100,7 @@ impl<M: GuestMem> Journal<M> {
     pub(crate) fn noted(&self, asked: &Asked) -> Asked
         ensures { result.calls ≡ asked.now.calls ++ last_of self.now.kept ∷ [] }
     {
-        asked.and(&self.history)
+        asked.and(self.recording.history())
     }
 
     /// The answer that a [`Response`] stands for, right after it.
@@ -115,7 +108,7 @@ impl<M: GuestMem> Journal<M> {
     pub fn answer(&self, taken: &Response<'_>) -> Answer
         ensures { result ≡ answer_in self.now.live taken.now }
     {
-        self.live.answer(taken)
+        self.recording.device().answer(taken)
     }
 
     /// Fills `out` with the bytes from a span's address on.
@@ -125,7 +118,7 @@ impl<M: GuestMem> Journal<M> {
             ≡ bytes_at (function_of span.pool self.now.live) span.at
             (replicate {A = ℕ} (length out.old) 0) }
     {
-        self.live.read_span(span, out);
+        self.recording.device().read_span(span, out);
     }
 
     /// Steps the twin through the kept calls, which are then folded away, and tells how many they are. None where there is no
@@ -141,27 +134,28 @@ impl<M: GuestMem> Journal<M> {
             ((self.old.has_twin ≡ false) ⊎ (2 ^ 62 < folded self.old + length self.old.kept)) }
         ensures unchanged { IfNone result (self.new ≡ self.old) }
     {
-        let count = self.history.len();
+        self.recording.agrees();
+        let count = self.recording.history().len();
         if count as u64 > MOST_FOLDED - self.folded {
             return None;
         }
-        let Some(twin) = &mut self.twin else {
+        let tallies = self.tally();
+        if !self.recording.rebase() {
             return None;
-        };
-        self.history.step_all(twin);
-        self.tallies = with_calls(&self.tallies, &self.history);
+        }
+        self.tallies = tallies;
         self.folded += count as u64;
-        self.history.clear();
         Some(count)
     }
 
     /// How many calls each caller made, with those that were folded away.
     pub fn tally(&self) -> [u64; CALLERS]
+        ensures long { length result ≡ 67 }
         ensures each { (c : ℕ) → c < 67
             → slice_index result c ≡ slice_index self.now.tallies c + calls_of c self.now.kept }
         ensures all { sum result ≡ folded self.now + length self.now.kept }
     {
-        with_calls(&self.tallies, &self.history)
+        with_calls(&self.tallies, self.recording.history())
     }
 
     /// Steps a device through the kept calls, and tells whether it gave the kept answers.
@@ -171,7 +165,8 @@ impl<M: GuestMem> Journal<M> {
             ↔ (answers device.old (events self.now.kept) ≡ given self.now.kept) }
         ensures base { device.old ≡ self.now.base → IsTrue result }
     {
-        self.history.gives_all(device)
+        self.recording.agrees();
+        self.recording.history().gives_all(device)
     }
 
     /// How many calls are kept.
@@ -180,7 +175,7 @@ impl<M: GuestMem> Journal<M> {
         ensures kept { result ≡ length self.now.kept }
         ensures few { result ≤ 65536 }
     {
-        self.history.len()
+        self.recording.history().len()
     }
 
     /// How many calls were folded away.
@@ -210,9 +205,7 @@ impl<M: GuestMem> Journal<M> {
             lone_of p self.now.live
             ≡ lone_after (lone_of p self.now.base) (keep p self.now.base (events self.now.kept)) }
     {
-        isolation();
-        let _functions = self.live.functions();
-        let _kept = self.history.len();
+        self.recording.agrees();
     }
 }
 

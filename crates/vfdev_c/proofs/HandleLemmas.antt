@@ -12,6 +12,10 @@ use Rattle.vfdev_c.specs.Handle.{IsolatedStep, can_make}
 pub isolated_at : (w new : World) (e : Event) → new ≡ (step w e).world → ((e : Event) → IsolatedStep w e (step w e).world) → IsolatedStep w e new
 isolated_at w new e same law = subst (λ v. IsolatedStep w e v) (sym same) (law e)
 
+-- and of one that was lent
+pub isolated_of : (w lent new : World) (e : Event) → lent ≡ w → new ≡ (step w e).world → ((e : Event) → IsolatedStep lent e (step lent e).world) → IsolatedStep w e new
+isolated_of w lent new e same there law = isolated_at w new e there (subst (λ v. (e : Event) → IsolatedStep v e (step v e).world) same law)
+
 -- the sizes of memories, by their bytes
 pub sizes_of_bytes : (memories : List HostMem) (blocks : List (List ℕ)) → map bytes_of memories ≡ blocks → map (λ m. length (bytes_of m)) memories ≡ map length blocks
 sizes_of_bytes memories blocks same = fused memories ∙ ap (map length) same

@@ -1,4 +1,4 @@
--- One more kept call, one call on in those that are kept, and reads of more bytes than an entry names.
+-- One more kept call, and reads of more bytes than an entry names.
 use Rattle.std.proofs.Common.{◌≡◌, ℕ, ◌+◌, Bool, true, false, true≢false, ◌≢◌, nat_le, nat_lt, List, [], ◌∷◌, ◌++◌, length, refl, sym, ap, ◌∙◌, subst, arith}
 use Rattle.std.specs.Prelude.{IsTrue, nat_eq, if◌then◌else◌}
 use mathlib.Core.Logic.{◌↔◌}
@@ -8,26 +8,11 @@ use Rattle.vf_unit.specs.Unit.{Function, is_open}
 use Rattle.device.specs.Events.{Event}
 use Rattle.device.specs.declared.event.Event.TheVariants.{Open, End, VfRead, VfWrite, MemRead, MemWrite, Serve, Flr, PfRead, PfWrite, PfReset, Wire}
 use Rattle.device.specs.Act.{act, refusal}
-use Rattle.device.specs.World.{World, Stepped, step, fresh, sizes_of, function_of, acted, refused}
-use Rattle.device.proofs.Shape.{step_shape}
+use Rattle.device.specs.World.{World, Stepped, step, function_of, acted, refused}
 use Rattle.history.specs.declared.caller.Caller.TheVariants.{Driver}
-use Rattle.history.specs.Entries.{Entry, entry, Leads}
-use Rattle.history.proofs.ReplayLemmas.{leads_more}
-use Rattle.vfdev_c.specs.Recorded.{Recorded, recorded, is_full, kept_as, keeping, made_like}
-
--- ---- one more call
-
--- what is so of the calls and the device after one call more, by whatever names
-pub leads_on : (live new : World) (calls more : List Entry) (e : Event) → Leads (made_like live) calls live
-    → new ≡ (step live e).world → sizes_of new ≡ sizes_of live → more ≡ calls ++ entry Driver e (step live e).answer ∷ []
-    → Leads (made_like new) more new
-leads_on live new calls more e l world sizes entries =
-    let limit : new.limit ≡ live.limit = ap (λ (w : World). w.limit) world ∙ (step_shape live e).limit in
-    let same : made_like new ≡ made_like live = λ i. fresh (limit i) (sizes i) in
-    let one = leads_more (made_like live) calls live Driver e l in
-    subst (λ (b : World). Leads b more new) (sym same)
-    (subst (λ (xs : List Entry). Leads (made_like live) xs new) (sym entries)
-    (subst (λ (w : World). Leads (made_like live) (calls ++ entry Driver e (step live e).answer ∷ []) w) (sym world) one))
+use Rattle.history.specs.Entries.{entry}
+use Rattle.history.specs.Recording.{Logged, keeping}
+use Rattle.vfdev_c.specs.Recorded.{recorded, recorded_of, is_full, kept_as, taking}
 
 -- ---- reads of more bytes than an entry names
 
@@ -66,12 +51,8 @@ pub has_room : (full : Bool) (n m : ℕ) → IsTrue full ↔ (n ≡ m) → full 
 has_room true n m is off = absurd (true≢false off)
 has_room false n m is off = let other : n ≢ m = λ same. true≢false (sym (is.1 same)) in grind (arith, nat_tests)
 
--- what is kept of a call by that event, by whatever names
-pub kept_on : (r : Recorded) (new : World) (more : List Entry) (cap : ℕ) (e : Event) → is_full r ≡ false → new ≡ (step r.live (kept_as e)).world
-    → more ≡ r.calls ++ entry Driver (kept_as e) (step r.live (kept_as e)).answer ∷ [] → cap ≡ r.cap
-    → recorded new more cap ≡ (if is_full r then r else keeping r e)
-kept_on r new more cap e room world entries same =
-    let live : new ≡ (step r.live e).world = world ∙ ap (λ (s : Stepped). s.world) (step_alike r.live e) in
-    let calls : more ≡ r.calls ++ entry Driver (kept_as e) (step r.live e).answer ∷ [] =
-    entries ∙ ap (λ (s : Stepped). r.calls ++ entry Driver (kept_as e) s.answer ∷ []) (step_alike r.live e) in
-    rw room (λ i. recorded (live i) (calls i) (same i))
+-- what is kept of a call by that event
+pub kept_on : (old new : Logged) (e : Event) → is_full (recorded_of old) ≡ false → new ≡ keeping old Driver (kept_as e)
+    → recorded_of new ≡ taking (recorded_of old) e
+kept_on old new e room more =
+    rw room (ap recorded_of more ∙ ap (λ (s : Stepped). recorded s.world (old.kept ++ entry Driver (kept_as e) s.answer ∷ []) old.cap) (step_alike old.live e))

@@ -16,10 +16,11 @@ use Rattle.device.specs.World.{World, step, answers, world_after, is_frame_limit
 use Rattle.device.specs.Outcome.{left_by}
 use Rattle.device.specs.Lone.{keep, lone_of, lone_seen, lone_after, seen_by}
 use Rattle.history.specs.Entries.{Entry, is_cap, events, given}
+use Rattle.history.specs.Recording.{made_like}
 use Rattle.vfdev_c.specs.declared.reply.VfdevReply.{VfdevReply}
 use Rattle.vfdev_c.specs.declared.handle_state.HandleState.{HandleState}
 use Rattle.vfdev_c.specs.declared.handle_state.HandleState.TheVariants.{Lending, Made, Kept}
-use Rattle.vfdev_c.specs.Recorded.{is_full, taking, made_like}
+use Rattle.vfdev_c.specs.Recorded.{is_full, taking}
 use Rattle.vfdev_c.specs.Spans.{Lent, none_lent, span, overlaps_one}
 
 -- what a handle leads to: nothing, memories that were lent for a device, a device, or a device whose calls are kept

@@ -2,9 +2,10 @@
 use Rattle.std.specs.Prelude.{ℕ, Bool, nat_le, nat_eq, List, [], ◌∷◌, ◌++◌, length, if◌then◌else◌}
 use Rattle.device.specs.Events.{Event}
 use Rattle.device.specs.declared.event.Event.TheVariants.{MemRead}
-use Rattle.device.specs.World.{World, fresh, sizes_of, step}
+use Rattle.device.specs.World.{World, step}
 use Rattle.history.specs.declared.caller.Caller.TheVariants.{Driver}
 use Rattle.history.specs.Entries.{Entry, entry}
+use Rattle.history.specs.Recording.{Logged}
 
 -- the device, the calls that were made on it, the oldest first, and how many may be kept
 pub record Recorded : Type 0 where
@@ -14,6 +15,10 @@ pub record Recorded : Type 0 where
 
 abbrev pub recorded : World → List Entry → ℕ → Recorded
 recorded live calls cap = record { live = live; calls = calls; cap = cap }
+
+-- what is seen of a device with its calls
+abbrev pub recorded_of : Logged → Recorded
+recorded_of r = recorded r.live r.kept r.cap
 
 -- no more calls can be kept
 abbrev pub is_full : Recorded → Bool
@@ -33,7 +38,3 @@ keeping r e =
 -- where one more call can be kept; else the device is not asked
 abbrev pub taking : Recorded → Event → Recorded
 taking r e = if is_full r then r else keeping r e
-
--- a device as it is made, of the live one's frame limit and sizes of memories
-abbrev pub made_like : World → World
-made_like live = fresh live.limit (sizes_of live)

@@ -3,19 +3,19 @@ ghost use Rattle.std.specs.Prelude.{◌≡◌, ◌<◌, ◌≤◌, ◌↔◌, �
 ghost use Rattle.irq_causes.specs.Messages.{no_messages};
 ghost use Rattle.wire_frame.specs.Frame.{is_frame};
 ghost use Rattle.device.specs.declared.event.Event.{Event};
-ghost use Rattle.device.specs.World.{step, answers, world_after, sizes_of};
+ghost use Rattle.device.specs.World.{step, answers, world_after};
 ghost use Rattle.device.specs.Request.{event_of};
 ghost use Rattle.device.specs.Outcome.{left_by};
-ghost use Rattle.history.specs.declared.caller.Caller.{Caller};
-ghost use Rattle.history.specs.Entries.{entry, events, given, is_cap};
+ghost use Rattle.history.specs.Entries.{events, given, is_cap};
 ghost use Rattle.vfdev_c.specs.Handle.{shown, history_full, bytes_shown, frame_in, length_in, IsolatedStep};
-ghost use Rattle.vfdev_c.specs.Recorded.{recorded, is_full, taking, kept_as, made_like};
+ghost use Rattle.vfdev_c.specs.Recorded.{recorded, is_full, taking, kept_as};
+ghost use Rattle.history.specs.Recording.{made_like};
 
-use crate::handle_state::{Running, isolates, lay, put_frame};
+use crate::handle_state::{Running, isolates, issued, lay, put_frame};
 use crate::memory::HostMem;
 use crate::reply::VfdevReply;
-use device::{Device, Outcome, Queue, Request, Response};
-use history::{Caller, History};
+use device::{Device, Queue, Request};
+use history::{Caller, History, Recording};
 use irq_causes::Messages;
 use std::alloc::Global;
 use std::marker::Model;
@@ -29,20 +29,19 @@ const MOST_NAMED: usize = 65_535;
 /// A device with the calls that were made on it since it was made, and room for a frame that comes or goes.
 #[derive(Drop)]
 pub struct Recorder {
-    live: Device<HostMem<'static>>,
-    history: History,
+    recording: Recording<HostMem<'static>>,
     frame: FrameBuf,
 }
 
 impl Model for Recorder {
-    ghost use Rattle.vfdev_c.specs.Recorded.{Recorded, recorded, made_like};
-    ghost use Rattle.history.specs.Entries.{Leads};
+    ghost use Rattle.std.specs.Prelude.{◌≡◌, false};
+    ghost use Rattle.vfdev_c.specs.Recorded.{Recorded, recorded_of};
 
     ghost Value = { Recorded };
 
-    ghost view = { λ r. recorded r.live r.history.entries r.history.cap };
+    ghost view = { λ r. recorded_of r.recording };
 
-    ghost invariant = { λ r. Leads (made_like r.live) r.history.entries r.live };
+    ghost invariant = { λ r. r.recording.has_twin ≡ false };
 }
 
 impl Recorder {
@@ -56,9 +55,10 @@ impl Recorder {
         ensures bad_make { is_cap cap ≡ false → result ≡ Err Fault.BadMake }
         ensures no_memory { IfErr result (λ e. is_cap cap ≡ true → e ≡ Fault.NoMemory) }
     {
+        let history = History::new(alloc, cap)?;
+        let live = Box::new(alloc, live)?;
         Ok(Recorder {
-            live,
-            history: History::new(alloc, cap)?,
+            recording: Recording::new(live, None, history),
             frame: FrameBuf::blank(),
         })
     }
@@ -67,7 +67,7 @@ impl Recorder {
     pub fn kept(&self) -> usize
         ensures { result ≡ length self.now.calls }
     {
-        self.history.len()
+        self.recording.history().len()
     }
 
     /// Takes another device through the kept calls, and tells whether it answered as was kept.
@@ -78,7 +78,8 @@ impl Recorder {
         ensures made_like { other.old ≡ made_like self.now.live → result ≡ true }
         ensures twin { other.old ≡ made_like self.now.live → other.new ≡ self.now.live }
     {
-        other.replays(&self.history)
+        self.recording.agrees();
+        other.replays(self.recording.history())
     }
 
     /// Gives the device the event that a request stands for, and keeps the call; or no more calls can be kept, and nothing
@@ -93,13 +94,11 @@ impl Recorder {
         ensures isolated { is_full self.old ≡ false →
             IsolatedStep self.old.live (event_of request.entry) self.new.live }
     {
-        if self.history.is_full() {
+        if self.recording.history().is_full() {
             return (VfdevReply::history_full(), Messages::none());
         }
-        isolates(&self.live);
-        let taken = self
-            .history
-            .record(CALLER, request, &mut self.live, &mut self.frame);
+        isolates(self.recording.device());
+        let taken = self.recording.record(CALLER, request, &mut self.frame);
         (VfdevReply::of(taken.outcome), taken.messages)
     }
 
@@ -114,12 +113,12 @@ impl Recorder {
         ensures isolated { is_full self.old ≡ false →
             IsolatedStep self.old.live (Event.Wire bytes.now) self.new.live }
     {
-        if self.history.is_full() {
+        if self.recording.history().is_full() {
             return (VfdevReply::history_full(), Messages::none());
         }
-        isolates(&self.live);
+        isolates(self.recording.device());
         lay(&mut self.frame, bytes);
-        came(&mut self.history, &mut self.live, &self.frame)
+        issued(self.recording.wire(CALLER, &self.frame))
     }
 
     /// The same, of a read of a guest's memory, whose bytes fill `out`; where it is refused, `out` stays.
@@ -134,22 +133,22 @@ impl Recorder {
         ensures isolated { is_full self.old ≡ false →
             IsolatedStep self.old.live (Event.MemRead function at (length out.old)) self.new.live }
     {
-        if self.history.is_full() {
+        if self.recording.history().is_full() {
             return VfdevReply::history_full();
         }
-        isolates(&self.live);
+        isolates(self.recording.device());
         let request = Request::MemRead(function, at, named(out.len()));
-        let reply = match self.live.mem_read(function, at, out) {
+        let reply = match self.recording.device().mem_read(function, at, out) {
             Ok(()) => VfdevReply::bytes(),
             Err(fault) => VfdevReply::refused(fault),
         };
-        self.history
-            .record(CALLER, request, &mut self.live, &mut self.frame);
+        self.recording.record(CALLER, request, &mut self.frame);
         reply
     }
 
     /// The same, of a service of a transmit queue. A frame that leaves for the wire is laid into the first bytes of `out`, and
     /// `left` is its length, and else 0.
+    #[tactic(auto, using(crate::proofs::HandleLemmas::isolated_of))]
     pub fn serve(
         &mut self,
         function: u8,
@@ -170,15 +169,13 @@ impl Recorder {
         ensures isolated { is_full self.old ≡ false →
             IsolatedStep self.old.live (Event.Serve function queue) self.new.live }
     {
-        if self.history.is_full() {
+        if self.recording.history().is_full() {
             *left = 0;
             return (VfdevReply::history_full(), Messages::none());
         }
-        isolates(&self.live);
+        isolates(self.recording.device());
         let request = Request::Serve(function, queue);
-        let taken = self
-            .history
-            .record(CALLER, request, &mut self.live, &mut self.frame);
+        let taken = self.recording.record(CALLER, request, &mut self.frame);
         *left = put_frame(taken.left, out);
         (VfdevReply::of(taken.outcome), taken.messages)
     }
@@ -194,34 +191,4 @@ fn named(count: usize) -> u16
     } else {
         MOST_NAMED as u16
     }
-}
-
-// Gives a device a frame from the wire, and keeps the call, for which there is room.
-#[inline]
-fn came(
-    history: &mut History,
-    live: &mut Device<HostMem<'static>>,
-    frame: &FrameBuf,
-) -> (VfdevReply, Messages)
-    requires { length history.old.entries < history.old.cap }
-    ensures world { live.new ≡ (step live.old (Event.Wire frame.now)).world }
-    ensures reply { result.0 ≡ shown (step live.old (Event.Wire frame.now)).answer.reply }
-    ensures messages { result.1 ≡ (step live.old (Event.Wire frame.now)).answer.raised }
-    ensures sizes { sizes_of live.new ≡ sizes_of live.old }
-    ensures entries { history.new.entries ≡ history.old.entries
-        ++ entry Caller.Driver (Event.Wire frame.now) (step live.old (Event.Wire frame.now)).answer ∷ [] }
-    ensures cap { history.new.cap ≡ history.old.cap }
-{
-    let (outcome, messages) = match live.wire(frame) {
-        Ok(messages) => (Outcome::Done, messages),
-        Err(fault) => (Outcome::Refused(fault), Messages::none()),
-    };
-    let taken = Response {
-        outcome,
-        messages,
-        sent: None,
-        left: None,
-    };
-    history.push(CALLER, Request::Wire(frame), live, &taken);
-    (VfdevReply::of(outcome), messages)
 }

@@ -1,0 +1,34 @@
+//! A value as it was, for contracts alone.
+ghost use Rattle.std.specs.Borrow.{ftrue};
+ghost use Rattle.std.specs.Prelude.{◌≡◌};
+
+use std::marker::{Model, PhantomData};
+
+/// A `T` as clauses see it: what [`Shadow::of`] was shown. It has no bytes and owns nothing, so a type may still speak of a value
+/// that it has handed on. Like `std::snapshot::Snapshot`, it may go to another thread, and it may do so inside types that hold
+/// tokens too.
+#[derive(Drop)]
+pub struct Shadow<T> {
+    marker: PhantomData<T>,
+    pub ghost value: { T },
+}
+
+impl<T> Model for Shadow<T> {
+    ghost also_owns = { λ _. ftrue };
+}
+
+// It owns nothing, so that another thread may have it whatever a `T` is.
+unsafe impl<T> Send for Shadow<T> {}
+
+impl<T> Shadow<T> {
+    /// What the reference shows.
+    #[inline]
+    pub fn of(shown: &T) -> Shadow<T>
+        ensures { result.value ≡ shown.now }
+    {
+        let _ = shown;
+        Shadow {
+            marker: PhantomData,
+        }
+    }
+}

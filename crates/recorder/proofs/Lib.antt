@@ -3,3 +3,4 @@ mod RaiseLemmas
 mod ReadLemmas
 mod ShareLemmas
 mod SizeLemmas
+mod Walks

@@ -1,6 +1,7 @@
 pub mod Callers
 pub mod Legal
 pub mod Held
+pub mod Last
 pub mod Made
 pub mod Read
 pub mod Inside

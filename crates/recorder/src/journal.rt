@@ -11,16 +11,16 @@ ghost use Rattle.history.specs.Entries.{events, given};
 ghost use Rattle.recorder.specs.Callers.{may};
 ghost use Rattle.recorder.specs.Legal.{Legal, calls_of, kept_raises};
 ghost use Rattle.recorder.specs.Held.{Records, Rebased, folded, folded_raises};
-ghost use Rattle.shadow.specs.Last.{last_of};
+ghost use Rattle.recorder.specs.Last.{last_of};
 ghost use Rattle.recorder.specs.Made.{IsFresh, begun};
 
+use crate::asked::Asked;
 use crate::share::CALLERS;
 use device::{Answer, Device, Request, Response, Span};
 use guest_memory::GuestMem;
 use history::{Caller, History, Recording};
 use irq_causes::Messages;
 use irq_line::DeviceSeat;
-use shadow::Asked;
 use std::marker::Model;
 use wire_frame::FrameBuf;
 

@@ -17,6 +17,7 @@
 //! Nothing here waits, and none but the makers takes memory. The crate stands on `device`, `history` and `irq_line`.
 #![tactic(auto)]
 
+mod asked;
 mod journal;
 mod makes;
 mod recorded;

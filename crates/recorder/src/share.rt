@@ -5,9 +5,9 @@ ghost use Rattle.history.specs.Callers.{caller_number};
 ghost use Rattle.recorder.specs.Callers.{may, is_own, is_of_driver, is_frame};
 ghost use Rattle.recorder.specs.Held.{count_of};
 
+use crate::asked::Asked;
 use device::Request;
 use history::Caller;
-use shadow::Asked;
 use std::marker::Model;
 use std::sync::ledger::{Ledger, Share as Part};
 use wire_frame::PoolId;

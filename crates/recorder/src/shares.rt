@@ -3,9 +3,9 @@ ghost use Rattle.std.specs.Prelude.{◌≡◌, ℕ, ◌+◌, ◌<◌, ◌≤◌,
 ghost use Rattle.history.specs.declared.caller.Caller.TheVariants.{Port};
 ghost use Rattle.recorder.specs.Held.{AreOfPools, left_of, unused};
 
+use crate::asked::Asked;
 use crate::share::Share;
 use history::Caller;
-use shadow::Asked;
 use std::alloc::{AllocError, Global};
 use std::sync::ledger::{Ledger, Share as Part};
 use wire_frame::PoolId;

@@ -33,10 +33,10 @@ use denote.Triple.Entry.{on_entry, alive}
 use denote.Triple.Spec.{Meets, triple_of}
 use denote.Triple.Table.{entered}
 use denote.Triple.Walked.{says, Stays, stay_dropped, walk_of, ends_at, Goes-dropped, walk_Meets}
-use Rattle.shadow.specs.contracts.shadow.Shadow.of.{ended, clauses}
-use Rattle.shadow.specs.contracts.shadow.Shadow.of.Key.{name as #self}
-use Rattle.shadow.proofs.shadow.Shadow.of.Statement as stated
-use Rattle.shadow.proofs.shadow.Shadow.of.Code as code
+use Rattle.shadow.specs.contracts.Shadow.of.{ended, clauses}
+use Rattle.shadow.specs.contracts.Shadow.of.Key.{name as #self}
+use Rattle.shadow.proofs.Shadow.of.Statement as stated
+use Rattle.shadow.proofs.Shadow.of.Code as code
 
 module _ (Y : RattleType) where
   abbrev R : RattleType

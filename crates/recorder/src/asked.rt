@@ -2,14 +2,14 @@
 ghost use Rattle.std.specs.Borrow.{ftrue};
 ghost use Rattle.std.specs.Prelude.{◌≡◌, List, [], ◌∷◌, ◌++◌};
 ghost use Rattle.history.specs.Entries.{Entry};
-ghost use Rattle.shadow.specs.Last.{last_of};
+ghost use Rattle.recorder.specs.Last.{last_of};
 
 use history::History;
 use std::marker::Model;
 
 /// Calls, for contracts: it has no bytes, and its functions do nothing.
 #[derive(Drop)]
-pub struct Asked {
+pub(crate) struct Asked {
     /// The calls, the oldest first.
     pub ghost calls: { List Entry },
 }
@@ -24,7 +24,7 @@ unsafe impl Send for Asked {}
 impl Asked {
     /// No calls.
     #[inline]
-    pub fn new() -> Asked
+    pub(crate) fn new() -> Asked
         ensures { result.calls ≡ [] }
     {
         Asked {}
@@ -32,7 +32,7 @@ impl Asked {
 
     /// The calls, and the one that a history keeps last.
     #[inline]
-    pub fn and(&self, history: &History) -> Asked
+    pub(crate) fn and(&self, history: &History) -> Asked
         ensures { result.calls ≡ self.now.calls ++ last_of history.now.entries ∷ [] }
     {
         Asked {}

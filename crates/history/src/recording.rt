@@ -1,7 +1,7 @@
 //! A device, and the calls that it took since a base.
-ghost use Rattle.std.specs.Prelude.{◌≡◌, ℕ, ◌<◌, ◌≤◌, [], true, false, IsTrue, ◌↔◌, IfSome, is_some, length};
+ghost use Rattle.std.specs.Prelude.{◌≡◌, ℕ, ◌<◌, ◌≤◌, [], true, false, IfSome, is_some, length};
 ghost use Rattle.device.specs.declared.event.Event.{Event};
-ghost use Rattle.device.specs.World.{world_after, answers, step};
+ghost use Rattle.device.specs.World.{step};
 ghost use Rattle.device.specs.Lone.{keep, lone_of, lone_seen, lone_after, seen_by};
 ghost use Rattle.device.specs.Outcome.{messages_or_refused};
 ghost use Rattle.device.specs.Request.{event_of};
@@ -89,6 +89,7 @@ impl<M: GuestMem> Recording<M> {
 
     /// The same, of a frame from the wire, which stays where it stands.
     #[inline]
+    #[tactic(auto, using(crate::proofs::ReplayLemmas::logged_on))]
     pub fn wire(&mut self, caller: Caller, frame: &FrameBuf) -> Result<Messages, Fault>
         requires { length self.old.kept < self.old.cap }
         ensures answer { messages_or_refused result

@@ -1,9 +1,7 @@
 //! A device, the line that its messages go to, and the calls that it took since a base.
-ghost use Rattle.std.specs.Prelude.{◌≡◌, ℕ, ◌+◌, ◌<◌, ◌≤◌, ◌^◌, [], ◌∷◌, ◌++◌, true, false, IsTrue, ◌↔◌, IfSome, IfNone, is_some, length, replicate, slice_index, sum, ◌⊎◌};
+ghost use Rattle.std.specs.Prelude.{◌≡◌, ℕ, ◌+◌, ◌<◌, ◌≤◌, ◌^◌, [], ◌∷◌, ◌++◌, true, false, IfSome, IfNone, is_some, length, replicate, slice_index, sum, ◌⊎◌};
 ghost use Rattle.std.specs.Int.{bit_at};
-ghost use Rattle.vf_unit.specs.Unit.{bytes_at};
-ghost use Rattle.device.specs.World.{world_after, answers, function_of, fresh, sizes_of};
-ghost use Rattle.device.specs.Outcome.{answer_in};
+ghost use Rattle.device.specs.World.{fresh, sizes_of};
 ghost use Rattle.device.specs.Lone.{keep, lone_of, lone_seen, lone_after, seen_by};
 ghost use Rattle.device.specs.Request.{event_of};
 ghost use Rattle.irq_line.specs.Line.{raised};
@@ -16,7 +14,7 @@ ghost use Rattle.recorder.specs.Made.{IsFresh, begun};
 
 use crate::asked::Asked;
 use crate::share::CALLERS;
-use device::{Answer, Device, Request, Response, Span};
+use device::{Device, Request, Response};
 use guest_memory::GuestMem;
 use history::{Caller, History, Recording};
 use irq_causes::Messages;
@@ -103,22 +101,13 @@ impl<M: GuestMem> Journal<M> {
         asked.and(self.recording.history())
     }
 
-    /// The answer that a [`Response`] stands for, right after it.
+    /// The device with its calls.
     #[inline]
-    pub fn answer(&self, taken: &Response<'_>) -> Answer
-        ensures { result ≡ answer_in self.now.live taken.now }
+    pub fn recording(&self) -> &Recording<M>
+        ensures kept { result.now.kept ≡ self.now.kept }
+        ensures live { result.now.live ≡ self.now.live }
     {
-        self.recording.device().answer(taken)
-    }
-
-    /// Fills `out` with the bytes from a span's address on.
-    #[inline]
-    pub fn read_span(&self, span: Span, out: &mut [u8])
-        ensures { out.new
-            ≡ bytes_at (function_of span.pool self.now.live) span.at
-            (replicate {A = ℕ} (length out.old) 0) }
-    {
-        self.recording.device().read_span(span, out);
+        &self.recording
     }
 
     /// Steps the twin through the kept calls, which are then folded away, and tells how many they are. None where there is no
@@ -156,17 +145,6 @@ impl<M: GuestMem> Journal<M> {
         ensures all { sum result ≡ folded self.now + length self.now.kept }
     {
         with_calls(&self.tallies, self.recording.history())
-    }
-
-    /// Steps a device through the kept calls, and tells whether it gave the kept answers.
-    pub fn replays(&self, device: &mut Device<M>) -> bool
-        ensures world { device.new ≡ world_after device.old (events self.now.kept) }
-        ensures same { IsTrue result
-            ↔ (answers device.old (events self.now.kept) ≡ given self.now.kept) }
-        ensures base { device.old ≡ self.now.base → IsTrue result }
-    {
-        self.recording.agrees();
-        self.recording.history().gives_all(device)
     }
 
     /// How many calls are kept.

@@ -191,7 +191,7 @@ impl<M: GuestMem, L: Ledger> Recorded<M, L> {
     {
         if let Outcome::Bytes(span) = outcome {
             let (front, _) = read.split_at_mut(span.count());
-            self.journal.read_span(span, front);
+            self.journal.recording().device().read_span(span, front);
         }
     }
 
@@ -208,7 +208,7 @@ impl<M: GuestMem, L: Ledger> Recorded<M, L> {
         let mut frame = FrameBuf::blank();
         let request = event.as_request();
         match self.record_request(share, request, &mut frame) {
-            Some(taken) => Ok(self.journal.answer(&taken)),
+            Some(taken) => Ok(self.journal.recording().device().answer(&taken)),
             None => Err(Full(event)),
         }
     }
@@ -265,7 +265,7 @@ impl<M: GuestMem, L: Ledger> Recorded<M, L> {
             → device.old ≡ fresh self.now.live.limit (sizes_of self.now.live) → IsTrue result }
     {
         self.journal.agrees();
-        self.journal.replays(device)
+        self.journal.recording().history().gives_all(device)
     }
 
     /// How many calls are kept.

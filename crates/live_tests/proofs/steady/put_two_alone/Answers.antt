@@ -1,5 +1,5 @@
 -- The memory is left with what the accesses make of it.
-use Rattle.std.proofs.Common.{List, [], ◌∷◌, sym, ap, ◌∙◌}
+use Rattle.std.proofs.Common.{rules, List, [], ◌∷◌, sym, ap, ◌∙◌}
 use Rattle.guest_memory.specs.Memory.{overwrite, two_words}
 use Rattle.live_memory.specs.Trace.{Access, Wrote, left}
 use Rattle.live_memory.proofs.Accesses.{since_is, grown_by}
@@ -17,7 +17,8 @@ returns g c =
     let was = begun_calm _ _ _ made.answered made.written in
     let is = begun_calm _ _ _ after.answered after.written in
     let alone = c.calm_is_alone.ensures.left before now _ _ _ _ was is (grown_by before now more c.put_two.ensures.traced) in
-    ap (λ m. g.M.GuestMem.bytes m) (c.memory-1.given.1 (sym (c.put_two.ensures.loan ∙ c.new-steady.ensures.loan)))
-    ∙ alone
+    let same = sym (c.put_two.ensures.loan ∙ c.new-steady.ensures.loan) in
+    let leaves = alone
     ∙ ap (λ (t : List Access). left t (g.M.GuestMem.bytes made.memory.now)) (since_is before now more c.put_two.ensures.traced)
-    ∙ ap (λ m. overwrite 16 (two_words 6 7) (g.M.GuestMem.bytes m)) c.new-steady.ensures.memory
+    ∙ ap (λ m. overwrite 16 (two_words 6 7) (g.M.GuestMem.bytes m)) c.new-steady.ensures.memory in
+    search (rules, same, leaves)

@@ -15,6 +15,16 @@ use wire_frame::{Fault, PoolId};
 
 /// A line on which nothing stands: the device's seat, and the seats of the guests of the 64 pools, in order.
 /// [`Fault::NoMemory`] comes only where the host refused the room.
+///
+/// ```
+/// let (mut device, mut guests) = make(rt.alloc())?;
+/// if let (Some(pool), Some(vectors)) = (PoolId::new(3), Vectors::new(5)) {
+///     device.raise(pool, vectors);
+/// }
+/// assert!(rt; guests[3].peek() == 5);
+/// assert!(rt; guests[3].take() == 5);
+/// assert!(rt; guests[3].take() == 0);
+/// ```
 #[tactic(auto, using(crate::proofs::Keeps::begins))]
 pub fn make(alloc: Global) -> Result<(DeviceSeat, Vec<GuestSeat>), Fault>
     ensures device { IfOk result (λ r. r.0.raises ≡ []) }

@@ -230,6 +230,30 @@ impl Host {
     /// its own, nor which frames it accepts, nor which it may send; and loopback, VLAN filtering, the default pool and the
     /// multicast table stay for all. Done in their order, the writes make the settings of the host before into those of the host
     /// after, and after each of them every other pool has what it had. No function gets more than its policy grants.
+    ///
+    /// ```
+    /// let mut host = Host::new(&[Vid::of_tag(0)], None, FrameLimit::standard()).ok_or(
+    ///     "too many ids",
+    /// )?;
+    /// let pool = PoolId::new(1).ok_or("no such pool")?;
+    /// let policy = Policy {
+    ///     address: Mac([2, 0, 0, 0, 0, 1]),
+    ///     may_choose: false,
+    ///     vlans: VlanPolicy::Joins(1),
+    ///     all_multicast: false,
+    /// };
+    /// host.admit(pool, &policy)?;
+    /// // the driver asks for a reset (VFMBMEM), takes the mailbox and rings (VFMAILBOX)
+    /// let mut mailbox = Mailbox::new();
+    /// let _ = mailbox.write(0x200, 1);
+    /// let _ = mailbox.write(0x2FC, 4);
+    /// assert!(rt; mailbox.write(0x2FC, 1) == Some(Rang::Request));
+    /// let writes = host.answer(pool, &mut mailbox);
+    /// // it succeeded, and the address follows
+    /// assert!(rt; mailbox.read(0x200) == Some(0x8000_0001));
+    /// assert!(rt; mailbox.read(0x204) == Some(2));
+    /// assert!(rt; !writes.as_slice().is_empty());
+    /// ```
     #[tactic(auto, unfolding(crate::specs::Host::host_after, crate::specs::Writes::writes_after, crate::specs::Replies::reply_to))]
     pub fn answer(&mut self, pool: PoolId, mailbox: &mut Mailbox) -> Writes
         ensures host { self.new ≡ host_after self.old pool (message_of mailbox.old.words) }

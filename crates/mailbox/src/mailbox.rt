@@ -50,6 +50,15 @@ impl Default for Mailbox {
 /// What the function's driver sees.
 impl Mailbox {
     /// A mailbox of which all words are 0.
+    ///
+    /// ```
+    /// let mut mailbox = Mailbox::new();
+    /// // the first word of its memory (VFMBMEM)
+    /// let _ = mailbox.write(0x200, 7);
+    /// assert!(rt; mailbox.read(0x200) == Some(7));
+    /// // there is no register at 0x201
+    /// assert!(rt; mailbox.read(0x201).is_none());
+    /// ```
     pub fn new() -> Mailbox
         ensures { result ≡ blank }
     {

@@ -1,5 +1,6 @@
 //! What the tests share: a host with policies, and a driver that asks.
 use mailbox::{Host, Mailbox, Policy, Rang, VlanPolicy, Writes};
+use script_support::registers::{VFMAILBOX, VFMBMEM};
 use std::test::Fail;
 use wire_frame::{FrameLimit, Mac, PoolId, Vid};
 
@@ -27,11 +28,11 @@ pub fn ask(
     mailbox: &mut Mailbox,
     words: [u32; 3],
 ) -> Result<Writes, Fail> {
-    let _ = mailbox.write(0x200, words[0]);
-    let _ = mailbox.write(0x204, words[1]);
-    let _ = mailbox.write(0x208, words[2]);
-    let _ = mailbox.write(0x2FC, 4);
-    match mailbox.write(0x2FC, 1) {
+    let _ = mailbox.write(VFMBMEM, words[0]);
+    let _ = mailbox.write(VFMBMEM + 4, words[1]);
+    let _ = mailbox.write(VFMBMEM + 8, words[2]);
+    let _ = mailbox.write(VFMAILBOX, 4);
+    match mailbox.write(VFMAILBOX, 1) {
         Some(Rang::Request) => Ok(host.answer(pool, mailbox)),
         _ => Err("the write did not ring".into()),
     }
@@ -40,10 +41,10 @@ pub fn ask(
 /// Words 0 to 4 of the memory.
 pub fn words(mailbox: &mut Mailbox) -> [u32; 5] {
     [
-        mailbox.read(0x200).unwrap_or(1),
-        mailbox.read(0x204).unwrap_or(1),
-        mailbox.read(0x208).unwrap_or(1),
-        mailbox.read(0x20C).unwrap_or(1),
-        mailbox.read(0x210).unwrap_or(1),
+        mailbox.read(VFMBMEM).unwrap_or(1),
+        mailbox.read(VFMBMEM + 4).unwrap_or(1),
+        mailbox.read(VFMBMEM + 8).unwrap_or(1),
+        mailbox.read(VFMBMEM + 12).unwrap_or(1),
+        mailbox.read(VFMBMEM + 16).unwrap_or(1),
     ]
 }

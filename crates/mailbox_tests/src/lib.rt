@@ -7,7 +7,9 @@
 #[cfg(test)]
 mod driver;
 #[cfg(test)]
-mod first;
+mod examples;
+#[cfg(test)]
+mod first_writes;
 #[cfg(test)]
 mod pools;
 #[cfg(test)]

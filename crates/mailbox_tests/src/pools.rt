@@ -1,6 +1,7 @@
 //! 64 functions beside one another.
 use crate::driver::{ask, host, policy, words};
 use mailbox::{Mailbox, Write};
+use script_support::registers::{RAH, VALID, VFMBMEM};
 use std::test::Fail;
 use wire_frame::PoolId;
 
@@ -22,13 +23,13 @@ fn each_has_its_own(rt: HostRuntime) -> Result<(), Fail> {
         assert_eq!(rt;
             writes.as_slice().get(2).copied(),
             Some(Write {
-                offset: 0xA204 + 8 * u32::from(number),
-                value: 0x8000_0000 + own,
+                offset: RAH + 8 * u32::from(number),
+                value: VALID + own,
             })
         );
         let next = (u32::from(number) + 1) % 64 * 0x200;
         let _ = ask(&mut host, pool, &mut mailbox, [2, 0x9059_8202, next])?;
-        assert_eq!(rt; mailbox.read(0x200), Some(0x6000_0002));
+        assert_eq!(rt; mailbox.read(VFMBMEM), Some(0x6000_0002));
     }
     Ok(())
 }

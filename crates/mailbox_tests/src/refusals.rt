@@ -1,6 +1,7 @@
 //! Refusals.
 use crate::driver::{ask, host, policy};
 use mailbox::{Mailbox, Policy, VlanPolicy};
+use script_support::registers::VFMBMEM;
 use std::test::Fail;
 use wire_frame::PoolId;
 
@@ -30,7 +31,7 @@ fn refuses(rt: HostRuntime) -> Result<(), Fail> {
         ([0x8000_0010, 0, 0], 0x6000_0010),
     ] {
         let writes = ask(&mut host, pool, &mut mailbox, message)?;
-        assert_eq!(rt; mailbox.read(0x200), Some(head));
+        assert_eq!(rt; mailbox.read(VFMBMEM), Some(head));
         assert_eq!(rt; writes.as_slice().len(), 0);
     }
     Ok(())
@@ -69,7 +70,7 @@ fn addresses_are_one_functions(rt: HostRuntime) -> Result<(), Fail> {
         (second, [0x1_0006, 0x9059_8202, 0x4000], 0xA001_0006),
     ] {
         let _ = ask(&mut host, pool, &mut mailbox, message)?;
-        assert_eq!(rt; mailbox.read(0x200), Some(head));
+        assert_eq!(rt; mailbox.read(VFMBMEM), Some(head));
     }
     Ok(())
 }
@@ -81,7 +82,7 @@ fn before_reset(rt: HostRuntime) -> Result<(), Fail> {
     let mut host = host()?;
     let mut mailbox = Mailbox::new();
     let writes = ask(&mut host, pool, &mut mailbox, [1, 0, 0])?;
-    assert_eq!(rt; mailbox.read(0x200), Some(0x4000_0001));
+    assert_eq!(rt; mailbox.read(VFMBMEM), Some(0x4000_0001));
     assert_eq!(rt; writes.as_slice().len(), 0);
     host.admit(pool, &policy(0x10))?;
     for (message, head) in [
@@ -97,7 +98,7 @@ fn before_reset(rt: HostRuntime) -> Result<(), Fail> {
         ([0x2000_0001, 0, 0], 0x4000_0001),
     ] {
         let writes = ask(&mut host, pool, &mut mailbox, message)?;
-        assert_eq!(rt; mailbox.read(0x200), Some(head));
+        assert_eq!(rt; mailbox.read(VFMBMEM), Some(head));
         assert_eq!(rt; writes.as_slice().len(), 0);
     }
     Ok(())
@@ -131,8 +132,8 @@ fn by_version_and_policy(rt: HostRuntime) -> Result<(), Fail> {
         ([0x0000_0004, 0, 0], 0x6000_0004, 0),
     ] {
         let _ = ask(&mut host, pool, &mut mailbox, message)?;
-        assert_eq!(rt; mailbox.read(0x200), Some(head));
-        assert_eq!(rt; mailbox.read(0x204), Some(first));
+        assert_eq!(rt; mailbox.read(VFMBMEM), Some(head));
+        assert_eq!(rt; mailbox.read(VFMBMEM + 4), Some(first));
     }
     Ok(())
 }
@@ -153,9 +154,9 @@ fn all_multicast(rt: HostRuntime) -> Result<(), Fail> {
     let _ = ask(&mut host, pool, &mut mailbox, [1, 0, 0])?;
     let _ = ask(&mut host, pool, &mut mailbox, [8, 3, 0])?;
     let _ = ask(&mut host, pool, &mut mailbox, [12, 3, 0])?;
-    assert_eq!(rt; mailbox.read(0x200), Some(0x6000_000C));
+    assert_eq!(rt; mailbox.read(VFMBMEM), Some(0x6000_000C));
     let writes = ask(&mut host, pool, &mut mailbox, [12, 2, 0])?;
-    assert_eq!(rt; mailbox.read(0x200), Some(0xA000_000C));
+    assert_eq!(rt; mailbox.read(VFMBMEM), Some(0xA000_000C));
     assert_eq!(rt;
         writes.as_slice().get(6).map(|write| write.value),
         Some(0x1900_0000)

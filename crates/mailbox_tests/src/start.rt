@@ -1,6 +1,9 @@
 //! A driver's start.
 use crate::driver::{ask, host, policy, words};
 use mailbox::{Mailbox, Write};
+use script_support::registers::{
+    PFVFRE, PFVFTE, RAH, RAL, VALID, VFMAILBOX, VFMBMEM, VLVFB, VMOLR, VMVIR,
+};
 use std::test::Fail;
 use wire_frame::PoolId;
 
@@ -30,12 +33,12 @@ fn starts(rt: HostRuntime) -> Result<(), Fail> {
         ([16, 0, 0], [0xA000_0010, 1, 0, 0, 0]),
     ] {
         let _ = ask(&mut host, pool, &mut mailbox, message)?;
-        assert_eq!(rt; mailbox.read(0x2FC), Some(0x30));
+        assert_eq!(rt; mailbox.read(VFMAILBOX), Some(0x30));
         assert_eq!(rt; words(&mut mailbox), reply);
     }
-    assert_eq!(rt; mailbox.read(0x2FC), Some(0));
-    let _ = mailbox.write(0x2FC, 4);
-    assert_eq!(rt; mailbox.read(0x2FC), Some(4));
+    assert_eq!(rt; mailbox.read(VFMAILBOX), Some(0));
+    let _ = mailbox.write(VFMAILBOX, 4);
+    assert_eq!(rt; mailbox.read(VFMAILBOX), Some(4));
     Ok(())
 }
 
@@ -49,30 +52,30 @@ fn writes_of_a_reset(rt: HostRuntime) -> Result<(), Fail> {
     let mut mailbox = Mailbox::new();
     let writes = ask(&mut host, pool, &mut mailbox, [1, 0, 0])?;
     let wanted = [
-        write(0xA23C, 0),
-        write(0xA238, 0x9059_8202),
-        write(0xA23C, 0x8000_1000),
-        write(0xA43C, 0),
-        write(0xA438, 0),
-        write(0xA43C, 0),
-        write(0xF01C, 0x0900_0000),
-        write(0x801C, 0),
-        write(0x51E0, 0x80),
-        write(0x51E4, 0),
-        write(0x8110, 0x80),
-        write(0x8114, 0),
-        write(0xF200, 0),
-        write(0xF204, 0),
-        write(0xF208, 0),
-        write(0xF20C, 0),
-        write(0xF210, 0),
-        write(0xF214, 0),
+        write(RAH + 8 * 7, 0),
+        write(RAL + 8 * 7, 0x9059_8202),
+        write(RAH + 8 * 7, VALID | 0x1000),
+        write(RAH + 8 * 71, 0),
+        write(RAL + 8 * 71, 0),
+        write(RAH + 8 * 71, 0),
+        write(VMOLR + 4 * 7, 0x0900_0000),
+        write(VMVIR + 4 * 7, 0),
+        write(PFVFRE, 0x80),
+        write(PFVFRE + 4, 0),
+        write(PFVFTE, 0x80),
+        write(PFVFTE + 4, 0),
+        write(VLVFB, 0),
+        write(VLVFB + 4, 0),
+        write(VLVFB + 8, 0),
+        write(VLVFB + 8 + 4, 0),
+        write(VLVFB + 8 * 2, 0),
+        write(VLVFB + 8 * 2 + 4, 0),
     ];
     assert!(rt; writes.as_slice() == wanted.as_slice());
     let writes = ask(&mut host, pool, &mut mailbox, [0x1_0004, 100, 0])?;
     assert_eq!(rt;
         writes.as_slice().get(14).copied(),
-        Some(write(0xF208, 0x80))
+        Some(write(VLVFB + 8, 0x80))
     );
     Ok(())
 }
@@ -92,10 +95,10 @@ fn begins_anew(rt: HostRuntime) -> Result<(), Fail> {
     let _ = ask(&mut host, pool, &mut mailbox, [1, 0, 0])?;
     let _ = host.reset(pool);
     mailbox.reset();
-    assert_eq!(rt; mailbox.read(0x200), Some(0x4000_0100));
-    assert_eq!(rt; mailbox.read(0x2FC), Some(0x80));
-    assert_eq!(rt; mailbox.read(0x2FC), Some(0));
+    assert_eq!(rt; mailbox.read(VFMBMEM), Some(0x4000_0100));
+    assert_eq!(rt; mailbox.read(VFMAILBOX), Some(0x80));
+    assert_eq!(rt; mailbox.read(VFMAILBOX), Some(0));
     let _ = ask(&mut host, pool, &mut mailbox, [16, 0, 0])?;
-    assert_eq!(rt; mailbox.read(0x200), Some(0x4000_0010));
+    assert_eq!(rt; mailbox.read(VFMBMEM), Some(0x4000_0010));
     Ok(())
 }

@@ -19,10 +19,10 @@ static CASES: [Case; 15] = [
         name: "a_message_clears_its_cause",
         script: "vfs 8 65536\n\
             open 0\n\
-            w 0 0x104 1\n\
-            w 0 0x110 1\n\
-            w 0 0x108 1\n\
-            r 0 0x100\n",
+            w 0 VTEICS 1\n\
+            w 0 VTEIAC 1\n\
+            w 0 VTEIMS 1\n\
+            r 0 VTEICR\n",
         output: "1..3 ok\n\
             4 ok !0:1\n\
             5 = 0x00000000\n",
@@ -31,7 +31,7 @@ static CASES: [Case; 15] = [
         name: "refusals",
         script: "vfs 8 65536\n\
             r 8 0\n\
-            r 0 0x10\n\
+            r 0 VFLINKS\n\
             open 0\n\
             open 0\n\
             r 0 0x4000\n\
@@ -53,14 +53,14 @@ static CASES: [Case; 15] = [
         name: "a_ring_of_4096_and_a_tail_past_it",
         script: "vfs 1 131072\n\
             open 0\n\
-            w 0 0x1000 0\n\
-            w 0 0x1008 65536\n\
-            w 0 0x1014 0x02000002\n\
-            w 0 0x1018 4095\n\
-            w 0 0x1028 0x02000000\n\
-            w 0 0x1018 4096\n\
-            r 0 0x1018\n\
-            r 0 0x1028\n",
+            w 0 RDBAL0 0\n\
+            w 0 RDLEN0 65536\n\
+            w 0 SRRCTL0 0x02000002\n\
+            w 0 RDT0 4095\n\
+            w 0 RXDCTL0 0x02000000\n\
+            w 0 RDT0 4096\n\
+            r 0 RDT0\n\
+            r 0 RXDCTL0\n",
         output: "1..7 ok\n\
             8 = 0x00000fff\n\
             9 = 0x02000000\n",
@@ -69,14 +69,14 @@ static CASES: [Case; 15] = [
         name: "a_ring_of_more_than_4096_stays_off",
         script: "vfs 1 131072\n\
             open 0\n\
-            w 0 0x1000 0\n\
-            w 0 0x1008 65664\n\
-            w 0 0x1014 0x02000002\n\
-            w 0 0x1018 4095\n\
-            w 0 0x1028 0x02000000\n\
-            w 0 0x1018 4096\n\
-            r 0 0x1018\n\
-            r 0 0x1028\n",
+            w 0 RDBAL0 0\n\
+            w 0 RDLEN0 65664\n\
+            w 0 SRRCTL0 0x02000002\n\
+            w 0 RDT0 4095\n\
+            w 0 RXDCTL0 0x02000000\n\
+            w 0 RDT0 4096\n\
+            r 0 RDT0\n\
+            r 0 RXDCTL0\n",
         output: "1..7 ok\n\
             8 = 0x00001000\n\
             9 = 0x00000000\n",
@@ -85,9 +85,9 @@ static CASES: [Case; 15] = [
         name: "first_readings",
         script: "vfs 8 65536\n\
             open 0\n\
-            pr 0x51b0\n\
-            r 0 0x10\n\
-            r 0 0x1014\n",
+            pr PF_VT_CTL\n\
+            r 0 VFLINKS\n\
+            r 0 SRRCTL0\n",
         output: "1 ok\n\
             2 = 0x60000001\n\
             3 = 0x70000000\n\
@@ -99,11 +99,11 @@ static CASES: [Case; 15] = [
             open 0\n\
             open 1\n\
             go\n\
-            r 0 0x10\n\
-            r 1 0x10\n\
-            r 1 0x10\n\
+            r 0 VFLINKS\n\
+            r 1 VFLINKS\n\
+            r 1 VFLINKS\n\
             wire 0200000000000200000000990800.00*46\n\
-            pr 0x51b0\n",
+            pr PF_VT_CTL\n",
         output: "1..2 ok\n\
             3 = 0x70000000\n\
             4 = 0x70000000\n\
@@ -115,18 +115,18 @@ static CASES: [Case; 15] = [
         name: "causes_masks_and_auto_clear",
         script: "vfs 8 65536\n\
             open 0\n\
-            w 0 0x108 2\n\
-            w 0 0x104 3\n\
-            r 0 0x100\n\
-            w 0 0x104 1\n\
-            w 0 0x110 1\n\
-            w 0 0x108 1\n\
-            r 0 0x100\n\
-            w 0 0x108 1\n\
-            w 0 0x10c 2\n\
-            r 0 0x108\n\
-            w 0 0x104 7\n\
-            r 0 0x100\n",
+            w 0 VTEIMS 2\n\
+            w 0 VTEICS 3\n\
+            r 0 VTEICR\n\
+            w 0 VTEICS 1\n\
+            w 0 VTEIAC 1\n\
+            w 0 VTEIMS 1\n\
+            r 0 VTEICR\n\
+            w 0 VTEIMS 1\n\
+            w 0 VTEIMC 2\n\
+            r 0 VTEIMS\n\
+            w 0 VTEICS 7\n\
+            r 0 VTEICR\n",
         output: "1..2 ok\n\
             3 ok !0:2\n\
             4 = 0x00000003\n\
@@ -142,20 +142,20 @@ static CASES: [Case; 15] = [
         name: "a_ring_past_the_memory_stays_off",
         script: "vfs 8 65536\n\
             open 0\n\
-            w 0 0x1004 0xffffffff\n\
-            w 0 0x1000 0xffffff80\n\
-            w 0 0x1008 128\n\
-            w 0 0x1014 0x02000002\n\
-            w 0 0x1028 0x02000000\n\
-            r 0 0x1028\n",
+            w 0 RDBAH0 0xffffffff\n\
+            w 0 RDBAL0 0xffffff80\n\
+            w 0 RDLEN0 128\n\
+            w 0 SRRCTL0 0x02000002\n\
+            w 0 RXDCTL0 0x02000000\n\
+            r 0 RXDCTL0\n",
         output: "1..6 ok\n\
             7 = 0x00000000\n",
     },
     Case {
         name: "the_port_vlan_register",
         script: "vfs 8 65536\n\
-            pw 0x8014 0xffffffff\n\
-            pr 0x8014\n",
+            pw VMVIR+4*5 0xffffffff\n\
+            pr VMVIR+4*5\n",
         output: "1 ok\n\
             2 = 0xc000ffff\n",
     },
@@ -187,7 +187,7 @@ static CASES: [Case; 15] = [
             end 1\n\
             flr 1\n\
             serve 1 1\n\
-            pw 0x8110 1\n\
+            pw PFVFTE 1\n\
             open 0\n\
             serve 0 1\n\
             end 0\n\

@@ -42,7 +42,7 @@ const SCRIPT: &str = "vfs 8 65536\n\
     @pools\n\
     @receiver 3\n\
     @receiver 5\n\
-    pw 0x8220 1\n\
+    pw PFDTXGSWC 1\n\
     @send 5 0200000000030200000000990800.00*46 3c00302900000000\n\
     mr 3 0x1000 16\n\
     mr 3 0x4000 16\n\

@@ -9,7 +9,7 @@ const LOOPED: &str = "vfs 8 65536\n\
     @pools\n\
     @receiver 3\n\
     @receiver 5\n\
-    pw 0x8220 1\n\
+    pw PFDTXGSWC 1\n\
     @send 5 0200000000030200000000990800.00*46 3c00302900000000\n\
     mr 3 0x1000 16\n";
 
@@ -18,44 +18,44 @@ const FALLEN: &str = "vfs 8 65536\n\
     @pools\n\
     @receiver 5\n\
     @receiver 6\n\
-    pw 0x51b0 0x300\n\
-    pw 0x8220 1\n\
+    pw PF_VT_CTL 0x300\n\
+    pw PFDTXGSWC 1\n\
     @send 5 0200000000770200000000990800.00*46 3c00302900000000\n\
-    pr 0x51b0\n\
+    pr PF_VT_CTL\n\
     wire 0200000000770200000000990800.00*46\n";
 
 // Settings that are written again, or that are another's, and a device that is reset.
 const WRITTEN: &str = "vfs 4 65536\n\
-    pw 0x51e0 0x2\n\
-    pw 0x51e0 0x6\n\
-    pw 0xa20c 0x80000100\n\
-    pw 0xa608 0x2\n\
-    pw 0xa610 0x2\n\
-    pw 0xa214 0x80000100\n\
+    pw PFVFRE 0x2\n\
+    pw PFVFRE 0x6\n\
+    pw RAH+8*1 0x80000100\n\
+    pw MPSAR+8*1 0x2\n\
+    pw MPSAR+8*2 0x2\n\
+    pw RAH+8*2 0x80000100\n\
     pw 0x8001 0\n\
-    pr 0x51e0\n\
+    pr PFVFRE\n\
     preset\n\
-    pw 0x51e0 0x2\n\
-    pw 0x8004 0\n\
-    pw 0x8004 0x40000001\n\
+    pw PFVFRE 0x2\n\
+    pw VMVIR+4*1 0\n\
+    pw VMVIR+4*1 0x40000001\n\
     flr 1\n\
-    r 2 0x10\n";
+    r 2 VFLINKS\n";
 
 // Function 3 may receive, and then may not; frames come from the wire all the same.
 const SHUT: &str = "vfs 8 65536\n\
     @pools\n\
     @receiver 3\n\
-    pw 0x51e0 0\n\
+    pw PFVFRE 0\n\
     wire 0200000000030200000000990800.00*46\n\
     wire 0200000000040200000000990800.00*46\n\
     end 3\n\
-    pw 0x51e0 8\n\
+    pw PFVFRE 8\n\
     wire 0200000000030200000000990800.00*46\n\
     serve 3 0\n\
     open 3\n\
     serve 3 0\n\
     serve 3 1\n\
-    pw 0x8110 0\n\
+    pw PFVFTE 0\n\
     serve 3 1\n";
 
 // A frame comes from the wire, and function 3 reads what it left.
@@ -64,8 +64,8 @@ const ARRIVED: &str = "vfs 8 65536\n\
     @receiver 3\n\
     wire 0200000000030200000000990800.00*46\n\
     mr 3 0x1000 16\n\
-    r 3 0x101c\n\
-    r 3 0x1010\n";
+    r 3 VFGPRC\n\
+    r 3 RDH0\n";
 
 static CASES: [(Mode, Case); 14] = [
     (

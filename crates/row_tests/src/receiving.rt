@@ -11,8 +11,8 @@ static CASES: [Case; 26] = [
             @receiver 3\n\
             wire 0200000000030200000000990800.00*46\n\
             mr 3 0x1000 16\n\
-            r 3 0x101c\n\
-            r 3 0x1010\n",
+            r 3 VFGPRC\n\
+            r 3 RDH0\n",
         output: "1..14 ok\n\
             15 ok !3:1\n\
             16 bytes 0000000000000000030000003c000000\n\
@@ -25,12 +25,12 @@ static CASES: [Case; 26] = [
             @pools\n\
             @receiver 3\n\
             @receiver 4\n\
-            pw 0xf00c 0x08000000\n\
-            pw 0xf010 0x08000000\n\
-            w 3 0x1018 0\n\
+            pw VMOLR+4*3 0x08000000\n\
+            pw VMOLR+4*4 0x08000000\n\
+            w 3 RDT0 0\n\
             wire ff*6.0200000000990800.00*46\n\
-            r 3 0x101c\n\
-            r 4 0x101c\n",
+            r 3 VFGPRC\n\
+            r 4 VFGPRC\n",
         output: "1..29 ok\n\
             30 ok !4:1\n\
             31 = 0x00000000\n\
@@ -45,7 +45,7 @@ static CASES: [Case; 26] = [
             wire 0200000000030200000000990800.00*1504\n\
             mr 3 0x1078 8\n\
             mr 3 0x1008 8\n\
-            r 3 0x1010\n",
+            r 3 RDH0\n",
         output: "1..21 ok\n\
             22 ok !3:1\n\
             23 bytes 0100000000040000\n\
@@ -61,8 +61,8 @@ static CASES: [Case; 26] = [
             wire 0200000000030200000000990800.00*1504\n\
             mr 3 0x1078 8\n\
             mr 3 0x1008 8\n\
-            r 3 0x1010\n\
-            r 3 0x101c\n",
+            r 3 RDH0\n\
+            r 3 VFGPRC\n",
         output: "1..22 ok\n\
             23 bytes 0000000000000000\n\
             24 bytes 0000000000000000\n\
@@ -78,8 +78,8 @@ static CASES: [Case; 26] = [
             wire 0200000000030200000000990800.00*1504\n\
             mr 3 0x1078 8\n\
             mr 3 0x1008 8\n\
-            r 3 0x1010\n\
-            r 3 0x1028\n\
+            r 3 RDH0\n\
+            r 3 RXDCTL0\n\
             mr 3 0x1070 8\n",
         output: "1..22 ok\n\
             23 bytes 0000000000000000\n\
@@ -97,8 +97,8 @@ static CASES: [Case; 26] = [
             wire 0200000000030200000000990800.00*1504\n\
             mr 3 0x1078 8\n\
             mr 3 0x1008 8\n\
-            r 3 0x1010\n\
-            r 3 0x1028\n\
+            r 3 RDH0\n\
+            r 3 RXDCTL0\n\
             mr 3 0x1070 8\n",
         output: "1..21 ok\n\
             22 ok !3:1\n\
@@ -114,9 +114,9 @@ static CASES: [Case; 26] = [
             @pools\n\
             @receiver 1\n\
             @receiver 2\n\
-            pw 0x5090 4\n\
-            pw 0x53f4 0x10000\n\
-            pw 0xf004 0x02000000\n\
+            pw MCSTCTRL 4\n\
+            pw MTA+4*125 0x10000\n\
+            pw VMOLR+4*1 0x02000000\n\
             wire 01005e0000fb.0200000000990800.00*46\n",
         output: "1..29 ok\n\
             30 ok !1:1\n",
@@ -127,12 +127,12 @@ static CASES: [Case; 26] = [
             @pools\n\
             @receiver 1\n\
             @receiver 2\n\
-            pw 0xa200 0x2\n\
-            pw 0xa204 0x80007700\n\
-            pw 0xa600 0x2\n\
-            pw 0xa5f8 0x2\n\
-            pw 0xa5fc 0x80007700\n\
-            pw 0xa9f8 0x4\n\
+            pw RAL 0x2\n\
+            pw RAH 0x80007700\n\
+            pw MPSAR 0x2\n\
+            pw RAL+8*127 0x2\n\
+            pw RAH+8*127 0x80007700\n\
+            pw MPSAR+8*127 0x4\n\
             wire 0200000000770200000000990800.00*46\n",
         output: "1..32 ok\n\
             33 ok !1:1 !2:1\n",
@@ -143,12 +143,12 @@ static CASES: [Case; 26] = [
             @pools\n\
             @receiver 1\n\
             @receiver 6\n\
-            pw 0x5088 0x40000000\n\
-            pw 0xf100 0x80000064\n\
-            pw 0xf200 0x2\n\
-            pw 0x51b0 0x300\n\
+            pw VLNCTRL 0x40000000\n\
+            pw VLVF 0x80000064\n\
+            pw VLVFB 0x2\n\
+            pw PF_VT_CTL 0x300\n\
             wire 020000000001020000000099810000640800.00*42\n\
-            pw 0xa00c 0x10\n\
+            pw VFTA+4*3 0x10\n\
             wire 020000000001020000000099810000640800.00*42\n",
         output: "1..30 ok\n\
             31 ok !6:1\n\
@@ -160,7 +160,7 @@ static CASES: [Case; 26] = [
         script: "vfs 8 65536\n\
             @pools\n\
             @receiver 3\n\
-            w 3 0x1028 0x42000000\n\
+            w 3 RXDCTL0 0x42000000\n\
             wire 020000000003020000000099810000640800.00*42\n\
             mr 3 0x1008 8\n",
         output: "1..15 ok\n\
@@ -184,9 +184,9 @@ static CASES: [Case; 26] = [
         script: "vfs 8 65536\n\
             @pools\n\
             @receiver 1\n\
-            pw 0xf004 0x02000000\n\
-            pw 0x5090 4\n\
-            pw 0x5204 0x20000\n\
+            pw VMOLR+4*1 0x02000000\n\
+            pw MCSTCTRL 4\n\
+            pw MTA+4*1 0x20000\n\
             wire 01005e001203.0200000000990800.00*46\n",
         output: "1..17 ok\n\
             18 ok !1:1\n",
@@ -196,9 +196,9 @@ static CASES: [Case; 26] = [
         script: "vfs 8 65536\n\
             @pools\n\
             @receiver 1\n\
-            pw 0xf004 0x02000000\n\
-            pw 0x5090 5\n\
-            pw 0x520c 0x4\n\
+            pw VMOLR+4*1 0x02000000\n\
+            pw MCSTCTRL 5\n\
+            pw MTA+4*3 0x4\n\
             wire 01005e001203.0200000000990800.00*46\n",
         output: "1..17 ok\n\
             18 ok !1:1\n",
@@ -208,9 +208,9 @@ static CASES: [Case; 26] = [
         script: "vfs 8 65536\n\
             @pools\n\
             @receiver 1\n\
-            pw 0xf004 0x02000000\n\
-            pw 0x5090 6\n\
-            pw 0x5218 0x10\n\
+            pw VMOLR+4*1 0x02000000\n\
+            pw MCSTCTRL 6\n\
+            pw MTA+4*6 0x10\n\
             wire 01005e001203.0200000000990800.00*46\n",
         output: "1..17 ok\n\
             18 ok !1:1\n",
@@ -220,9 +220,9 @@ static CASES: [Case; 26] = [
         script: "vfs 8 65536\n\
             @pools\n\
             @receiver 1\n\
-            pw 0xf004 0x02000000\n\
-            pw 0x5090 7\n\
-            pw 0x5260 0x40000\n\
+            pw VMOLR+4*1 0x02000000\n\
+            pw MCSTCTRL 7\n\
+            pw MTA+4*24 0x40000\n\
             wire 01005e001203.0200000000990800.00*46\n",
         output: "1..17 ok\n\
             18 ok !1:1\n",
@@ -232,9 +232,9 @@ static CASES: [Case; 26] = [
         script: "vfs 8 65536\n\
             @pools\n\
             @receiver 1\n\
-            pw 0xf004 0x02000000\n\
-            pw 0x5090 0\n\
-            pw 0x5204 0x20000\n\
+            pw VMOLR+4*1 0x02000000\n\
+            pw MCSTCTRL 0\n\
+            pw MTA+4*1 0x20000\n\
             wire 01005e001203.0200000000990800.00*46\n",
         output: "1..18 ok\n",
     },
@@ -243,9 +243,9 @@ static CASES: [Case; 26] = [
         script: "vfs 8 65536\n\
             @pools\n\
             @receiver 1\n\
-            pw 0xf004 0x02000000\n\
-            pw 0x5090 1\n\
-            pw 0x520c 0x4\n\
+            pw VMOLR+4*1 0x02000000\n\
+            pw MCSTCTRL 1\n\
+            pw MTA+4*3 0x4\n\
             wire 01005e001203.0200000000990800.00*46\n",
         output: "1..18 ok\n",
     },
@@ -254,9 +254,9 @@ static CASES: [Case; 26] = [
         script: "vfs 8 65536\n\
             @pools\n\
             @receiver 1\n\
-            pw 0xf004 0x02000000\n\
-            pw 0x5090 2\n\
-            pw 0x5218 0x10\n\
+            pw VMOLR+4*1 0x02000000\n\
+            pw MCSTCTRL 2\n\
+            pw MTA+4*6 0x10\n\
             wire 01005e001203.0200000000990800.00*46\n",
         output: "1..18 ok\n",
     },
@@ -265,9 +265,9 @@ static CASES: [Case; 26] = [
         script: "vfs 8 65536\n\
             @pools\n\
             @receiver 1\n\
-            pw 0xf004 0x02000000\n\
-            pw 0x5090 3\n\
-            pw 0x5260 0x40000\n\
+            pw VMOLR+4*1 0x02000000\n\
+            pw MCSTCTRL 3\n\
+            pw MTA+4*24 0x40000\n\
             wire 01005e001203.0200000000990800.00*46\n",
         output: "1..18 ok\n",
     },
@@ -277,12 +277,12 @@ static CASES: [Case; 26] = [
             @pools\n\
             @receiver 1\n\
             @receiver 2\n\
-            pw 0x5088 0x40000000\n\
-            pw 0xf100 0x80000064\n\
-            pw 0xf200 0x2\n\
-            pw 0xf104 0x80000064\n\
-            pw 0xf208 0x4\n\
-            pw 0xa00c 0x10\n\
+            pw VLNCTRL 0x40000000\n\
+            pw VLVF 0x80000064\n\
+            pw VLVFB 0x2\n\
+            pw VLVF+4*1 0x80000064\n\
+            pw VLVFB+8*1 0x4\n\
+            pw VFTA+4*3 0x10\n\
             wire 020000000001020000000099810000640800.00*42\n\
             wire 0200000000020200000000990800.00*46\n\
             wire 020000000002020000000099810000640800.00*42\n",
@@ -297,15 +297,15 @@ static CASES: [Case; 26] = [
             @pools\n\
             @receiver 1\n\
             @receiver 2\n\
-            pw 0xa200 0x2\n\
-            pw 0xa204 0x80007700\n\
-            pw 0xa600 0x2\n\
-            pw 0xa5f8 0x2\n\
-            pw 0xa5fc 0x80007700\n\
-            pw 0xa9f8 0x4\n\
-            pw 0xa5fc 0x00007700\n\
+            pw RAL 0x2\n\
+            pw RAH 0x80007700\n\
+            pw MPSAR 0x2\n\
+            pw RAL+8*127 0x2\n\
+            pw RAH+8*127 0x80007700\n\
+            pw MPSAR+8*127 0x4\n\
+            pw RAH+8*127 0x00007700\n\
             wire 0200000000770200000000990800.00*46\n\
-            pw 0xa5fc 0x80007700\n\
+            pw RAH+8*127 0x80007700\n\
             wire 0200000000770200000000990800.00*46\n",
         output: "1..33 ok\n\
             34 ok !1:1\n\
@@ -318,16 +318,16 @@ static CASES: [Case; 26] = [
             @pools\n\
             @receiver 1\n\
             @receiver 2\n\
-            pw 0x5088 0x40000000\n\
-            pw 0xf100 0x80000064\n\
-            pw 0xf200 0x2\n\
-            pw 0xf104 0x80000064\n\
-            pw 0xf208 0x4\n\
-            pw 0xa00c 0x10\n\
-            pw 0xa00c 0\n\
+            pw VLNCTRL 0x40000000\n\
+            pw VLVF 0x80000064\n\
+            pw VLVFB 0x2\n\
+            pw VLVF+4*1 0x80000064\n\
+            pw VLVFB+8*1 0x4\n\
+            pw VFTA+4*3 0x10\n\
+            pw VFTA+4*3 0\n\
             wire 020000000001020000000099810000640800.00*42\n\
             wire 0200000000020200000000990800.00*46\n\
-            pw 0xa00c 0x10\n\
+            pw VFTA+4*3 0x10\n\
             wire 020000000002020000000099810000640800.00*42\n",
         output: "1..36 ok\n\
             37 ok !2:1\n",
@@ -339,8 +339,8 @@ static CASES: [Case; 26] = [
             @receiver 3\n\
             mw 3 0x1000 ffffffffffffffff\n\
             wire 0200000000030200000000990800.00*46\n\
-            r 3 0x1028\n\
-            r 3 0x101c\n",
+            r 3 RXDCTL0\n\
+            r 3 VFGPRC\n",
         output: "1..16 ok\n\
             17 = 0x00000000\n\
             18 = 0x00000000\n",
@@ -350,11 +350,11 @@ static CASES: [Case; 26] = [
         script: "vfs 8 65536\n\
             @pools\n\
             @receiver 3\n\
-            w 3 0x1028 0\n\
-            w 3 0x1014 0x02000001\n\
-            w 3 0x1018 2\n\
+            w 3 RXDCTL0 0\n\
+            w 3 SRRCTL0 0x02000001\n\
+            w 3 RDT0 2\n\
             mw 3 0x1000 1010000000000000.00*8.0050000000000000\n\
-            w 3 0x1028 0x02000000\n\
+            w 3 RXDCTL0 0x02000000\n\
             wire 0200000000030200000000990800.aa*1504\n\
             mr 3 0x1000 36\n\
             mr 3 0x5000 2\n",
@@ -368,16 +368,16 @@ static CASES: [Case; 26] = [
         script: "vfs 8 65536 9018\n\
             @pools\n\
             @receiver 3\n\
-            w 3 0x1028 0\n\
-            w 3 0x1008 256\n\
-            w 3 0x1014 0x02000001\n\
-            w 3 0x1018 9\n\
+            w 3 RXDCTL0 0\n\
+            w 3 RDLEN0 256\n\
+            w 3 SRRCTL0 0x02000001\n\
+            w 3 RDT0 9\n\
             mw 3 0x1000 0040000000000000.0000000000000000.0044000000000000.0000000000000000.0048000000000000.0000000000000000.004c000000000000.0000000000000000.0050000000000000.0000000000000000.0054000000000000.0000000000000000.0058000000000000.0000000000000000.005c000000000000.0000000000000000.0060000000000000.0000000000000000\n\
-            w 3 0x1028 0x02000000\n\
+            w 3 RXDCTL0 0x02000000\n\
             wire 0200000000030200000000990800.00*9004\n\
             mr 3 0x1078 8\n\
             mr 3 0x1088 8\n\
-            r 3 0x1010\n",
+            r 3 RDH0\n",
         output: "1..20 ok\n\
             21 ok !3:1\n\
             22 bytes 0100000000040000\n\
@@ -389,16 +389,16 @@ static CASES: [Case; 26] = [
         script: "vfs 8 65536 9018\n\
             @pools\n\
             @receiver 3\n\
-            w 3 0x1028 0\n\
-            w 3 0x1008 256\n\
-            w 3 0x1014 0x02000001\n\
-            w 3 0x1018 8\n\
+            w 3 RXDCTL0 0\n\
+            w 3 RDLEN0 256\n\
+            w 3 SRRCTL0 0x02000001\n\
+            w 3 RDT0 8\n\
             mw 3 0x1000 0040000000000000.0000000000000000.0044000000000000.0000000000000000.0048000000000000.0000000000000000.004c000000000000.0000000000000000.0050000000000000.0000000000000000.0054000000000000.0000000000000000.0058000000000000.0000000000000000.005c000000000000.0000000000000000.0060000000000000.0000000000000000\n\
-            w 3 0x1028 0x02000000\n\
+            w 3 RXDCTL0 0x02000000\n\
             wire 0200000000030200000000990800.00*9004\n\
             mr 3 0x1078 8\n\
             mr 3 0x1088 8\n\
-            r 3 0x1010\n",
+            r 3 RDH0\n",
         output: "1..21 ok\n\
             22 bytes 0000000000000000\n\
             23 bytes 0000000000000000\n\

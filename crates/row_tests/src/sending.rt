@@ -10,7 +10,7 @@ static CASES: [Case; 28] = [
             @pools\n\
             @receiver 3\n\
             @receiver 5\n\
-            pw 0x8220 1\n\
+            pw PFDTXGSWC 1\n\
             @send 5 0200000000030200000000990800.00*46 3c00302900000000\n\
             mr 3 0x1000 16\n",
         output: "1..33 ok\n\
@@ -22,10 +22,10 @@ static CASES: [Case; 28] = [
         script: "vfs 8 65536\n\
             @pools\n\
             @receiver 2\n\
-            pw 0x8200 0x4\n\
+            pw PFVFSPOOF 0x4\n\
             @send 2 0200000000040200000000990800.00*46 3c00302900000000\n\
             mr 2 0x2008 8\n\
-            r 2 0x201c\n",
+            r 2 VFGPTC\n",
         output: "1..21 ok\n\
             22 dropped !2:2\n\
             23 bytes 3c00302901000000\n\
@@ -38,7 +38,7 @@ static CASES: [Case; 28] = [
             @receiver 4\n\
             @receiver 5\n\
             @send 5 0200000000040200000000990800.00*46 3c00302900000000\n\
-            r 4 0x101c\n",
+            r 4 VFGPRC\n",
         output: "1..32 ok\n\
             33 sent !5:2\n\
             34 = 0x00000000\n\
@@ -53,8 +53,8 @@ static CASES: [Case; 28] = [
             @send 6 0200000000040200000000990800.00*46 3c00302800000000\n\
             flr 6\n\
             serve 6 0\n\
-            pr 0x600\n\
-            r 7 0x1008\n",
+            pr PFVFLRE0\n\
+            r 7 RDLEN0\n",
         output: "1..32 ok\n\
             33 more !6:2\n\
             34 ok\n\
@@ -82,8 +82,8 @@ static CASES: [Case; 28] = [
             @sender 5 0200000000040200000000990800.00*46 3c00302900000000\n\
             mw 5 0x2000 ffffffffffffffff\n\
             serve 5 0\n\
-            r 5 0x2028\n\
-            r 5 0x2010\n",
+            r 5 TXDCTL0\n\
+            r 5 TDH0\n",
         output: "1..21 ok\n\
             22 faulted\n\
             23 = 0x00000000\n\
@@ -96,10 +96,10 @@ static CASES: [Case; 28] = [
             @receiver 5\n\
             mw 5 0x6000 0200000000040200000000990800.00*986\n\
             mw 5 0x2000 0060000000000000.e803302800000000.0070000000000000.5802302900000000\n\
-            w 5 0x2000 0x2000\n\
-            w 5 0x2008 128\n\
-            w 5 0x2028 0x02000000\n\
-            w 5 0x2018 2\n\
+            w 5 TDBAL0 0x2000\n\
+            w 5 TDLEN0 128\n\
+            w 5 TXDCTL0 0x02000000\n\
+            w 5 TDT0 2\n\
             serve 5 0\n\
             serve 5 0\n",
         output: "1..20 ok\n\
@@ -113,11 +113,11 @@ static CASES: [Case; 28] = [
             @receiver 5\n\
             mw 5 0x6000 0200000000040200000000990800.00*986\n\
             mw 5 0x2000 0060000000000000.e803302800000000.0070000000000000.5802302900000000\n\
-            w 5 0x2000 0x2000\n\
-            w 5 0x2008 128\n\
-            w 5 0x2028 0x02000000\n\
-            w 5 0x2018 2\n\
-            pw 0x8110 0\n\
+            w 5 TDBAL0 0x2000\n\
+            w 5 TDLEN0 128\n\
+            w 5 TXDCTL0 0x02000000\n\
+            w 5 TDT0 2\n\
+            pw PFVFTE 0\n\
             serve 5 0\n\
             serve 5 0\n\
             serve 6 0\n",
@@ -133,10 +133,10 @@ static CASES: [Case; 28] = [
             @receiver 3\n\
             @receiver 4\n\
             @receiver 5\n\
-            pw 0xf00c 0x08000000\n\
-            pw 0xf010 0x08000000\n\
-            pw 0xf014 0x08000000\n\
-            pw 0x8220 1\n\
+            pw VMOLR+4*3 0x08000000\n\
+            pw VMOLR+4*4 0x08000000\n\
+            pw VMOLR+4*5 0x08000000\n\
+            pw PFDTXGSWC 1\n\
             @send 5 ffffffffffff0200000000990800.00*46 3c00302900000000\n",
         output: "1..48 ok\n\
             49 sent !3:1 !4:1 !5:2\n\
@@ -148,10 +148,10 @@ static CASES: [Case; 28] = [
             @pools\n\
             @receiver 4\n\
             @receiver 5\n\
-            pw 0x8220 1\n\
-            pw 0x5088 0x40000000\n\
+            pw PFDTXGSWC 1\n\
+            pw VLNCTRL 0x40000000\n\
             @send 5 0200000000040200000000990800.00*46 3c00302900000000\n\
-            r 4 0x101c\n",
+            r 4 VFGPRC\n",
         output: "1..34 ok\n\
             35 sent !5:2\n\
             36 = 0x00000000\n",
@@ -162,10 +162,10 @@ static CASES: [Case; 28] = [
             @pools\n\
             @receiver 5\n\
             @receiver 6\n\
-            pw 0x51b0 0x300\n\
-            pw 0x8220 1\n\
+            pw PF_VT_CTL 0x300\n\
+            pw PFDTXGSWC 1\n\
             @send 5 0200000000770200000000990800.00*46 3c00302900000000\n\
-            pr 0x51b0\n\
+            pr PF_VT_CTL\n\
             wire 0200000000770200000000990800.00*46\n",
         output: "1..34 ok\n\
             35 sent !5:2\n\
@@ -182,10 +182,10 @@ static CASES: [Case; 28] = [
             @send 6 0200000000040200000000990800.00*46 3c00302800000000\n\
             flr 6\n\
             serve 6 0\n\
-            pr 0x600\n\
-            r 7 0x1008\n\
-            pw 0x700 0x40\n\
-            pr 0x600\n",
+            pr PFVFLRE0\n\
+            r 7 RDLEN0\n\
+            pw PFVFLREC 0x40\n\
+            pr PFVFLRE0\n",
         output: "1..32 ok\n\
             33 more !6:2\n\
             34 ok\n\
@@ -201,15 +201,15 @@ static CASES: [Case; 28] = [
             @pools\n\
             @receiver 5\n\
             @send 5 0200000000040200000000990800.00*46 3c00302900000000\n\
-            w 5 0x0 0x04000000\n\
-            pr 0x600\n\
-            r 5 0x201c\n\
-            r 5 0x2008\n\
+            w 5 VFCTRL 0x04000000\n\
+            pr PFVFLRE0\n\
+            r 5 VFGPTC\n\
+            r 5 TDLEN0\n\
             mr 5 0x2008 8\n\
             preset\n\
-            r 5 0x10\n\
-            pr 0xa228\n\
-            pr 0x51b0\n",
+            r 5 VFLINKS\n\
+            pr RAL+8*5\n\
+            pr PF_VT_CTL\n",
         output: "1..20 ok\n\
             21 sent !5:2\n\
             22 ok\n\
@@ -279,7 +279,7 @@ static CASES: [Case; 28] = [
             @receiver 5\n\
             @send 5 0200000000040200000000990800.00*46 3c00202900000000\n\
             mr 5 0x2008 8\n\
-            r 5 0x2010\n",
+            r 5 TDH0\n",
         output: "1..20 ok\n\
             21 more\n\
             22 bytes 3c00202900000000\n\
@@ -304,7 +304,7 @@ static CASES: [Case; 28] = [
         script: "vfs 8 65536\n\
             @pools\n\
             @receiver 5\n\
-            pw 0x8014 0x40000064\n\
+            pw VMVIR+4*5 0x40000064\n\
             @send 5 0200000000040200000000990800.00*46 3c00302900000000\n",
         output: "1..21 ok\n\
             22 sent !5:2\n\
@@ -315,7 +315,7 @@ static CASES: [Case; 28] = [
         script: "vfs 8 65536\n\
             @pools\n\
             @receiver 5\n\
-            pw 0x8014 0x80000000\n\
+            pw VMVIR+4*5 0x80000000\n\
             @send 5 0200000000040200000000990800.00*46 3c00004900000500\n",
         output: "1..21 ok\n\
             22 sent !5:2\n\
@@ -326,9 +326,9 @@ static CASES: [Case; 28] = [
         script: "vfs 8 65536\n\
             @pools\n\
             @receiver 5\n\
-            pw 0x8014 0x40000064\n\
+            pw VMVIR+4*5 0x40000064\n\
             @send 5 020000000004020000000099810000050800.00*46 4000302900000000\n\
-            r 5 0x201c\n",
+            r 5 VFGPTC\n",
         output: "1..21 ok\n\
             22 dropped !5:2\n\
             23 = 0x00000000\n",
@@ -338,8 +338,8 @@ static CASES: [Case; 28] = [
         script: "vfs 8 65536\n\
             @pools\n\
             @receiver 5\n\
-            pw 0x8014 0x40000064\n\
-            pw 0x8200 0x2000\n\
+            pw VMVIR+4*5 0x40000064\n\
+            pw PFVFSPOOF 0x2000\n\
             @send 5 0200000000040200000000990800.00*46 3c00302900000000\n",
         output: "1..22 ok\n\
             23 dropped !5:2\n",
@@ -349,11 +349,11 @@ static CASES: [Case; 28] = [
         script: "vfs 8 65536\n\
             @pools\n\
             @receiver 5\n\
-            pw 0x8014 0x40000064\n\
-            pw 0x8200 0x2000\n\
-            pw 0xf100 0x80000064\n\
-            pw 0xf200 0x20\n\
-            pw 0xa00c 0x10\n\
+            pw VMVIR+4*5 0x40000064\n\
+            pw PFVFSPOOF 0x2000\n\
+            pw VLVF 0x80000064\n\
+            pw VLVFB 0x20\n\
+            pw VFTA+4*3 0x10\n\
             @send 5 0200000000040200000000990800.00*46 3c00302900000000\n",
         output: "1..25 ok\n\
             26 sent !5:2\n\
@@ -364,7 +364,7 @@ static CASES: [Case; 28] = [
         script: "vfs 8 65536\n\
             @pools\n\
             @receiver 5\n\
-            pw 0x8014 0x40000064\n\
+            pw VMVIR+4*5 0x40000064\n\
             @send 5 0200000000040200000000990800.00*1500 ea05302900000000\n",
         output: "1..21 ok\n\
             22 sent !5:2\n\
@@ -375,7 +375,7 @@ static CASES: [Case; 28] = [
         script: "vfs 8 65536\n\
             @pools\n\
             @receiver 5\n\
-            pw 0x8014 0x40000064\n\
+            pw VMVIR+4*5 0x40000064\n\
             @send 5 0200000000040200000000990800.00*1501 eb05302900000000\n",
         output: "1..21 ok\n\
             22 dropped !5:2\n",
@@ -387,10 +387,10 @@ static CASES: [Case; 28] = [
             @receiver 5\n\
             mw 5 0x6000 0200000000040200000000990800.00*986\n\
             mw 5 0x2000 0060000000000000.e803302800000000.0070000000000000.5802302900000000\n\
-            w 5 0x2000 0x2000\n\
-            w 5 0x2008 128\n\
-            w 5 0x2028 0x02000000\n\
-            w 5 0x2018 2\n\
+            w 5 TDBAL0 0x2000\n\
+            w 5 TDLEN0 128\n\
+            w 5 TXDCTL0 0x02000000\n\
+            w 5 TDT0 2\n\
             serve 5 0\n\
             serve 5 0\n",
         output: "1..20 ok\n\

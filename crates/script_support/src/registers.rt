@@ -20,6 +20,10 @@ pub const VTEIAC: u32 = 0x110;
 pub const VTIVAR: u32 = 0x120;
 /// Vector of other causes.
 pub const VTIVAR_MISC: u32 = 0x140;
+/// Its mailbox's memory: 16 words, 4 apart.
+pub const VFMBMEM: u32 = 0x200;
+/// Its mailbox's state.
+pub const VFMAILBOX: u32 = 0x2FC;
 /// Frames received.
 pub const VFGPRC: u32 = 0x101C;
 /// Frames sent.

@@ -10,10 +10,11 @@
 //! | `@send P FRAME WORD` | the same, and its queue is served |
 //! | `@wrap T BUFFER` | the ring of function 3 begins anew with head 7 of 8 and tail T; the second buffer has that address |
 //!
-//! `{X*N}` stands for X, N times. An output line `A..B REPLY` stands for a line with that reply for each number.
+//! In the other lines a register may have its name of [`registers`](crate::registers), as `RDBAL0`. In a row of registers `RAL+8*3` is
+//! the one that stands three times 8 bytes behind the first. `{X*N}` stands for X, N times. An output line `A..B REPLY` stands for a line with that reply for each number.
 use crate::registers::{
     ADVANCED, ENABLE, MPSAR, PFVFRE, PFVFTE, RAH, RAL, RDBAL0, RDH0, RDLEN0, RDT0, ROUTES, RXDCTL0,
-    SRRCTL0, TDBAL0, TDLEN0, TDT0, TXDCTL0, VALID, VTEIMS, VTIVAR,
+    SRRCTL0, TDBAL0, TDLEN0, TDT0, TXDCTL0, VALID, VTEIMS, VTIVAR, offset_of,
 };
 use std::alloc::{AllocError, Global};
 use std::test::Fail;
@@ -59,10 +60,38 @@ pub fn long_script(alloc: Global, short: &str) -> Result<String, Fail> {
     for line in repeated(alloc, short)?.as_str().split_inclusive('\n') {
         match line.trim_end().strip_prefix('@') {
             Some(block) => push_block(&mut script, block)?,
-            None => script.push_str(line)?,
+            None => push_line(&mut script, line)?,
         }
     }
     Ok(script)
+}
+
+// A line with the offsets of its registers in the place of their names, and else as it is.
+fn push_line(script: &mut String, line: &str) -> Result<(), AllocError> {
+    for (place, word) in line.split(' ').enumerate() {
+        if place > 0 {
+            script.push(' ')?;
+        }
+        let (word, end) = match word.strip_suffix('\n') {
+            Some(word) => (word, "\n"),
+            None => (word, ""),
+        };
+        match named(word) {
+            Some(offset) => write!(script, "0x{offset:x}{end}")?,
+            None => write!(script, "{word}{end}")?,
+        }
+    }
+    Ok(())
+}
+
+// The offset that a word stands for: the name of a register, or of the first of a row and how many bytes stand before.
+fn named(word: &str) -> Option<u32> {
+    let Some((first, behind)) = word.split_once('+') else {
+        return offset_of(word);
+    };
+    let (step, place) = behind.split_once('*')?;
+    let before = step.parse::<u32>().ok()?.wrapping_mul(place.parse().ok()?);
+    Some(offset_of(first)?.wrapping_add(before))
 }
 
 /// The output that a short form stands for.

@@ -1,6 +1,10 @@
 //! The first writes.
 use crate::driver::{host, policy};
 use mailbox::Write;
+use script_support::registers::{
+    MCSTCTRL, MPSAR, MTA, PF_VT_CTL, PFDTXGSWC, PFVFRE, PFVFSPOOF, PFVFTE, RAH, RAL, VALID, VFTA,
+    VLNCTRL, VLVF, VLVFB, VMOLR, VMVIR,
+};
 use std::test::Fail;
 use wire_frame::PoolId;
 
@@ -11,29 +15,29 @@ use wire_frame::PoolId;
 fn first_writes(rt: HostRuntime) -> Result<(), Fail> {
     let host = host()?;
     for (i, offset, value) in [
-        (0, 0x8200, 0xFFFF),
-        (7, 0x821C, 0xFFFF),
-        (8, 0xA200, 0),
-        (136, 0xA204, 0),
-        (394, 0xA808, 2),
-        (395, 0xA80C, 0),
-        (520, 0x5200, 0),
-        (648, 0x5090, 0),
-        (649, 0x5088, 0x4000_0000),
-        (650, 0xA000, 1),
-        (653, 0xA00C, 0x10),
-        (656, 0xA018, 0x100),
-        (778, 0xF100, 0x8000_0000),
-        (779, 0xF104, 0x8000_0064),
-        (780, 0xF108, 0x8000_00C8),
-        (781, 0xF10C, 0),
-        (842, 0xF200, 0),
-        (970, 0x51B0, 0x6000_0001),
-        (971, 0x8000, 0),
-        (1035, 0x8220, 1),
-        (1036, 0xF000, 0),
-        (1100, 0x51E0, 0),
-        (1102, 0x8110, 0),
+        (0, PFVFSPOOF, 0xFFFF),
+        (7, PFVFSPOOF + 4 * 7, 0xFFFF),
+        (8, RAL, 0),
+        (136, RAH, 0),
+        (394, MPSAR + 8 * 65, 2),
+        (395, MPSAR + 8 * 65 + 4, 0),
+        (520, MTA, 0),
+        (648, MCSTCTRL, 0),
+        (649, VLNCTRL, 0x4000_0000),
+        (650, VFTA, 1),
+        (653, VFTA + 4 * 3, 0x10),
+        (656, VFTA + 4 * 6, 0x100),
+        (778, VLVF, VALID),
+        (779, VLVF + 4, VALID | 0x64),
+        (780, VLVF + 4 * 2, VALID | 0xC8),
+        (781, VLVF + 4 * 3, 0),
+        (842, VLVFB, 0),
+        (970, PF_VT_CTL, 0x6000_0001),
+        (971, VMVIR, 0),
+        (1035, PFDTXGSWC, 1),
+        (1036, VMOLR, 0),
+        (1100, PFVFRE, 0),
+        (1102, PFVFTE, 0),
     ] {
         assert_eq!(rt; host.first_write(i), Some(Write { offset, value }));
     }
@@ -50,14 +54,14 @@ fn admits_without_writes(rt: HostRuntime) -> Result<(), Fail> {
     assert_eq!(rt;
         host.first_write(9),
         Some(Write {
-            offset: 0xA208,
+            offset: RAL + 8,
             value: 0
         })
     );
     assert_eq!(rt;
         host.first_write(1102),
         Some(Write {
-            offset: 0x8110,
+            offset: PFVFTE,
             value: 0
         })
     );

@@ -4,10 +4,12 @@
 #![tactic(auto)]
 
 #[cfg(test)]
-mod alone;
-#[cfg(test)]
 mod compare;
 #[cfg(test)]
-mod events;
+mod examples;
 #[cfg(test)]
-mod kept;
+mod histories;
+#[cfg(test)]
+mod lone_function;
+#[cfg(test)]
+mod whole_device;

@@ -46,6 +46,18 @@ impl Model for History {
 impl History {
     /// A history without entries, with room for `cap` of any bytes, 1 to 65,536. [`Fault::BadMake`] comes exactly where it is
     /// none of these numbers; [`Fault::NoMemory`] only where the host refused the room.
+    ///
+    /// ```
+    /// let mut memories = Vec::new(rt.alloc());
+    /// memories.push(FlatMem::new(rt.alloc(), 4096)?)?;
+    /// let mut device = Device::new(rt.alloc(), memories)?;
+    /// let mut history = History::new(rt.alloc(), 16)?;
+    /// let mut frame = FrameBuf::blank();
+    /// assert!(rt; !history.is_full());
+    /// history.record(Caller::Service, Request::Open(0), &mut device, &mut frame);
+    /// assert!(rt; history.len() == 1);
+    /// assert!(rt; history.caller(0) == Caller::Service);
+    /// ```
     pub fn new(alloc: Global, cap: usize) -> Result<History, Fault>
         ensures empty { IfOk result (λ h. h.entries ≡ []) }
         ensures cap { IfOk result (λ h. h.cap ≡ cap) }

@@ -72,6 +72,14 @@ impl<M: GuestMem> Recording<M> {
         &self.history
     }
 
+    /// Whether there is a twin, which the base can be moved by.
+    #[inline]
+    pub fn has_twin(&self) -> bool
+        ensures { result ≡ self.now.has_twin }
+    {
+        self.twin.is_some()
+    }
+
     /// Takes an event on the device and keeps the call, for which there is room, as [`History::record`] does.
     #[inline]
     pub fn record<'f>(

@@ -7,11 +7,11 @@
 #[cfg(test)]
 mod bad_lines;
 #[cfg(test)]
-mod broken;
+mod beginnings;
+#[cfg(test)]
+mod breaking_streams;
 #[cfg(test)]
 mod command_line;
-#[cfg(test)]
-mod cut;
 #[cfg(test)]
 mod limits;
 #[cfg(test)]

@@ -125,7 +125,7 @@ impl<M: GuestMem> Journal<M> {
     {
         self.recording.agrees();
         let count = self.recording.history().len();
-        if count as u64 > MOST_FOLDED - self.folded {
+        if !self.recording.has_twin() || count as u64 > MOST_FOLDED - self.folded {
             return None;
         }
         let tallies = self.tally();

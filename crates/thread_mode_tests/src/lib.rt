@@ -5,11 +5,11 @@
 #![tactic(auto)]
 
 #[cfg(test)]
-mod broken;
+mod beginnings;
+#[cfg(test)]
+mod breaking_streams;
 #[cfg(test)]
 mod callers;
-#[cfg(test)]
-mod cut;
 #[cfg(test)]
 mod played;
 #[cfg(test)]

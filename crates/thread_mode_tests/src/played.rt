@@ -17,4 +17,4 @@ pub fn run_threads<R: Threads + Wait + Copy + Send + AllocGlobal + 'static>(
 
 /// A script whose two ports begin at `go`, in its short form.
 pub const SCRIPT: &str =
-    "vfs 6 32768\n@pools\n@receiver 3\n@receiver 5\ngo\npw 0x8220 1\n@send 5 0200000000030200000000990800.00*46 3c00302900000000\nmr 3 0x1000 16\nwire 0200000000030200000000990800.00*46\n";
+    "vfs 6 32768\n@pools\n@receiver 3\n@receiver 5\ngo\npw PFDTXGSWC 1\n@send 5 0200000000030200000000990800.00*46 3c00302900000000\nmr 3 0x1000 16\nwire 0200000000030200000000990800.00*46\n";

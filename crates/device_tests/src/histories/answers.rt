@@ -1,5 +1,6 @@
 use super::*;
 use crate::compare::assert_equal;
+use script_support::registers::{PFVFRE, VFLINKS, VMOLR, VTEICS, VTIVAR};
 
 // All functions open, each with one receive descriptor, whose message is that of the vector.
 fn open_all<R: Abort, M: GuestMem>(
@@ -10,7 +11,7 @@ fn open_all<R: Abort, M: GuestMem>(
 ) -> Result<(), Fail> {
     let mut frame = FrameBuf::blank();
     // both words of the receive enables
-    for offset in [0x51E0, 0x51E4] {
+    for offset in [PFVFRE, PFVFRE + 4] {
         let enable = Request::PfWrite(offset, 0xFFFF_FFFF);
         keep(rt, history, device, Caller::Driver, enable, &mut frame);
     }
@@ -21,7 +22,7 @@ fn open_all<R: Abort, M: GuestMem>(
         let write = Request::MemWrite(pool, 0, descriptor);
         keep(rt, history, device, port_of(pool), write, &mut frame);
         for (offset, value) in RECEIVE {
-            let value = if offset == 0x120 {
+            let value = if offset == VTIVAR {
                 0x80 | vector
             } else {
                 value
@@ -42,7 +43,7 @@ fn accept_broadcast<R: Abort, M: GuestMem>(
 ) {
     let mut frame = FrameBuf::blank();
     for pool in pools {
-        let accept = Request::PfWrite(0xF000 + 4 * u32::from(*pool), 0x0800_0000);
+        let accept = Request::PfWrite(VMOLR + 4 * u32::from(*pool), 0x0800_0000);
         keep(rt, history, device, Caller::Driver, accept, &mut frame);
     }
 }
@@ -79,7 +80,7 @@ fn a_twin_gives_messages_to_any_pools(rt: HostRuntime) -> Result<(), Fail> {
         );
         assert_equal(&rt, told.pools(), told.pools_with(vector as u8));
         // all three vectors of one pool
-        let set = Request::VfWrite(7, 0x104, 7);
+        let set = Request::VfWrite(7, VTEICS, 7);
         let told = keep(&rt, &mut history, &mut device, port_of(7), set, &mut frame).messages;
         assert_equal(&rt, told.pools().bits(), 1 << 7);
         let mut twin = device_of_64(rt.alloc())?;
@@ -96,7 +97,7 @@ fn a_device_whose_function_is_open_gives_another_answer(rt: HostRuntime) -> Resu
     for request in [
         Request::PfRead(0),
         Request::Open(0),
-        Request::VfRead(0, 0x10),
+        Request::VfRead(0, VFLINKS),
     ] {
         let service = Caller::Service;
         keep(&rt, &mut history, &mut device, service, request, &mut frame);

@@ -2,6 +2,10 @@
 use crate::compare::assert_equal;
 use device::{Answer, Device, Event, MemBytes, Queue, Reply};
 use guest_memory::{FlatMem, GuestMem};
+use script_support::registers::{
+    ADVANCED, ENABLE, MPSAR, PFVFRE, PFVFTE, RAH, RAL, RDBAL0, RDLEN0, RDT0, ROUTES, RXDCTL0,
+    SRRCTL0, TDBAL0, TDLEN0, TXDCTL0, VALID, VTEIMS, VTIVAR,
+};
 use std::alloc::Global;
 use std::process::Abort;
 use std::test::Fail;
@@ -15,24 +19,24 @@ mod registers;
 
 // Registers of the physical function, and what they are written: function 3 has an address and may receive and send.
 pub const SETTINGS: [(u32, u32); 5] = [
-    (0x51E0, 0xFF),
-    (0x8110, 0xFF),
-    (0xA218, 0x2),
-    (0xA21C, 0x8000_0300),
-    (0xA618, 0x8),
+    (PFVFRE, 0xFF),
+    (PFVFTE, 0xFF),
+    (RAL + 8 * 3, 0x2),
+    (RAH + 8 * 3, VALID | 0x300),
+    (MPSAR + 8 * 3, 0x8),
 ];
 // Registers of a function, and what they are written: one receive descriptor in a ring at 0x1000, and both causes of queue 0.
 pub const RECEIVE: [(u32, u32); 7] = [
-    (0x1000, 0x1000),
-    (0x1008, 128),
-    (0x1014, 0x0200_0002),
-    (0x1028, 0x0200_0000),
-    (0x1018, 1),
-    (0x120, 0x8180),
-    (0x108, 7),
+    (RDBAL0, 0x1000),
+    (RDLEN0, 128),
+    (SRRCTL0, ADVANCED | 2),
+    (RXDCTL0, ENABLE),
+    (RDT0, 1),
+    (VTIVAR, ROUTES),
+    (VTEIMS, 7),
 ];
 // The same for a transmit ring of eight descriptors at 0x2000.
-pub const TRANSMIT: [(u32, u32); 3] = [(0x2000, 0x2000), (0x2008, 128), (0x2028, 0x0200_0000)];
+pub const TRANSMIT: [(u32, u32); 3] = [(TDBAL0, 0x2000), (TDLEN0, 128), (TXDCTL0, ENABLE)];
 
 // A frame of 60 bytes to an address that ends with `to`, with a number in its last bytes.
 pub fn frame_to(to: u8, number: u16) -> Result<FrameBuf, Fault> {

@@ -6,7 +6,7 @@ use std::process::Abort;
 use std::test::Fail;
 
 const SCRIPT: &str =
-    "vfs 6 32768\n@pools\n@receiver 3\n@receiver 5\npw 0x8220 1\n@send 5 0200000000030200000000990800.00*46 3c00302900000000\nmr 3 0x1000 16\n";
+    "vfs 6 32768\n@pools\n@receiver 3\n@receiver 5\npw PFDTXGSWC 1\n@send 5 0200000000030200000000990800.00*46 3c00302900000000\nmr 3 0x1000 16\n";
 
 // How many bytes the first lines have.
 fn bytes_of_lines(text: &[u8], lines: usize) -> usize {

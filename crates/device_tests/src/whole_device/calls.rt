@@ -3,6 +3,10 @@ use super::*;
 use crate::compare::assert_equal;
 use device::{MemSlice, Outcome, Request, Span};
 use irq_causes::Messages;
+use script_support::registers::{
+    ENABLE, PFDTXGSWC, PFVFLRE0, PFVFRE, PFVFSPOOF, TDH0, TDT0, TXDCTL0, VFLINKS, VTEICR, VTEICS,
+    VTEIMS,
+};
 use wire_frame::PoolId;
 
 // The vectors that a pool got.
@@ -41,15 +45,15 @@ fn open_and_end(rt: HostRuntime) -> Result<(), Fail> {
 #[test]
 fn vf_read_and_vf_write(rt: HostRuntime) -> Result<(), Fail> {
     let mut device = Device::new(rt.alloc(), memories(rt.alloc(), 2, 65536)?)?;
-    assert_equal(&rt, device.vf_read(1, 0x10), Err(Fault::NotOpen));
+    assert_equal(&rt, device.vf_read(1, VFLINKS), Err(Fault::NotOpen));
     assert_equal(&rt, device.open(1), Ok(()));
     // the link is up, and VTEIMS reads what was set
-    assert_equal(&rt, device.vf_read(1, 0x10), Ok(0x7000_0000));
-    assert_equal(&rt, heard(device.vf_write(1, 0x108, 7)), Some(0));
-    assert_equal(&rt, device.vf_read(1, 0x108), Ok(7));
+    assert_equal(&rt, device.vf_read(1, VFLINKS), Ok(0x7000_0000));
+    assert_equal(&rt, heard(device.vf_write(1, VTEIMS, 7)), Some(0));
+    assert_equal(&rt, device.vf_read(1, VTEIMS), Ok(7));
     assert_equal(&rt, device.vf_read(1, 0x101), Err(Fault::BadOffset));
     // a cause that is set issues the message of its vector, to this pool alone
-    let messages = device.vf_write(1, 0x104, 4)?;
+    let messages = device.vf_write(1, VTEICS, 4)?;
     assert_equal(&rt, messages.pools().bits(), 2);
     assert_equal(&rt, to(messages, 1), 4);
     Ok(())
@@ -87,18 +91,18 @@ fn mem_read_and_mem_write(rt: HostRuntime) -> Result<(), Fail> {
 #[test]
 fn pf_read_pf_write_flr_and_reset(rt: HostRuntime) -> Result<(), Fail> {
     let mut device = Device::new(rt.alloc(), memories(rt.alloc(), 2, 65536)?)?;
-    assert_equal(&rt, device.pf_write(0x51E0, 3), Ok(()));
-    assert_equal(&rt, device.pf_read(0x51E0), Ok(3));
+    assert_equal(&rt, device.pf_write(PFVFRE, 3), Ok(()));
+    assert_equal(&rt, device.pf_read(PFVFRE), Ok(3));
     assert_equal(&rt, device.pf_read(0x2_0000), Err(Fault::BadOffset));
     assert_equal(&rt, device.flr(1), Err(Fault::NotOpen));
     assert_equal(&rt, device.open(1), Ok(()));
-    assert_equal(&rt, heard(device.vf_write(1, 0x108, 7)), Some(0));
+    assert_equal(&rt, heard(device.vf_write(1, VTEIMS, 7)), Some(0));
     assert_equal(&rt, device.flr(1), Ok(()));
-    assert_equal(&rt, device.vf_read(1, 0x108), Ok(0));
-    assert_equal(&rt, device.pf_read(0x600), Ok(2));
+    assert_equal(&rt, device.vf_read(1, VTEIMS), Ok(0));
+    assert_equal(&rt, device.pf_read(PFVFLRE0), Ok(2));
     device.reset();
-    assert_equal(&rt, device.pf_read(0x51E0), Ok(0));
-    assert_equal(&rt, device.vf_read(1, 0x108), Err(Fault::NotOpen));
+    assert_equal(&rt, device.pf_read(PFVFRE), Ok(0));
+    assert_equal(&rt, device.vf_read(1, VTEIMS), Err(Fault::NotOpen));
     Ok(())
 }
 
@@ -135,16 +139,16 @@ fn send_one<R: Abort, M: GuestMem>(
         Ok(()),
     );
     for (offset, value) in [
-        (0x2028, 0),
-        (0x2010, 0),
-        (0x2018, 0),
-        (0x2028, 0x200_0000),
-        (0x2018, 1),
+        (TXDCTL0, 0),
+        (TDH0, 0),
+        (TDT0, 0),
+        (TXDCTL0, ENABLE),
+        (TDT0, 1),
     ] {
         assert_equal(rt, heard(device.vf_write(3, offset, value)), Some(0));
     }
     // the cause of the former frame stands no more once it is read
-    assert!(rt; device.vf_read(3, 0x100).is_ok());
+    assert!(rt; device.vf_read(3, VTEICR).is_ok());
     let mut room = FrameBuf::blank();
     let taken = device.serve(3, Queue::Q0, &mut room);
     assert_equal(rt, taken.messages.pools().bits(), 8);
@@ -167,12 +171,12 @@ fn serve_hands_out_the_frame_that_left(rt: HostRuntime) -> Result<(), Fail> {
     // without loopback each frame leaves
     assert_equal(&rt, send_one(&rt, &mut device, 4)?, (Outcome::Sent, true));
     // under loopback one for an address that a pool holds stays, and one for another leaves
-    assert_equal(&rt, device.pf_write(0x8220, 1), Ok(()));
+    assert_equal(&rt, device.pf_write(PFDTXGSWC, 1), Ok(()));
     assert_equal(&rt, send_one(&rt, &mut device, 3)?, (Outcome::Sent, false));
     assert_equal(&rt, send_one(&rt, &mut device, 4)?, (Outcome::Sent, true));
     assert_equal(&rt, device.wire_len(), 2);
     // a frame that the sender's settings don't permit goes nowhere
-    assert_equal(&rt, device.pf_write(0x8200, 0x8), Ok(()));
+    assert_equal(&rt, device.pf_write(PFVFSPOOF, 0x8), Ok(()));
     assert_equal(
         &rt,
         send_one(&rt, &mut device, 4)?,

@@ -1,5 +1,6 @@
 use super::*;
 use crate::compare::assert_equal;
+use script_support::registers::{PFVFRE, VTEIMS};
 
 // Whether the requests stand for the same event.
 fn is_same(first: Request<'_>, second: Request<'_>) -> bool {
@@ -57,16 +58,16 @@ fn events_without_bytes_read_back(rt: HostRuntime) -> Result<(), Fail> {
         rt.alloc(),
         &[
             Request::Open(3),
-            Request::VfWrite(3, 0x108, 5),
-            Request::VfRead(3, 0x108),
+            Request::VfWrite(3, VTEIMS, 5),
+            Request::VfRead(3, VTEIMS),
             Request::MemRead(3, 2048, 2048),
             Request::MemRead(255, u64::MAX, u16::MAX),
             Request::Serve(3, Queue::Q0),
             Request::Serve(4, Queue::Q1),
             Request::Flr(3),
             Request::End(3),
-            Request::PfWrite(0x51E0, 0xFFFF_FFFF),
-            Request::PfRead(0x51E0),
+            Request::PfWrite(PFVFRE, 0xFFFF_FFFF),
+            Request::PfRead(PFVFRE),
             Request::PfReset,
         ],
     )
@@ -110,7 +111,7 @@ fn there_are_as_many_entries_as_the_cap(rt: HostRuntime) -> Result<(), Fail> {
     let mut history = History::new(rt.alloc(), 2)?;
     let mut frame = FrameBuf::blank();
     assert!(rt; history.is_empty());
-    for offset in [0x51E0, 0x51E4] {
+    for offset in [PFVFRE, PFVFRE + 4] {
         assert!(rt; !history.is_full());
         keep(
             &rt,

@@ -5,6 +5,10 @@ use guest_memory::FlatMem;
 use lone::follow::follow;
 use lone::{Given, Lone, PoolView, Room, Seen};
 use pool_filter::{Own, Tables};
+use script_support::registers::{
+    ADVANCED, ENABLE, MPSAR, PF_VT_CTL, PFDTXGSWC, PFVFRE, PFVFTE, RAH, RAL, RDBAL0, RDLEN0, RDT0,
+    ROUTES, RXDCTL0, SRRCTL0, TDBAL0, TDLEN0, TDT0, TXDCTL0, VALID, VTEIMS, VTIVAR,
+};
 use std::alloc::Global;
 use std::process::Abort;
 use std::test::Fail;
@@ -14,31 +18,31 @@ use wire_frame::{Fault, FrameBuf, FrameLimit, PoolId};
 // Registers of the physical function, and what they are written: functions 0 and 1 have addresses that end with 10 and 11,
 // and frames go from pool to pool.
 const SETTINGS: [(u32, u32); 9] = [
-    (0x51E0, 0x3),
-    (0x8110, 0x3),
-    (0x8220, 0x1),
-    (0xA200, 0x2),
-    (0xA204, 0x8000_1000),
-    (0xA600, 0x1),
-    (0xA208, 0x2),
-    (0xA20C, 0x8000_1100),
-    (0xA608, 0x2),
+    (PFVFRE, 0x3),
+    (PFVFTE, 0x3),
+    (PFDTXGSWC, 0x1),
+    (RAL, 0x2),
+    (RAH, VALID | 0x1000),
+    (MPSAR, 0x1),
+    (RAL + 8, 0x2),
+    (RAH + 8, VALID | 0x1100),
+    (MPSAR + 8, 0x2),
 ];
 // Whether each of these writes leaves own settings for pool 0.
 const LEFT: [bool; 9] = [true, true, false, false, false, true, false, false, false];
 // Registers of a function, and what they are written: one receive descriptor in a ring at 0x1000, a transmit ring of eight
 // descriptors at 0x2000, and a message for either.
 const RINGS: [(u32, u32); 10] = [
-    (0x1000, 0x1000),
-    (0x1008, 128),
-    (0x1014, 0x0200_0002),
-    (0x1028, 0x0200_0000),
-    (0x1018, 1),
-    (0x2000, 0x2000),
-    (0x2008, 128),
-    (0x2028, 0x0200_0000),
-    (0x120, 0x8180),
-    (0x108, 7),
+    (RDBAL0, 0x1000),
+    (RDLEN0, 128),
+    (SRRCTL0, ADVANCED | 2),
+    (RXDCTL0, ENABLE),
+    (RDT0, 1),
+    (TDBAL0, 0x2000),
+    (TDLEN0, 128),
+    (TXDCTL0, ENABLE),
+    (VTIVAR, ROUTES),
+    (VTEIMS, 7),
 ];
 
 // A transmit descriptor of 60 bytes at 0x6000, the last of its frame, which reports its status.
@@ -134,15 +138,15 @@ fn set_up<R: Abort>(rt: &R, lone: &mut Lone<FlatMem>) -> Result<(), Fail> {
         lone,
         Request::MemWrite(0, 0x2000, MemSlice::new(&DESCRIPTOR)?),
     );
-    does(rt, lone, Request::VfWrite(0, 0x2018, 1));
+    does(rt, lone, Request::VfWrite(0, TDT0, 1));
     Ok(())
 }
 
 // Own settings by which pool 0 may receive and transmit.
 fn both_ways(own: &mut Own) -> Result<(), Fail> {
     let mut tables = Tables::new();
-    tables.write(0x51E0, 1);
-    tables.write(0x8110, 1);
+    tables.write(PFVFRE, 1);
+    tables.write(PFVFTE, 1);
     tables.own(PoolId::new(0).ok_or("a pool")?, own);
     Ok(())
 }
@@ -168,8 +172,8 @@ fn settings_that_differ_are_left(rt: HostRuntime) -> Result<(), Fail> {
         );
     }
     for (request, kind) in [
-        (Request::PfWrite(0x51E1, 0), Kind::Nothing),
-        (Request::PfRead(0x51E0), Kind::Nothing),
+        (Request::PfWrite(PFVFRE + 1, 0), Kind::Nothing),
+        (Request::PfRead(PFVFRE), Kind::Nothing),
         (Request::PfReset, Kind::Gone),
         (Request::PfReset, Kind::Gone),
     ] {
@@ -183,14 +187,14 @@ fn settings_that_differ_are_left(rt: HostRuntime) -> Result<(), Fail> {
 fn settings_are_those_after_the_write(rt: HostRuntime) -> Result<(), Fail> {
     let mut watch = watch_pair(rt.alloc())?;
     let mut room = Room::new();
-    match watch.step(Request::PfWrite(0x8110, 1), &mut room) {
+    match watch.step(Request::PfWrite(PFVFTE, 1), &mut room) {
         Some(Given::NewSettings(own)) => {
             assert!(rt; own.may_transmit());
             assert!(rt; !own.may_receive());
         }
         _ => assert!(rt; false),
     }
-    match watch.step(Request::PfWrite(0x8110, 2), &mut room) {
+    match watch.step(Request::PfWrite(PFVFTE, 2), &mut room) {
         Some(Given::NewSettings(own)) => assert!(rt; !own.may_transmit()),
         _ => assert!(rt; false),
     }
@@ -220,7 +224,7 @@ fn own_events_and_frames_are_left(rt: HostRuntime) -> Result<(), Fail> {
     assert!(rt; !is_offered(&mut watch, &others, &mut room));
     assert!(rt; !is_offered(&mut watch, &nobodys, &mut room));
     // and as default pool it gets the last of them
-    let default_pool = Request::PfWrite(0x51B0, 0);
+    let default_pool = Request::PfWrite(PF_VT_CTL, 0);
     assert_equal(
         &rt,
         kind_of(watch.step(default_pool, &mut room)),
@@ -321,7 +325,7 @@ fn a_frame_of_another_function(rt: HostRuntime) -> Result<(), Fail> {
         &rt,
         &mut watch,
         &mut lone,
-        Request::VfWrite(1, 0x2018, 1),
+        Request::VfWrite(1, TDT0, 1),
         &mut room,
     );
     let seen = follow(

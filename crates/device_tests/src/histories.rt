@@ -3,6 +3,9 @@ use device::{Device, MemSlice, Queue, Request, Response};
 use guest_memory::{FlatMem, GuestMem};
 use history::head::Head;
 use history::{Caller, History, Room};
+use script_support::registers::{
+    ADVANCED, ENABLE, RDBAL0, RDLEN0, RDT0, ROUTES, RXDCTL0, SRRCTL0, VTEIMS, VTIVAR,
+};
 use std::alloc::Global;
 use std::mem::size_of;
 use std::process::Abort;
@@ -17,13 +20,13 @@ mod making;
 // Registers of a function, and what they are written: one receive descriptor in a ring at 0, and all causes set and
 // acknowledged without a mask. The cause of receive queue 0 is that of vector 0.
 const RECEIVE: [(u32, u32); 7] = [
-    (0x1000, 0),
-    (0x1008, 128),
-    (0x1014, 0x0200_0002),
-    (0x1028, 0x0200_0000),
-    (0x1018, 1),
-    (0x120, 0x8180),
-    (0x108, 7),
+    (RDBAL0, 0),
+    (RDLEN0, 128),
+    (SRRCTL0, ADVANCED | 2),
+    (RXDCTL0, ENABLE),
+    (RDT0, 1),
+    (VTIVAR, ROUTES),
+    (VTEIMS, 7),
 ];
 
 // A device with 64 functions, all closed.

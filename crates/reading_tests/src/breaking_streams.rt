@@ -7,7 +7,7 @@ use std::process::Abort;
 use std::test::Fail;
 
 const SCRIPT: &str =
-    "vfs 8 65536\n@pools\n@receiver 3\nwire 0200000000030200000000990800.00*46\nmr 3 0x1000 16\nr 3 0x101c\nr 3 0x1010\n";
+    "vfs 8 65536\n@pools\n@receiver 3\nwire 0200000000030200000000990800.00*46\nmr 3 0x1000 16\nr 3 VFGPRC\nr 3 RDH0\n";
 
 // Each mode, those for one function with the function that the script gives a frame to.
 const MODES: [Mode; 3] = [Mode::Run, Mode::Keep(3), Mode::Lone(3)];

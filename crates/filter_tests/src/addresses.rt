@@ -1,6 +1,7 @@
 //! Words as a driver writes them, and what the tables then say.
 use crate::compare::{assert_equal, assert_equal_at};
 use addr_tables::AddrTables;
+use script_support::registers::{MCSTCTRL, MPSAR, MTA, RAH, RAL};
 use wire_frame::{Mac, PoolId};
 
 /// The first and the last entry hold one address, 02:00:00:00:00:77, for pools 1 and 34; an entry that is not valid holds
@@ -9,17 +10,17 @@ use wire_frame::{Mac, PoolId};
 fn entries_with_one_address_are_united(rt: HostRuntime) {
     let mut tables = AddrTables::default();
     let words = [
-        (0xA200, 0x2),
-        (0xA204, 0x8000_7700),
-        (0xA600, 0x2),
-        (0xA5F8, 0x2),
-        (0xA5FC, 0x8000_7700),
-        (0xA9FC, 0x4),
-        (0xA208, 0x2),
-        (0xA20C, 0x7700),
-        (0xA608, 0x20),
-        (0xA210, 0x2),
-        (0xA214, 0x8000_7800),
+        (RAL, 0x2),
+        (RAH, 0x8000_7700),
+        (MPSAR, 0x2),
+        (RAL + 8 * 127, 0x2),
+        (RAH + 8 * 127, 0x8000_7700),
+        (MPSAR + 8 * 127 + 4, 0x4),
+        (RAL + 8, 0x2),
+        (RAH + 8, 0x7700),
+        (MPSAR + 8, 0x20),
+        (RAL + 8 * 2, 0x2),
+        (RAH + 8 * 2, 0x8000_7800),
     ];
     for (offset, value) in words {
         tables.write(offset, value);
@@ -45,17 +46,17 @@ fn entries_with_one_address_are_united(rt: HostRuntime) {
 fn a_valid_entry_follows_its_words(rt: HostRuntime) {
     let mut tables = AddrTables::new();
     let steps = [
-        (0xA200, 0x2, [0, 0, 0]),
-        (0xA600, 0x8, [0, 0, 0]),
-        (0xA204, 0x8000_1100, [0x8, 0, 0]),
-        (0xA204, 0x8000_2200, [0, 0x8, 0]),
-        (0xA200, 0x3, [0, 0, 0x8]),
-        (0xA604, 0x8000_0000, [0, 0, 0x8000_0000_0000_0008]),
-        (0xA600, 0x10, [0, 0, 0x8000_0000_0000_0010]),
-        (0xA204, 0x2200, [0, 0, 0]),
-        (0xA604, 0x0, [0, 0, 0]),
-        (0xA204, 0x8000_2200, [0, 0, 0x10]),
-        (0xA600, 0x0, [0, 0, 0]),
+        (RAL, 0x2, [0, 0, 0]),
+        (MPSAR, 0x8, [0, 0, 0]),
+        (RAH, 0x8000_1100, [0x8, 0, 0]),
+        (RAH, 0x8000_2200, [0, 0x8, 0]),
+        (RAL, 0x3, [0, 0, 0x8]),
+        (MPSAR + 4, 0x8000_0000, [0, 0, 0x8000_0000_0000_0008]),
+        (MPSAR, 0x10, [0, 0, 0x8000_0000_0000_0010]),
+        (RAH, 0x2200, [0, 0, 0]),
+        (MPSAR + 4, 0x0, [0, 0, 0]),
+        (RAH, 0x8000_2200, [0, 0, 0x10]),
+        (MPSAR, 0x0, [0, 0, 0]),
     ];
     for (offset, value, want) in steps {
         tables.write(offset, value);
@@ -81,11 +82,16 @@ fn repeated_addresses_lose_one_entry(rt: HostRuntime) {
         (4, 0x55, 16),
     ];
     for (e, last, pools) in entries {
-        tables.write(0xA200 + 8 * e, 0x2);
-        tables.write(0xA600 + 8 * e, pools);
-        tables.write(0xA204 + 8 * e, 0x8000_0000 + 256 * last);
+        tables.write(RAL + 8 * e, 0x2);
+        tables.write(MPSAR + 8 * e, pools);
+        tables.write(RAH + 8 * e, 0x8000_0000 + 256 * last);
     }
-    for (high, want) in [(0xA5FC, 21), (0xA204, 20), (0xA224, 4), (0xA214, 0)] {
+    for (high, want) in [
+        (RAH + 8 * 127, 21),
+        (RAH, 20),
+        (RAH + 8 * 4, 4),
+        (RAH + 8 * 2, 0),
+    ] {
         tables.write(high, 0x5500);
         assert_equal_at(&rt, tables.pools_of(Mac([2, 0, 0, 0, 0, 0x55])), want, high);
         assert_equal(&rt, tables.pools_of(Mac([2, 0, 0, 0, 0, 0x44])), 8);
@@ -100,9 +106,9 @@ fn many_addresses_take_few_comparisons(rt: HostRuntime) {
     let mut tables = AddrTables::new();
     assert_equal(&rt, tables.probe(Mac([2, 0, 0, 0, 0, 0])), (0, 0));
     for e in 0..128 {
-        tables.write(0xA200 + 8 * e, 0x2);
-        tables.write(0xA204 + 8 * e, 0x8000_FE00 - 512 * e);
-        tables.write(0xA600 + 4 * (2 * e + e / 32 % 2), 1 << (e % 32));
+        tables.write(RAL + 8 * e, 0x2);
+        tables.write(RAH + 8 * e, 0x8000_FE00 - 512 * e);
+        tables.write(MPSAR + 4 * (2 * e + e / 32 % 2), 1 << (e % 32));
     }
     for e in 0..128u8 {
         let last = 254 - 2 * e;
@@ -132,9 +138,9 @@ fn many_addresses_take_few_comparisons(rt: HostRuntime) {
 fn full_tables() -> AddrTables {
     let mut tables = AddrTables::new();
     for e in 0..128 {
-        tables.write(0xA200 + 8 * e, 0x2);
-        tables.write(0xA204 + 8 * e, 0x8000_0000 + 256 * e);
-        tables.write(0xA600 + 4 * (2 * e + e / 32 % 2), 1 << (e % 32));
+        tables.write(RAL + 8 * e, 0x2);
+        tables.write(RAH + 8 * e, 0x8000_0000 + 256 * e);
+        tables.write(MPSAR + 4 * (2 * e + e / 32 % 2), 1 << (e % 32));
     }
     tables
 }
@@ -145,7 +151,7 @@ fn full_tables() -> AddrTables {
 fn full_tables_are_rewritten(rt: HostRuntime) {
     let mut tables = full_tables();
     for e in 0..128u8 {
-        tables.write(0xA204 + 8 * u32::from(e), 0x8000_8000 + 256 * u32::from(e));
+        tables.write(RAH + 8 * u32::from(e), 0x8000_8000 + 256 * u32::from(e));
         let former = tables.probe(Mac([2, 0, 0, 0, 0, e]));
         assert_equal_at(&rt, former.0, 0, e);
         assert!(rt; former.1 <= 8, "entry {e}");
@@ -162,19 +168,19 @@ fn one_address_gathers_all_pools(rt: HostRuntime) {
     let mut tables = full_tables();
     let address = Mac([2, 0, 0, 0, 0, 0xEE]);
     for e in 0..128 {
-        tables.write(0xA204 + 8 * e, 0x8000_EE00);
+        tables.write(RAH + 8 * e, 0x8000_EE00);
     }
     assert_equal(&rt, tables.probe(address), (u64::MAX, 1));
     assert_equal(&rt, tables.probe(Mac([2, 0, 0, 0, 0, 0x7F])), (0, 1));
     for e in 0..64 {
-        tables.write(0xA204 + 8 * e, 0xEE00);
+        tables.write(RAH + 8 * e, 0xEE00);
     }
     assert_equal(&rt, tables.probe(address), (u64::MAX, 1));
     for e in 64..127 {
-        tables.write(0xA204 + 8 * e, 0xEE00);
+        tables.write(RAH + 8 * e, 0xEE00);
     }
     assert_equal(&rt, tables.probe(address), (0x8000_0000_0000_0000, 1));
-    tables.write(0xA5FC, 0xEE00);
+    tables.write(RAH + 8 * 127, 0xEE00);
     assert_equal(&rt, tables.probe(address), (0, 0));
 }
 
@@ -184,17 +190,17 @@ fn one_address_gathers_all_pools(rt: HostRuntime) {
 fn entries_give_addresses(rt: HostRuntime) {
     let mut tables = AddrTables::new();
     let words = [
-        (0xA200, 0x5634_1202),
-        (0xA204, 0x8000_7778),
-        (0xA600, 0x2),
-        (0xA5F8, 0x2),
-        (0xA5FC, 0x8000_7700),
-        (0xA9FC, 0x4),
-        (0xA208, 0x2),
-        (0xA20C, 0x7700),
-        (0xA608, 0x2),
-        (0xA210, 0x2),
-        (0xA214, 0x8000_7800),
+        (RAL, 0x5634_1202),
+        (RAH, 0x8000_7778),
+        (MPSAR, 0x2),
+        (RAL + 8 * 127, 0x2),
+        (RAH + 8 * 127, 0x8000_7700),
+        (MPSAR + 8 * 127 + 4, 0x4),
+        (RAL + 8, 0x2),
+        (RAH + 8, 0x7700),
+        (MPSAR + 8, 0x2),
+        (RAL + 8 * 2, 0x2),
+        (RAH + 8 * 2, 0x8000_7800),
     ];
     for (offset, value) in words {
         tables.write(offset, value);
@@ -226,11 +232,11 @@ fn multicast_hashes(rt: HostRuntime) {
     ];
     for (offset_bits, word, bit) in hashes {
         let mut tables = AddrTables::new();
-        tables.write(0x5090, 4 + offset_bits);
+        tables.write(MCSTCTRL, 4 + offset_bits);
         assert!(rt; !tables.multicast_hit(address));
         tables.write(word, 1 << bit);
         assert!(rt; tables.multicast_hit(address), "MO {offset_bits}");
-        tables.write(0x5090, offset_bits);
+        tables.write(MCSTCTRL, offset_bits);
         assert!(rt;
             !tables.multicast_hit(address),
             "MO {offset_bits} with the table off"

@@ -2,6 +2,10 @@
 use crate::compare::{assert_equal, assert_equal_at};
 use bitflags::Flags;
 use pool_filter::{Own, PoolFlags, Tables, accept_mask};
+use script_support::registers::{
+    MCSTCTRL, MPSAR, PF_VT_CTL, PFDTXGSWC, PFVFRE, PFVFSPOOF, PFVFTE, RAH, RAL, VFTA, VLNCTRL,
+    VLVF, VLVFB, VMOLR, VMVIR,
+};
 use std::process::Abort;
 use std::test::Fail;
 use wire_frame::{FrameBuf, Mac, PoolId, PortVlan, Vid};
@@ -39,12 +43,12 @@ fn pool(number: u8) -> Result<PoolId, Fail> {
 #[test]
 fn entries_with_one_address_are_united(rt: HostRuntime) -> Result<(), Fail> {
     let tables = tables_with(&[
-        (0xA200, 0x2),
-        (0xA204, 0x8000_7700),
-        (0xA600, 0x2),
-        (0xA5F8, 0x2),
-        (0xA5FC, 0x8000_7700),
-        (0xA9FC, 0x4),
+        (RAL, 0x2),
+        (RAH, 0x8000_7700),
+        (MPSAR, 0x2),
+        (RAL + 8 * 127, 0x2),
+        (RAH + 8 * 127, 0x8000_7700),
+        (MPSAR + 8 * 127 + 4, 0x4),
     ]);
     let address = [2, 0, 0, 0, 0, 0x77];
     assert_equal(
@@ -67,7 +71,7 @@ fn entries_with_one_address_are_united(rt: HostRuntime) -> Result<(), Fail> {
 /// Broadcast is for the pools with BAM, here 3, and for no pool with all other flags, here 4.
 #[test]
 fn broadcast_by_its_flag(rt: HostRuntime) -> Result<(), Fail> {
-    let tables = tables_with(&[(0xF00C, 0x0800_0000), (0xF010, 0x1300_0000)]);
+    let tables = tables_with(&[(VMOLR + 4 * 3, 0x0800_0000), (VMOLR + 4 * 4, 0x1300_0000)]);
     assert_equal(&rt, accept_mask(&tables, &frame_to([0xFF; 6], None)?), 0x8);
     assert_equal(
         &rt,
@@ -90,36 +94,40 @@ fn broadcast_by_its_flag(rt: HostRuntime) -> Result<(), Fail> {
 fn flags_of_neighbours(rt: HostRuntime) {
     let mut tables = Tables::new();
     let steps = [
-        (0xF080, 0x0900_0000, [0x1_0000_0000, 0, 0x1_0000_0000, 0]),
         (
-            0xF07C,
+            VMOLR + 4 * 32,
+            0x0900_0000,
+            [0x1_0000_0000, 0, 0x1_0000_0000, 0],
+        ),
+        (
+            VMOLR + 4 * 31,
             0x1200_0000,
             [0x1_0000_0000, 0x8000_0000, 0x1_0000_0000, 0x8000_0000],
         ),
         (
-            0xF084,
+            VMOLR + 4 * 33,
             0x1B00_0000,
             [0x3_0000_0000, 0x2_8000_0000, 0x3_0000_0000, 0x2_8000_0000],
         ),
         (
-            0xF080,
+            VMOLR + 4 * 32,
             0x1000_0000,
             [0x2_0000_0000, 0x2_8000_0000, 0x2_0000_0000, 0x3_8000_0000],
         ),
         (
-            0xF07C,
+            VMOLR + 4 * 31,
             0x0,
             [0x2_0000_0000, 0x2_0000_0000, 0x2_0000_0000, 0x3_0000_0000],
         ),
-        (0xF084, 0xE4FF_FFFF, [0, 0, 0, 0x1_0000_0000]),
-        (0xF000, 0x0800_0000, [0, 0, 0x1, 0x1_0000_0000]),
+        (VMOLR + 4 * 33, 0xE4FF_FFFF, [0, 0, 0, 0x1_0000_0000]),
+        (VMOLR, 0x0800_0000, [0, 0, 0x1, 0x1_0000_0000]),
         (
-            0xF0FC,
+            VMOLR + 4 * 63,
             0x0800_0000,
             [0, 0, 0x8000_0000_0000_0001, 0x1_0000_0000],
         ),
         (
-            0xF100,
+            VLVF,
             0x1B00_0000,
             [0, 0, 0x8000_0000_0000_0001, 0x1_0000_0000],
         ),
@@ -148,13 +156,13 @@ fn multicast_by_its_hash(rt: HostRuntime) -> Result<(), Fail> {
         (3, [1, 0, 0x5E, 0, 0x12, 3], 0x5260, 0x0004_0000),
     ];
     for (offset_bits, address, word, bit) in hashes {
-        let mut tables = tables_with(&[(0xF004, 0x0200_0000), (0x5090, 4 + offset_bits)]);
+        let mut tables = tables_with(&[(VMOLR + 4, 0x0200_0000), (MCSTCTRL, 4 + offset_bits)]);
         let frame = frame_to(address, None)?;
         assert_equal_at(&rt, accept_mask(&tables, &frame), 0, offset_bits);
         tables.write(word, bit);
         assert_equal_at(&rt, accept_mask(&tables, &frame), 0x2, offset_bits);
         assert!(rt; tables.multicast_hit(Mac(address)));
-        tables.write(0x5090, offset_bits);
+        tables.write(MCSTCTRL, offset_bits);
         assert_equal_at(&rt, accept_mask(&tables, &frame), 0, offset_bits);
     }
     Ok(())
@@ -165,26 +173,26 @@ fn multicast_by_its_hash(rt: HostRuntime) -> Result<(), Fail> {
 #[test]
 fn vlans_filter(rt: HostRuntime) -> Result<(), Fail> {
     let mut tables = tables_with(&[
-        (0xA208, 0x2),
-        (0xA20C, 0x8000_0100),
-        (0xA608, 0x2),
-        (0xA210, 0x2),
-        (0xA214, 0x8000_0200),
-        (0xA610, 0x4),
-        (0xF100, 0x8000_0064),
-        (0xF200, 0x2),
-        (0xF104, 0x8000_0064),
-        (0xF208, 0x4),
-        (0xF008, 0x0100_0000),
+        (RAL + 8, 0x2),
+        (RAH + 8, 0x8000_0100),
+        (MPSAR + 8, 0x2),
+        (RAL + 8 * 2, 0x2),
+        (RAH + 8 * 2, 0x8000_0200),
+        (MPSAR + 8 * 2, 0x4),
+        (VLVF, 0x8000_0064),
+        (VLVFB, 0x2),
+        (VLVF + 4, 0x8000_0064),
+        (VLVFB + 8, 0x4),
+        (VMOLR + 4 * 2, 0x0100_0000),
     ]);
     let first = [2, 0, 0, 0, 0, 1];
     let second = [2, 0, 0, 0, 0, 2];
     assert!(rt; !tables.filtering());
     assert_equal(&rt, accept_mask(&tables, &frame_to(first, Some(101))?), 0x2);
-    tables.write(0x5088, 0x4000_0000);
+    tables.write(VLNCTRL, 0x4000_0000);
     assert!(rt; tables.filtering());
     assert_equal(&rt, accept_mask(&tables, &frame_to(first, Some(100))?), 0);
-    tables.write(0xA00C, 0x10);
+    tables.write(VFTA + 4 * 3, 0x10);
     assert_equal(
         &rt,
         accept_mask(&tables, &frame_to(first, Some(0xE064))?),
@@ -209,16 +217,16 @@ fn vlans_filter(rt: HostRuntime) -> Result<(), Fail> {
 #[test]
 fn default_pool(rt: HostRuntime) -> Result<(), Fail> {
     let mut tables = Tables::new();
-    assert_equal(&rt, tables.read(0x51B0), 0x6000_0001);
+    assert_equal(&rt, tables.read(PF_VT_CTL), 0x6000_0001);
     assert_equal(&rt, tables.default_pool(), None);
-    tables.write(0x51B0, 0x300);
-    assert_equal(&rt, tables.read(0x51B0), 0x4000_0301);
+    tables.write(PF_VT_CTL, 0x300);
+    assert_equal(&rt, tables.read(PF_VT_CTL), 0x4000_0301);
     assert_equal(&rt, tables.default_pool(), Some(pool(6)?));
-    tables.write(0x51B0, 0xFFFF_FFFF);
-    assert_equal(&rt, tables.read(0x51B0), 0x6000_1F81);
+    tables.write(PF_VT_CTL, 0xFFFF_FFFF);
+    assert_equal(&rt, tables.read(PF_VT_CTL), 0x6000_1F81);
     assert_equal(&rt, tables.default_pool(), None);
     tables.clear();
-    assert_equal(&rt, tables.read(0x51B0), 0x6000_0001);
+    assert_equal(&rt, tables.read(PF_VT_CTL), 0x6000_0001);
     Ok(())
 }
 
@@ -227,11 +235,11 @@ fn default_pool(rt: HostRuntime) -> Result<(), Fail> {
 #[test]
 fn switches(rt: HostRuntime) -> Result<(), Fail> {
     let tables = tables_with(&[
-        (0x51E0, 0x1),
-        (0x51E4, 0x8000_0000),
-        (0x8114, 0x2),
-        (0x8204, 0x0402),
-        (0x8220, 0xFFFF_FFFF),
+        (PFVFRE, 0x1),
+        (PFVFRE + 4, 0x8000_0000),
+        (PFVFTE + 4, 0x2),
+        (PFVFSPOOF + 4, 0x0402),
+        (PFDTXGSWC, 0xFFFF_FFFF),
     ]);
     assert_equal(&rt, tables.receiving_pools(), 0x8000_0000_0000_0001);
     for (number, receives, transmits, address, vlan) in [
@@ -262,8 +270,8 @@ fn port_vlans(rt: HostRuntime) -> Result<(), Fail> {
         (0x8000_0000, 0x8000_0000, PortVlan::Never),
         (0xFFFF_FFFF, 0xC000_FFFF, PortVlan::Descriptor),
     ] {
-        let tables = tables_with(&[(0x8014, written)]);
-        assert_equal(&rt, tables.read(0x8014), read);
+        let tables = tables_with(&[(VMVIR + 4 * 5, written)]);
+        assert_equal(&rt, tables.read(VMVIR + 4 * 5), read);
         assert_equal(&rt, tables.port_vlan(pool(5)?), rule);
         assert_equal(&rt, tables.port_vlan(pool(4)?), PortVlan::Descriptor);
     }
@@ -275,40 +283,40 @@ fn port_vlans(rt: HostRuntime) -> Result<(), Fail> {
 // 02:00:00:00:00:55 for pool 1. Of the VLAN entries, 0 and 63 hold id 100 for pool 1, 1 holds id 7 for pools 1 and 2, 2 holds
 // id 9 for pool 2, 3, which is not valid, id 11 for pool 1, and 4 id 200 for pool 1, which the VLAN table does not have.
 const OWN_WORDS: [(u32, u32); 34] = [
-    (0xA200, 0x2),
-    (0xA204, 0x8000_7700),
-    (0xA600, 0x2),
-    (0xA5F8, 0x2),
-    (0xA5FC, 0x8000_7700),
-    (0xA9F8, 0x2),
-    (0xA228, 0x2),
-    (0xA22C, 0x8000_0300),
-    (0xA628, 0x6),
-    (0xA230, 0x2),
-    (0xA234, 0x8000_6600),
-    (0xA630, 0x4),
-    (0xA238, 0x2),
-    (0xA23C, 0x5500),
-    (0xA638, 0x2),
-    (0xF100, 0x8000_0064),
-    (0xF200, 0x2),
-    (0xF1FC, 0x8000_0064),
-    (0xF3F8, 0x2),
-    (0xF104, 0x8000_0007),
-    (0xF208, 0x6),
-    (0xF108, 0x8000_0009),
-    (0xF210, 0x4),
-    (0xF10C, 0xB),
-    (0xF218, 0x2),
-    (0xF110, 0x8000_00C8),
-    (0xF220, 0x2),
-    (0xA000, 0xA80),
-    (0xA00C, 0x10),
-    (0xF004, 0x0900_0000),
-    (0x51E0, 0x2),
-    (0x8110, 0x4),
-    (0x8200, 0x0402),
-    (0x8004, 0x4000_E064),
+    (RAL, 0x2),
+    (RAH, 0x8000_7700),
+    (MPSAR, 0x2),
+    (RAL + 8 * 127, 0x2),
+    (RAH + 8 * 127, 0x8000_7700),
+    (MPSAR + 8 * 127, 0x2),
+    (RAL + 8 * 5, 0x2),
+    (RAH + 8 * 5, 0x8000_0300),
+    (MPSAR + 8 * 5, 0x6),
+    (RAL + 8 * 6, 0x2),
+    (RAH + 8 * 6, 0x8000_6600),
+    (MPSAR + 8 * 6, 0x4),
+    (RAL + 8 * 7, 0x2),
+    (RAH + 8 * 7, 0x5500),
+    (MPSAR + 8 * 7, 0x2),
+    (VLVF, 0x8000_0064),
+    (VLVFB, 0x2),
+    (VLVF + 4 * 63, 0x8000_0064),
+    (VLVFB + 8 * 63, 0x2),
+    (VLVF + 4, 0x8000_0007),
+    (VLVFB + 8, 0x6),
+    (VLVF + 4 * 2, 0x8000_0009),
+    (VLVFB + 8 * 2, 0x4),
+    (VLVF + 4 * 3, 0xB),
+    (VLVFB + 8 * 3, 0x2),
+    (VLVF + 4 * 4, 0x8000_00C8),
+    (VLVFB + 8 * 4, 0x2),
+    (VFTA, 0xA80),
+    (VFTA + 4 * 3, 0x10),
+    (VMOLR + 4, 0x0900_0000),
+    (PFVFRE, 0x2),
+    (PFVFTE, 0x4),
+    (PFVFSPOOF, 0x0402),
+    (VMVIR + 4, 0x4000_E064),
 ];
 
 /// Whether a pool's settings have just these of the addresses, by their last bytes, and just these of the ids.
@@ -353,18 +361,18 @@ fn own_settings_are_compared(rt: HostRuntime) -> Result<(), Fail> {
     let mut before = Own::none();
     tables_with(&OWN_WORDS).own(pool(1)?, &mut before);
     for (offset, value, same) in [
-        (0xA200, 0x3, false),
-        (0xF104, 0x8000_0009, false),
-        (0xF004, 0x0800_0000, false),
-        (0x51E0, 0x0, false),
-        (0x8110, 0x6, false),
-        (0x8200, 0x0400, false),
-        (0x8200, 0x0602, false),
-        (0x8004, 0x0, false),
-        (0x51E0, 0xFFFF_FFFF, true),
-        (0xF004, 0x0100_0000, true),
-        (0xA238, 0x3, true),
-        (0xA204, 0x8000_0300, true),
+        (RAL, 0x3, false),
+        (VLVF + 4, 0x8000_0009, false),
+        (VMOLR + 4, 0x0800_0000, false),
+        (PFVFRE, 0x0, false),
+        (PFVFTE, 0x6, false),
+        (PFVFSPOOF, 0x0400, false),
+        (PFVFSPOOF, 0x0602, false),
+        (VMVIR + 4, 0x0, false),
+        (PFVFRE, 0xFFFF_FFFF, true),
+        (VMOLR + 4, 0x0100_0000, true),
+        (RAL + 8 * 7, 0x3, true),
+        (RAH, 0x8000_0300, true),
     ] {
         let mut tables = tables_with(&OWN_WORDS);
         tables.write(offset, value);

@@ -2,6 +2,7 @@
 use crate::compare::{assert_equal, assert_equal_at};
 use anti_spoof::{honest, passes_anti_spoof};
 use pool_filter::{Own, Tables};
+use script_support::registers::{MPSAR, PFVFSPOOF, RAH, RAL, VFTA, VLVF, VLVFB, VMOLR};
 use std::test::Fail;
 use wire_frame::{FrameBuf, PoolId};
 
@@ -39,19 +40,19 @@ fn sources_of(tables: &Tables, pool: PoolId) -> Result<[bool; 3], Fail> {
 fn sources_are_checked(rt: HostRuntime) -> Result<(), Fail> {
     let mut tables = Tables::new();
     for (offset, value) in [
-        (0xA210, 0x2),
-        (0xA214, 0x8000_0200),
-        (0xA610, 0x4),
-        (0xA228, 0x2),
-        (0xA22C, 0x8000_0500),
-        (0xA628, 0x20),
+        (RAL + 8 * 2, 0x2),
+        (RAH + 8 * 2, 0x8000_0200),
+        (MPSAR + 8 * 2, 0x4),
+        (RAL + 8 * 5, 0x2),
+        (RAH + 8 * 5, 0x8000_0500),
+        (MPSAR + 8 * 5, 0x20),
     ] {
         tables.write(offset, value);
     }
     let second = PoolId::new(2).ok_or("no such pool")?;
     let fifth = PoolId::new(5).ok_or("no such pool")?;
     assert_equal(&rt, sources_of(&tables, second)?, [true, true, true]);
-    tables.write(0x8200, 0x4);
+    tables.write(PFVFSPOOF, 0x4);
     assert_equal(&rt, sources_of(&tables, second)?, [true, false, false]);
     assert_equal(&rt, sources_of(&tables, fifth)?, [true, true, true]);
     Ok(())
@@ -68,12 +69,12 @@ fn vlans_are_checked(rt: HostRuntime) -> Result<(), Fail> {
     let mut tables = Tables::new();
     assert!(rt; honest(&tables, pool, &tagged));
     for (offset, value, tagged_passes, untagged_passes) in [
-        (0x8200, 0x2000, false, false),
-        (0xF100, 0x8000_0064, false, false),
-        (0xF200, 0x20, false, false),
-        (0xA00C, 0x10, true, false),
-        (0xF014, 0x0100_0000, true, true),
-        (0xA00C, 0x20, false, true),
+        (PFVFSPOOF, 0x2000, false, false),
+        (VLVF, 0x8000_0064, false, false),
+        (VLVFB, 0x20, false, false),
+        (VFTA + 4 * 3, 0x10, true, false),
+        (VMOLR + 4 * 5, 0x0100_0000, true, true),
+        (VFTA + 4 * 3, 0x20, false, true),
     ] {
         tables.write(offset, value);
         assert_equal_at(&rt, honest(&tables, pool, &tagged), tagged_passes, offset);
@@ -94,12 +95,12 @@ fn held_settings_are_checked(rt: HostRuntime) -> Result<(), Fail> {
     let pool = PoolId::new(5).ok_or("no such pool")?;
     let mut tables = Tables::new();
     for (offset, value) in [
-        (0xA228, 0x2),
-        (0xA22C, 0x8000_0500),
-        (0xA628, 0x20),
-        (0xF100, 0x8000_0064),
-        (0xF200, 0x20),
-        (0xA00C, 0x10),
+        (RAL + 8 * 5, 0x2),
+        (RAH + 8 * 5, 0x8000_0500),
+        (MPSAR + 8 * 5, 0x20),
+        (VLVF, 0x8000_0064),
+        (VLVFB, 0x20),
+        (VFTA + 4 * 3, 0x10),
     ] {
         tables.write(offset, value);
     }
@@ -116,7 +117,7 @@ fn held_settings_are_checked(rt: HostRuntime) -> Result<(), Fail> {
         (0x2000, [true, false, false, true]),
         (0x2020, [true, false, false, false]),
     ] {
-        tables.write(0x8200, checks);
+        tables.write(PFVFSPOOF, checks);
         tables.own(pool, &mut own);
         let [tagged, elsewhere, untagged, nobodys] = &frames;
         let found = [

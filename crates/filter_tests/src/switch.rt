@@ -2,6 +2,7 @@
 use crate::compare::assert_equal;
 use local_switch::*;
 use pool_filter::Tables;
+use script_support::registers::{MPSAR, PF_VT_CTL, PFDTXGSWC, PFVFRE, RAH, RAL, VLNCTRL, VMOLR};
 use std::test::Fail;
 use wire_frame::{FrameBuf, PoolId, PoolSet};
 
@@ -9,12 +10,12 @@ use wire_frame::{FrameBuf, PoolId, PoolSet};
 fn three_tenants() -> Tables {
     let mut tables = Tables::new();
     for pool in 3..6u32 {
-        tables.write(0xA200 + 8 * pool, 2);
-        tables.write(0xA204 + 8 * pool, 0x8000_0000 + 256 * pool);
-        tables.write(0xA600 + 8 * pool, 1 << pool);
-        tables.write(0xF000 + 4 * pool, 0x0800_0000);
+        tables.write(RAL + 8 * pool, 2);
+        tables.write(RAH + 8 * pool, 0x8000_0000 + 256 * pool);
+        tables.write(MPSAR + 8 * pool, 1 << pool);
+        tables.write(VMOLR + 4 * pool, 0x0800_0000);
     }
-    tables.write(0x51E0, 0xFF);
+    tables.write(PFVFRE, 0xFF);
     tables
 }
 
@@ -45,7 +46,7 @@ fn routes_frames_of_the_wire(rt: HostRuntime) -> Result<(), Fail> {
         (0x300, OF_POOL_3, 0x08),
         (0x480, OF_NOBODY, 0),
     ] {
-        tables.write(0x51B0, default);
+        tables.write(PF_VT_CTL, default);
         let route = route(&tables, Source::Wire, &frame_to(address)?);
         let local = PoolSet::from_bits(local);
         assert_equal(&rt, route, Route { local, wire: false });
@@ -58,7 +59,7 @@ fn routes_frames_of_a_pool(rt: HostRuntime) -> Result<(), Fail> {
     let mut tables = three_tenants();
     let sender = PoolId::new(5).ok_or("a pool")?;
     // Pool 6 is the default pool, and takes no frames of pools.
-    tables.write(0x51B0, 0x300);
+    tables.write(PF_VT_CTL, 0x300);
     for (loopback, address, local, wire) in [
         (0, OF_POOL_3, 0, true),
         (0, BROADCAST, 0, true),
@@ -67,13 +68,13 @@ fn routes_frames_of_a_pool(rt: HostRuntime) -> Result<(), Fail> {
         (1, OF_NOBODY, 0, true),
         (1, BROADCAST, 0x18, true),
     ] {
-        tables.write(0x8220, loopback);
+        tables.write(PFDTXGSWC, loopback);
         let route = route(&tables, Source::Pool(sender), &frame_to(address)?);
         let local = PoolSet::from_bits(local);
         assert_equal(&rt, route, Route { local, wire });
     }
     // VLAN filtering holds of frames of pools too, and changes nothing of the wire.
-    tables.write(0x5088, 0x4000_0000);
+    tables.write(VLNCTRL, 0x4000_0000);
     let route = route(&tables, Source::Pool(sender), &frame_to(OF_POOL_3)?);
     assert_equal(
         &rt,

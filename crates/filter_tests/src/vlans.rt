@@ -1,5 +1,6 @@
 //! Words as a driver writes them, and what the tables then say.
 use crate::compare::{assert_equal, assert_equal_at};
+use script_support::registers::{VFTA, VLNCTRL, VLVF, VLVFB};
 use vlan_table::VlanTable;
 use wire_frame::{PoolId, Vid};
 
@@ -9,23 +10,23 @@ use wire_frame::{PoolId, Vid};
 fn entries_with_one_id_are_united(rt: HostRuntime) {
     let mut table = VlanTable::default();
     let words = [
-        (0xF100, 0x8000_0064),
-        (0xF200, 0x2),
-        (0xF1FC, 0x8000_0064),
-        (0xF3FC, 0x4),
-        (0xF104, 0x64),
-        (0xF208, 0x20),
-        (0xF108, 0x8000_0000),
-        (0xF210, 0x8),
-        (0xA000, 0x1),
-        (0xA00C, 0x20),
+        (VLVF, 0x8000_0064),
+        (VLVFB, 0x2),
+        (VLVF + 4 * 63, 0x8000_0064),
+        (VLVFB + 8 * 63 + 4, 0x4),
+        (VLVF + 4, 0x64),
+        (VLVFB + 8, 0x20),
+        (VLVF + 4 * 2, 0x8000_0000),
+        (VLVFB + 8 * 2, 0x8),
+        (VFTA, 0x1),
+        (VFTA + 4 * 3, 0x20),
     ];
     for (offset, value) in words {
         table.write(offset, value);
     }
     assert_equal(&rt, Vid::new(100).map(|id| table.pools_of(id)), Some(0));
     assert_equal(&rt, Vid::new(0).map(|id| table.pools_of(id)), Some(0x8));
-    table.write(0xA00C, 0x10);
+    table.write(VFTA + 4 * 3, 0x10);
     assert_equal(
         &rt,
         Vid::new(100).map(|id| table.pools_of(id)),
@@ -50,18 +51,18 @@ fn found(table: &VlanTable, id: u16) -> (u64, u8) {
 #[test]
 fn a_valid_entry_follows_its_words(rt: HostRuntime) {
     let mut table = VlanTable::new();
-    table.write(0xA00C, 0x10);
-    table.write(0xA018, 0x100);
+    table.write(VFTA + 4 * 3, 0x10);
+    table.write(VFTA + 4 * 6, 0x100);
     let steps = [
-        (0xF200, 0x8, [0, 0]),
-        (0xF100, 0x8000_0064, [0x8, 0]),
-        (0xF100, 0x8000_00C8, [0, 0x8]),
-        (0xF204, 0x8000_0000, [0, 0x8000_0000_0000_0008]),
-        (0xF200, 0x10, [0, 0x8000_0000_0000_0010]),
-        (0xF100, 0xC8, [0, 0]),
-        (0xF204, 0x0, [0, 0]),
-        (0xF100, 0x8000_00C8, [0, 0x10]),
-        (0xF200, 0x0, [0, 0]),
+        (VLVFB, 0x8, [0, 0]),
+        (VLVF, 0x8000_0064, [0x8, 0]),
+        (VLVF, 0x8000_00C8, [0, 0x8]),
+        (VLVFB + 4, 0x8000_0000, [0, 0x8000_0000_0000_0008]),
+        (VLVFB, 0x10, [0, 0x8000_0000_0000_0010]),
+        (VLVF, 0xC8, [0, 0]),
+        (VLVFB + 4, 0x0, [0, 0]),
+        (VLVF, 0x8000_00C8, [0, 0x10]),
+        (VLVFB, 0x0, [0, 0]),
     ];
     for (offset, value, want) in steps {
         table.write(offset, value);
@@ -75,12 +76,17 @@ fn a_valid_entry_follows_its_words(rt: HostRuntime) {
 #[test]
 fn repeated_ids_lose_one_entry(rt: HostRuntime) {
     let mut table = VlanTable::new();
-    table.write(0xA008, 0x700);
+    table.write(VFTA + 4 * 2, 0x700);
     for (e, id, pools) in [(0, 73, 1), (1, 74, 2), (2, 73, 4), (3, 72, 8), (4, 73, 16)] {
-        table.write(0xF200 + 8 * e, pools);
-        table.write(0xF100 + 4 * e, 0x8000_0000 + id);
+        table.write(VLVFB + 8 * e, pools);
+        table.write(VLVF + 4 * e, 0x8000_0000 + id);
     }
-    for (offset, want) in [(0xF1FC, 21), (0xF100, 20), (0xF110, 4), (0xF108, 0)] {
+    for (offset, want) in [
+        (VLVF + 4 * 63, 21),
+        (VLVF, 20),
+        (VLVF + 4 * 4, 4),
+        (VLVF + 4 * 2, 0),
+    ] {
         table.write(offset, 73);
         assert_equal_at(&rt, found(&table, 73).0, want, offset);
         assert_equal(&rt, found(&table, 72).0, 8);
@@ -93,16 +99,16 @@ fn repeated_ids_lose_one_entry(rt: HostRuntime) {
 #[test]
 fn the_table_counts_at_each_lookup(rt: HostRuntime) {
     let mut table = VlanTable::new();
-    table.write(0xF100, 0x8000_0000);
-    table.write(0xF200, 0x2);
-    table.write(0xF1FC, 0x8000_0FFF);
-    table.write(0xF3FC, 0x4);
+    table.write(VLVF, 0x8000_0000);
+    table.write(VLVFB, 0x2);
+    table.write(VLVF + 4 * 63, 0x8000_0FFF);
+    table.write(VLVFB + 8 * 63 + 4, 0x4);
     let steps = [
-        (0xA000, 0xFFFF_FFFE, [0, 0]),
-        (0xA1FC, 0x8000_0000, [0, 0x4_0000_0000]),
-        (0xA000, 0x1, [0x2, 0x4_0000_0000]),
-        (0xA1FC, 0x7FFF_FFFF, [0x2, 0]),
-        (0xA000, 0x0, [0, 0]),
+        (VFTA, 0xFFFF_FFFE, [0, 0]),
+        (VFTA + 4 * 127, 0x8000_0000, [0, 0x4_0000_0000]),
+        (VFTA, 0x1, [0x2, 0x4_0000_0000]),
+        (VFTA + 4 * 127, 0x7FFF_FFFF, [0x2, 0]),
+        (VFTA, 0x0, [0, 0]),
     ];
     for (offset, value, want) in steps {
         table.write(offset, value);
@@ -117,12 +123,12 @@ fn the_table_counts_at_each_lookup(rt: HostRuntime) {
 fn many_ids_take_few_comparisons(rt: HostRuntime) {
     let mut table = VlanTable::new();
     for word in 0..128 {
-        table.write(0xA000 + 4 * word, 0xFFFF_FFFF);
+        table.write(VFTA + 4 * word, 0xFFFF_FFFF);
     }
     assert_equal(&rt, found(&table, 0), (0, 0));
     for e in 0..64 {
-        table.write(0xF100 + 4 * e, 0x8000_0FFF - 65 * e);
-        table.write(0xF200 + 8 * e + 4 * (e / 32), 1 << (e % 32));
+        table.write(VLVF + 4 * e, 0x8000_0FFF - 65 * e);
+        table.write(VLVFB + 8 * e + 4 * (e / 32), 1 << (e % 32));
     }
     for e in 0..64u16 {
         let id = 4095 - 65 * e;
@@ -144,16 +150,16 @@ fn many_ids_take_few_comparisons(rt: HostRuntime) {
 fn entries_give_ids(rt: HostRuntime) {
     let mut table = VlanTable::new();
     let words = [
-        (0xF100, 0x8000_0064),
-        (0xF200, 0x2),
-        (0xF1FC, 0x8000_0FFF),
-        (0xF3FC, 0x4),
-        (0xF104, 0x64),
-        (0xF208, 0x2),
-        (0xF108, 0x8000_0065),
-        (0xF210, 0x2),
-        (0xA00C, 0x10),
-        (0xA1FC, 0x8000_0000),
+        (VLVF, 0x8000_0064),
+        (VLVFB, 0x2),
+        (VLVF + 4 * 63, 0x8000_0FFF),
+        (VLVFB + 8 * 63 + 4, 0x4),
+        (VLVF + 4, 0x64),
+        (VLVFB + 8, 0x2),
+        (VLVF + 4 * 2, 0x8000_0065),
+        (VLVFB + 8 * 2, 0x2),
+        (VFTA + 4 * 3, 0x10),
+        (VFTA + 4 * 127, 0x8000_0000),
     ];
     for (offset, value) in words {
         table.write(offset, value);
@@ -181,9 +187,9 @@ fn entries_give_ids(rt: HostRuntime) {
 fn filtering_is_one_bit(rt: HostRuntime) {
     let mut table = VlanTable::new();
     assert!(rt; !table.filtering());
-    table.write(0x5088, 0xBFFF_FFFF);
+    table.write(VLNCTRL, 0xBFFF_FFFF);
     assert!(rt; !table.filtering());
-    table.write(0x5088, 0x4000_8100);
+    table.write(VLNCTRL, 0x4000_8100);
     assert!(rt; table.filtering());
 }
 

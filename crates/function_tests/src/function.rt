@@ -1,6 +1,11 @@
 //! Worked examples from outside, as a driver and the wire would do them: each is a list of steps with what they answer.
 use guest_memory::{FlatMem, GuestMem};
 use irq_causes::Vectors;
+use script_support::registers::{
+    ADVANCED, ENABLE, RDBAH0, RDBAL0, RDH0, RDLEN0, RDLEN1, RDT0, ROUTES, RXDCTL0, RXDCTL1,
+    SRRCTL0, SRRCTL1, TDBAL0, TDH0, TDLEN0, TDLEN1, TDT0, TXDCTL0, VFCTRL, VFGPRC, VFLINKS, VTEIAC,
+    VTEICR, VTEICS, VTEIMC, VTEIMS, VTIVAR, VTIVAR_MISC,
+};
 use std::alloc::Global;
 use std::process::Abort;
 use std::test::Fail;
@@ -139,13 +144,13 @@ fn plainly(rt: &impl Abort, alloc: Global, first: &[Step], then: &[Step]) -> Res
 // A receive queue with one buffer of 2 KiB at 0x4000; receive raises vector 0, transmit vector 1.
 const RECEIVING: &[Step] = &[
     Put(0x1000, &[0, 0x40], 0, 8),
-    W(0x1000, 0x1000),
-    W(0x1008, 128),
-    W(0x1014, 0x0200_0002),
-    W(0x1028, 0x0200_0000),
-    W(0x1018, 1),
-    W(0x120, 0x8180),
-    W(0x108, 7),
+    W(RDBAL0, 0x1000),
+    W(RDLEN0, 128),
+    W(SRRCTL0, ADVANCED | 2),
+    W(RXDCTL0, ENABLE),
+    W(RDT0, 1),
+    W(VTIVAR, ROUTES),
+    W(VTEIMS, 7),
 ];
 
 // A frame to 02:00:00:00:00:03, of type IPv4.
@@ -162,14 +167,14 @@ fn places_frames(rt: HostRuntime) -> Result<(), Fail> {
         &[
             Wire(FRAME, 0, 60, 1),
             Get(0x1000, &[0, 0, 0, 0, 0, 0, 0, 0, 3, 0, 0, 0, 0x3C, 0, 0, 0]),
-            R(0x101C, 1),
-            R(0x1010, 1),
+            R(VFGPRC, 1),
+            R(RDH0, 1),
             Wire(FRAME, 0, 60, 0),
-            R(0x101C, 1),
+            R(VFGPRC, 1),
         ] as &[Step],
         // The tag is stripped: the status has VP, 56 bytes and the tag control.
         &[
-            W(0x1028, 0x4200_0000),
+            W(RXDCTL0, 0x4200_0000),
             Wire(TAGGED, 0, 60, 1),
             Get(0x1008, &[0x0B, 0, 0, 0, 0x38, 0, 0x64, 0]),
             Get(0x400A, &[0, 0x99, 8, 0, 0]),
@@ -189,9 +194,9 @@ fn places_frames(rt: HostRuntime) -> Result<(), Fail> {
         &[
             Put(0x1000, &[], 0xFF, 8),
             Wire(FRAME, 0, 60, 0),
-            R(0x1028, 0),
-            R(0x101C, 0),
-            R(0x1010, 0),
+            R(RXDCTL0, 0),
+            R(VFGPRC, 0),
+            R(RDH0, 0),
         ],
     ] {
         plainly(&rt, rt.alloc(), RECEIVING, steps)?;
@@ -201,12 +206,12 @@ fn places_frames(rt: HostRuntime) -> Result<(), Fail> {
 
 // Buffers of 1 KiB, head 7 of 8; the descriptor at 7 has its buffer at 0x4000.
 const AT_THE_END: &[Step] = &[
-    W(0x120, 0x8180),
-    W(0x108, 7),
-    W(0x1000, 0x1000),
-    W(0x1008, 128),
-    W(0x1010, 7),
-    W(0x1014, 0x0200_0001),
+    W(VTIVAR, ROUTES),
+    W(VTEIMS, 7),
+    W(RDBAL0, 0x1000),
+    W(RDLEN0, 128),
+    W(RDH0, 7),
+    W(SRRCTL0, ADVANCED | 1),
     Put(0x1070, &[0, 0x40], 0, 8),
 ];
 
@@ -215,43 +220,43 @@ fn places_frames_in_pieces(rt: HostRuntime) -> Result<(), Fail> {
     for steps in [
         // Two pieces, of 1024 and 494 bytes; the second descriptor is the first of the ring.
         &[
-            W(0x1018, 1),
+            W(RDT0, 1),
             Put(0x1000, &[0, 0x50], 0, 8),
-            W(0x1028, 0x0200_0000),
+            W(RXDCTL0, ENABLE),
             Wire(FRAME, 0, 1518, 1),
             Get(0x1078, &[1, 0, 0, 0, 0, 4, 0, 0]),
             Get(0x1008, &[3, 0, 0, 0, 0xEE, 1, 0, 0]),
-            R(0x1010, 1),
+            R(RDH0, 1),
         ] as &[Step],
         // One descriptor alone: nothing changes.
         &[
-            W(0x1018, 0),
+            W(RDT0, 0),
             Put(0x1000, &[0, 0x50], 0, 8),
-            W(0x1028, 0x0200_0000),
+            W(RXDCTL0, ENABLE),
             Wire(FRAME, 0, 1518, 0),
             Get(0x1078, &[0; 8]),
             Get(0x1008, &[0; 8]),
-            R(0x1010, 7),
-            R(0x101C, 0),
+            R(RDH0, 7),
+            R(VFGPRC, 0),
         ],
         // The second buffer passes the end of the memory by one byte, and then ends with it.
         &[
-            W(0x1018, 1),
+            W(RDT0, 1),
             Put(0x1000, &[0x13, 0xFE], 0, 8),
-            W(0x1028, 0x0200_0000),
+            W(RXDCTL0, ENABLE),
             Wire(FRAME, 0, 1518, 0),
-            R(0x1028, 0),
-            R(0x1010, 7),
+            R(RXDCTL0, 0),
+            R(RDH0, 7),
             Get(0x1070, &[0, 0x40, 0, 0, 0, 0, 0, 0]),
             Put(0x1000, &[0x12, 0xFE], 0, 8),
-            W(0x1028, 0x0200_0000),
+            W(RXDCTL0, ENABLE),
             Wire(FRAME, 0, 1518, 1),
             Get(0x1070, &[0; 8]),
         ],
         // The first piece covers the second descriptor, which was read before.
         &[
-            W(0x1010, 0),
-            W(0x1018, 2),
+            W(RDH0, 0),
+            W(RDT0, 2),
             Put(
                 0x1000,
                 &[
@@ -260,7 +265,7 @@ fn places_frames_in_pieces(rt: HostRuntime) -> Result<(), Fail> {
                 0,
                 24,
             ),
-            W(0x1028, 0x0200_0000),
+            W(RXDCTL0, ENABLE),
             Wire(FRAME, 0xAA, 1518, 1),
             Get(
                 0x1000,
@@ -281,11 +286,11 @@ fn places_frames_in_pieces(rt: HostRuntime) -> Result<(), Fail> {
 fn places_jumbo_frames(rt: HostRuntime) -> Result<(), Fail> {
     // Nine buffers of 1 KiB from 0x4000 on, in a ring of sixteen.
     const NINE: &[Step] = &[
-        W(0x120, 0x8180),
-        W(0x108, 7),
-        W(0x1000, 0x1000),
-        W(0x1008, 256),
-        W(0x1014, 0x0200_0001),
+        W(VTIVAR, ROUTES),
+        W(VTEIMS, 7),
+        W(RDBAL0, 0x1000),
+        W(RDLEN0, 256),
+        W(SRRCTL0, ADVANCED | 1),
         Put(0x1000, &[0, 0x40], 0, 16),
         Put(0x1010, &[0, 0x44], 0, 16),
         Put(0x1020, &[0, 0x48], 0, 16),
@@ -298,20 +303,20 @@ fn places_jumbo_frames(rt: HostRuntime) -> Result<(), Fail> {
     ];
     for steps in [
         &[
-            W(0x1018, 9),
-            W(0x1028, 0x0200_0000),
+            W(RDT0, 9),
+            W(RXDCTL0, ENABLE),
             Wire(FRAME, 0, 9018, 1),
             Get(0x1078, &[1, 0, 0, 0, 0, 4, 0, 0]),
             Get(0x1088, &[3, 0, 0, 0, 0x3A, 3, 0, 0]),
-            R(0x1010, 9),
+            R(RDH0, 9),
         ] as &[Step],
         &[
-            W(0x1018, 8),
-            W(0x1028, 0x0200_0000),
+            W(RDT0, 8),
+            W(RXDCTL0, ENABLE),
             Wire(FRAME, 0, 9018, 0),
             Get(0x1078, &[0; 8]),
             Get(0x1088, &[0; 8]),
-            R(0x1010, 0),
+            R(RDH0, 0),
         ],
     ] {
         plainly(&rt, rt.alloc(), NINE, steps)?;
@@ -321,14 +326,14 @@ fn places_jumbo_frames(rt: HostRuntime) -> Result<(), Fail> {
 
 // A transmit queue with two descriptors, whose buffers are at 0x6000 and 0x7000 and hold a frame to 02:00:00:00:00:04.
 const SENDING: &[Step] = &[
-    W(0x120, 0x8180),
-    W(0x108, 7),
+    W(VTIVAR, ROUTES),
+    W(VTEIMS, 7),
     Put(0x6000, SENT, 0, 1600),
     Put(0x2000, &[0, 0x60], 0, 16),
     Put(0x2010, &[0, 0x70], 0, 16),
-    W(0x2000, 0x2000),
-    W(0x2008, 128),
-    W(0x2028, 0x0200_0000),
+    W(TDBAL0, 0x2000),
+    W(TDLEN0, 128),
+    W(TXDCTL0, ENABLE),
 ];
 
 const SENT: &[u8] = &[2, 0, 0, 0, 0, 4, 2, 0, 0, 0, 0, 0x99, 8, 0];
@@ -345,17 +350,17 @@ fn takes_descriptors(rt: HostRuntime) -> Result<(), Fail> {
         // Advanced, end of packet, report status.
         &[
             Put(0x2008, &[0x3C, 0, 0x30, 0x29, 0, 0, 0, 0], 0, 8),
-            W(0x2018, 1),
+            W(TDT0, 1),
             Serve(Progress::Ended, 2),
             Ended(SENT, 0, 60),
             Get(0x2008, &[0x3C, 0, 0x30, 0x29, 1, 0, 0, 0]),
-            R(0x2010, 1),
+            R(TDH0, 1),
             Serve(Progress::Idle, 0),
         ] as &[Step],
         // Legacy with a tag.
         &[
             Put(0x2008, &[0x3C, 0, 0, 0x49, 0, 0, 5, 0], 0, 8),
-            W(0x2018, 1),
+            W(TDT0, 1),
             Serve(Progress::Ended, 2),
             Ended(SENT_WITH_5, 0, 64),
             Get(0x2008, &[0x3C, 0, 0, 0x49, 1, 0, 5, 0]),
@@ -364,52 +369,52 @@ fn takes_descriptors(rt: HostRuntime) -> Result<(), Fail> {
         &[
             Put(0x2000, &[], 0xFF, 8),
             Put(0x2008, &[0x3C, 0, 0x30, 0x29, 0, 0, 0, 0], 0, 8),
-            W(0x2018, 1),
+            W(TDT0, 1),
             Serve(Progress::Faulted, 0),
-            R(0x2028, 0),
-            R(0x2010, 0),
+            R(TXDCTL0, 0),
+            R(TDH0, 0),
         ],
         // No bytes at the end of the memory, and one byte there.
         &[
             Put(0x2000, &[0, 0, 1], 0, 8),
             Put(0x2008, &[0, 0, 0x30, 0x29, 0, 0, 0, 0], 0, 8),
-            W(0x2018, 1),
+            W(TDT0, 1),
             Serve(Progress::Dropped, 2),
         ],
         &[
             Put(0x2000, &[0, 0, 1], 0, 8),
             Put(0x2008, &[1, 0, 0x30, 0x29, 0, 0, 0, 0], 0, 8),
-            W(0x2018, 1),
+            W(TDT0, 1),
             Serve(Progress::Faulted, 0),
         ],
         // Type 1, segmentation and insertion are not offered; a context is passed over.
         &[
             Put(0x2008, &[0x3C, 0, 0x10, 0x29, 0, 0, 0, 0], 0, 8),
-            W(0x2018, 1),
+            W(TDT0, 1),
             Serve(Progress::Faulted, 0),
         ],
         &[
             Put(0x2008, &[0x3C, 0, 0x30, 0xA9, 0, 0, 0, 0], 0, 8),
-            W(0x2018, 1),
+            W(TDT0, 1),
             Serve(Progress::Faulted, 0),
         ],
         &[
             Put(0x2008, &[0x3C, 0, 0x30, 0x69, 0, 0, 0, 0], 0, 8),
-            W(0x2018, 1),
+            W(TDT0, 1),
             Serve(Progress::Faulted, 0),
         ],
         &[
             Put(0x2008, &[0x3C, 0, 0x20, 0x29, 0, 0, 0, 0], 0, 8),
-            W(0x2018, 1),
+            W(TDT0, 1),
             Serve(Progress::More, 0),
             Get(0x2008, &[0x3C, 0, 0x20, 0x29, 0, 0, 0, 0]),
-            R(0x2010, 1),
+            R(TDH0, 1),
         ],
         // The descriptors are the frame.
         &[
             Put(0x2000, &[0, 0x20], 0, 8),
             Put(0x2008, &[0x10, 0, 0x30, 0x29, 0, 0, 0, 0], 0, 8),
-            W(0x2018, 1),
+            W(TDT0, 1),
             Serve(Progress::Ended, 2),
             Get(0x2008, &[0x10, 0, 0x30, 0x29, 1, 0, 0, 0]),
             Ended(&[0, 0x20, 0, 0, 0, 0, 0, 0, 0x10, 0, 0x30, 0x29], 0, 16),
@@ -418,10 +423,10 @@ fn takes_descriptors(rt: HostRuntime) -> Result<(), Fail> {
         &[
             Put(0x2008, &[0x3C, 0, 0x30, 0x28, 0, 0, 0, 0], 0, 8),
             Put(0x2018, &[1, 0, 0x30, 0x29, 0, 0, 0, 0], 0, 8),
-            W(0x2018, 2),
+            W(TDT0, 2),
             Serve(Progress::More, 2),
-            W(0x2028, 0),
-            W(0x2028, 0x0200_0000),
+            W(TXDCTL0, 0),
+            W(TXDCTL0, ENABLE),
             Serve(Progress::Dropped, 0),
         ],
     ] {
@@ -440,7 +445,7 @@ fn frames_are_within_the_limit(rt: HostRuntime) -> Result<(), Fail> {
             &[
                 Put(0x2008, &[0xE8, 3, 0x30, 0x28, 0, 0, 0, 0], 0, 8),
                 Put(0x2018, &[0x58, 2, 0x30, 0x29, 0, 0, 0, 0], 0, 8),
-                W(0x2018, 2),
+                W(TDT0, 2),
                 Serve(Progress::More, 2),
                 Serve(Progress::Dropped, 0),
             ] as &[Step],
@@ -450,7 +455,7 @@ fn frames_are_within_the_limit(rt: HostRuntime) -> Result<(), Fail> {
             &[
                 Put(0x2008, &[0xE8, 3, 0x30, 0x28, 0, 0, 0, 0], 0, 8),
                 Put(0x2018, &[0x58, 2, 0x30, 0x29, 0, 0, 0, 0], 0, 8),
-                W(0x2018, 2),
+                W(TDT0, 2),
                 Serve(Progress::More, 2),
                 Serve(Progress::Ended, 0),
                 Ended(SENT, 0, 1600),
@@ -471,7 +476,7 @@ fn ports_insert_tags(rt: HostRuntime) -> Result<(), Fail> {
             PortVlan::Always(100),
             &[
                 Put(0x2008, &[0x3C, 0, 0x30, 0x29, 0, 0, 0, 0], 0, 8),
-                W(0x2018, 1),
+                W(TDT0, 1),
                 Serve(Progress::Ended, 2),
                 Ended(SENT_WITH_100, 0, 64),
             ] as &[Step],
@@ -480,7 +485,7 @@ fn ports_insert_tags(rt: HostRuntime) -> Result<(), Fail> {
             PortVlan::Never,
             &[
                 Put(0x2008, &[0x3C, 0, 0, 0x49, 0, 0, 5, 0], 0, 8),
-                W(0x2018, 1),
+                W(TDT0, 1),
                 Serve(Progress::Ended, 2),
                 Ended(SENT, 0, 60),
             ],
@@ -490,7 +495,7 @@ fn ports_insert_tags(rt: HostRuntime) -> Result<(), Fail> {
             &[
                 Put(0x6000, SENT_WITH_5, 0, 64),
                 Put(0x2008, &[0x40, 0, 0x30, 0x29, 0, 0, 0, 0], 0, 8),
-                W(0x2018, 1),
+                W(TDT0, 1),
                 Serve(Progress::Dropped, 2),
             ],
         ),
@@ -500,7 +505,7 @@ fn ports_insert_tags(rt: HostRuntime) -> Result<(), Fail> {
                 Put(0x2008, &[0xEB, 5, 0x30, 0x29, 0, 0, 0, 0], 0, 8),
                 Put(0x2018, &[0xEA, 5, 0x30, 0x29, 0, 0, 0, 0], 0, 8),
                 Put(0x2010, &[0, 0x60], 0, 8),
-                W(0x2018, 2),
+                W(TDT0, 2),
                 Serve(Progress::Dropped, 2),
                 Serve(Progress::Ended, 0),
                 Ended(SENT_WITH_100, 0, 1518),
@@ -519,61 +524,61 @@ fn registers_answer_as_mapped(rt: HostRuntime) -> Result<(), Fail> {
     for steps in [
         // Causes: masked, unmasked, cleared by a read, cleared automatically.
         &[
-            W(0x108, 2),
-            Issues(0x104, 3, 2),
-            R(0x100, 3),
-            W(0x104, 1),
-            W(0x110, 1),
-            Issues(0x108, 1, 1),
-            R(0x100, 0),
-            W(0x108, 1),
-            W(0x10C, 2),
-            R(0x108, 1),
-            Issues(0x104, 7, 1),
-            R(0x100, 6),
-            R(0x100, 0),
+            W(VTEIMS, 2),
+            Issues(VTEICS, 3, 2),
+            R(VTEICR, 3),
+            W(VTEICS, 1),
+            W(VTEIAC, 1),
+            Issues(VTEIMS, 1, 1),
+            R(VTEICR, 0),
+            W(VTEIMS, 1),
+            W(VTEIMC, 2),
+            R(VTEIMS, 1),
+            Issues(VTEICS, 7, 1),
+            R(VTEICR, 6),
+            R(VTEICR, 0),
         ] as &[Step],
         // A base past the end of all addresses.
         &[
-            W(0x1004, 0xFFFF_FFFF),
-            W(0x1000, 0xFFFF_FFFF),
-            R(0x1000, 0xFFFF_FF80),
-            W(0x1008, 128),
-            W(0x1014, 0x0200_0002),
-            W(0x1028, 0x0200_0000),
-            R(0x1028, 0),
+            W(RDBAH0, 0xFFFF_FFFF),
+            W(RDBAL0, 0xFFFF_FFFF),
+            R(RDBAL0, 0xFFFF_FF80),
+            W(RDLEN0, 128),
+            W(SRRCTL0, ADVANCED | 2),
+            W(RXDCTL0, ENABLE),
+            R(RXDCTL0, 0),
         ],
         // Fixed words, offsets outside the map, and words of queue 1 and what they keep.
         &[
-            R(0x10, 0x7000_0000),
-            R(0x1014, 0x1000_0000),
+            R(VFLINKS, 0x7000_0000),
+            R(SRRCTL0, 0x1000_0000),
             W(0x14, 0xFFFF_FFFF),
             R(0x14, 0),
-            W(0x1054, 0xFFFF_FFFF),
-            R(0x1054, 0x1E00_001F),
-            W(0x120, 0xFFFF_FFFF),
-            R(0x120, 0x8383_8383),
-            W(0x140, 0xFFFF_FFFF),
-            R(0x140, 0x83),
-            W(0x2048, 0xFFFF_FFFF),
-            R(0x2048, 0x000F_FF80),
-            W(0x1068, 0x4000_0000),
-            R(0x1068, 0x4000_0000),
+            W(SRRCTL1, 0xFFFF_FFFF),
+            R(SRRCTL1, 0x1E00_001F),
+            W(VTIVAR, 0xFFFF_FFFF),
+            R(VTIVAR, 0x8383_8383),
+            W(VTIVAR_MISC, 0xFFFF_FFFF),
+            R(VTIVAR_MISC, 0x83),
+            W(TDLEN1, 0xFFFF_FFFF),
+            R(TDLEN1, 0x000F_FF80),
+            W(RXDCTL1, 0x4000_0000),
+            R(RXDCTL1, 0x4000_0000),
             // The descriptor type is not the advanced one.
-            W(0x1054, 2),
-            W(0x1048, 128),
-            W(0x1068, 0x0200_0000),
-            R(0x1068, 0),
-            W(0x0, 0x0400_0000),
-            R(0x2048, 0),
-            R(0x120, 0),
+            W(SRRCTL1, 2),
+            W(RDLEN1, 128),
+            W(RXDCTL1, ENABLE),
+            R(RXDCTL1, 0),
+            W(VFCTRL, 0x0400_0000),
+            R(TDLEN1, 0),
+            R(VTIVAR, 0),
         ],
         // A function-level reset keeps the memory.
         &[
             Put(0, &[0xAA], 0, 1),
-            W(0x108, 7),
+            W(VTEIMS, 7),
             Reset,
-            R(0x108, 0),
+            R(VTEIMS, 0),
             Get(0, &[0xAA]),
         ],
     ] {
@@ -582,13 +587,13 @@ fn registers_answer_as_mapped(rt: HostRuntime) -> Result<(), Fail> {
     // The longest ring, and one longer.
     for (length, on) in [(65_536, 0x0200_0000), (65_664, 0)] {
         let steps = [
-            W(0x1000, 0),
-            W(0x1008, length),
-            W(0x1014, 0x0200_0002),
-            W(0x1018, 4095),
-            W(0x1028, 0x0200_0000),
-            R(0x1018, 4095),
-            R(0x1028, on),
+            W(RDBAL0, 0),
+            W(RDLEN0, length),
+            W(SRRCTL0, ADVANCED | 2),
+            W(RDT0, 4095),
+            W(RXDCTL0, ENABLE),
+            R(RDT0, 4095),
+            R(RXDCTL0, on),
         ];
         let memory = FlatMem::new(rt.alloc(), 131_072)?;
         let limit = FrameLimit::standard();
@@ -680,7 +685,7 @@ fn boxes_of_any_kind_serve(rt: HostRuntime) -> Result<(), Fail> {
     let steps: [&[Step]; 2] = [
         RECEIVING,
         &[
-            W(0x1028, 0x4200_0000),
+            W(RXDCTL0, 0x4200_0000),
             Wire(TAGGED, 7, 60, 1),
             Get(
                 0x1000,

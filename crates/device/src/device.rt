@@ -46,6 +46,15 @@ impl<M: GuestMem> Device<M> {
     /// A device with a virtual function over each of the memories, all closed, that takes frames of up to 1518 bytes.
     /// [`Fault::BadMake`] comes exactly where there are no memories or more than 64, or one has a size outside the limits;
     /// [`Fault::NoMemory`] only where the host refused the room.
+    ///
+    /// ```
+    /// let mut memories = Vec::new(rt.alloc());
+    /// memories.push(FlatMem::new(rt.alloc(), 65536)?)?;
+    /// memories.push(FlatMem::new(rt.alloc(), 65536)?)?;
+    /// let mut device = Device::new(rt.alloc(), memories)?;
+    /// assert!(rt; device.open(1) == Ok(()));
+    /// assert!(rt; device.open(2) == Err(Fault::NoSuchVf));
+    /// ```
     pub fn new(alloc: Global, memories: Vec<M>) -> Result<Device<M>, Fault>
         ensures ok { IfOk result
             (λ d. d ≡ fresh 1518 (map (λ m. length (M.bytes m)) memories.items)) }

@@ -24,6 +24,22 @@ impl<M: GuestMem> Device<M> {
     ///
     /// A frame that a service sends is put together in `frame`, and handed out from there. Bytes that are read stand in the
     /// memory still: the outcome says where, and [`read_span`](Device::read_span) copies them.
+    ///
+    /// ```
+    /// let mut memories = Vec::new(rt.alloc());
+    /// memories.push(FlatMem::new(rt.alloc(), 65536)?)?;
+    /// let mut device = Device::new(rt.alloc(), memories)?;
+    /// let mut frame = FrameBuf::blank();
+    /// device.take(Request::Open(0), &mut frame);
+    /// device.take(Request::MemWrite(0, 8, MemSlice::new(&[7])?), &mut frame);
+    /// let taken = device.take(Request::MemRead(0, 8, 2), &mut frame);
+    /// let Outcome::Bytes(span) = taken.outcome else {
+    ///     return Err("no bytes".into());
+    /// };
+    /// let mut bytes = [1; 2];
+    /// device.read_span(span, &mut bytes);
+    /// assert!(rt; bytes == [7, 0]);
+    /// ```
     #[inline]
     pub fn take<'f>(&mut self, request: Request<'_>, frame: &'f mut FrameBuf) -> Response<'f>
         ensures takes { Takes self.old (event_of request.entry) self.new result }

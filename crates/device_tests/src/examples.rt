@@ -1,9 +1,38 @@
-//! The example of the documentation of history, which docs/check compares with this.
-use device::{Device, Request};
+//! The examples of the documentation of device and history, which docs/check compares with these.
+use device::{Device, MemSlice, Outcome, Request};
 use guest_memory::FlatMem;
 use history::{Caller, History};
 use std::test::Fail;
-use wire_frame::FrameBuf;
+use wire_frame::{Fault, FrameBuf};
+
+#[test]
+fn example_of_device_new(rt: HostRuntime) -> Result<(), Fail> {
+    let mut memories = Vec::new(rt.alloc());
+    memories.push(FlatMem::new(rt.alloc(), 65536)?)?;
+    memories.push(FlatMem::new(rt.alloc(), 65536)?)?;
+    let mut device = Device::new(rt.alloc(), memories)?;
+    assert!(rt; device.open(1) == Ok(()));
+    assert!(rt; device.open(2) == Err(Fault::NoSuchVf));
+    Ok(())
+}
+
+#[test]
+fn example_of_device_take(rt: HostRuntime) -> Result<(), Fail> {
+    let mut memories = Vec::new(rt.alloc());
+    memories.push(FlatMem::new(rt.alloc(), 65536)?)?;
+    let mut device = Device::new(rt.alloc(), memories)?;
+    let mut frame = FrameBuf::blank();
+    device.take(Request::Open(0), &mut frame);
+    device.take(Request::MemWrite(0, 8, MemSlice::new(&[7])?), &mut frame);
+    let taken = device.take(Request::MemRead(0, 8, 2), &mut frame);
+    let Outcome::Bytes(span) = taken.outcome else {
+        return Err("no bytes".into());
+    };
+    let mut bytes = [1; 2];
+    device.read_span(span, &mut bytes);
+    assert!(rt; bytes == [7, 0]);
+    Ok(())
+}
 
 #[test]
 fn example_of_history_new(rt: HostRuntime) -> Result<(), Fail> {

@@ -69,6 +69,17 @@ impl<M: GuestMem, L: Ledger, P: GuestPort> Model for LockedPort<M, L, P> {
 
 impl<M: GuestMem, L: Ledger, P: GuestPort> LockedPort<M, L, P> {
     /// The port with the device, of one pool with the share. It has made no call.
+    ///
+    /// ```
+    /// let (inner, _note) = IrqPort::new(alloc, 3, seat)?;
+    /// let share = shares.port(3).ok_or("it was handed out")?;
+    /// let mut port = LockedPort::new(device, share, inner);
+    /// port.reg_write(rt, 0x108, 5)?;
+    /// let enabled = port.reg_read(rt, 0x108)?;
+    /// port.mem_write(rt, 0, &[7, 0])?;
+    /// let mut bytes = [1; 2];
+    /// port.mem_read_into(rt, 0, &mut bytes)?;
+    /// ```
     pub fn new(device: Arc<LockedDevice<M, L>>, share: Share<L>, inner: P) -> LockedPort<M, L, P>
         requires pool { share.caller ≡ Port (P.meaning inner).pool }
         requires closed { (P.meaning inner).is_closed ≡ false }

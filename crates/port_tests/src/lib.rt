@@ -7,6 +7,8 @@ mod calls;
 #[cfg(test)]
 mod ends;
 #[cfg(test)]
+mod examples;
+#[cfg(test)]
 mod guests;
 #[cfg(test)]
 mod stage;

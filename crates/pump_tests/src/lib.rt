@@ -5,6 +5,8 @@
 #[cfg(test)]
 mod doors;
 #[cfg(test)]
+mod examples;
+#[cfg(test)]
 mod sending;
 #[cfg(test)]
 mod shelf;

@@ -67,6 +67,14 @@ impl Debug for PumpEnd {
 
 /// Gives each frame that comes to the door, in order, until `Last` comes, the door is full, or the sender is gone. It waits
 /// while no message is under way.
+///
+/// ```
+/// let mut door = LockedDoor::new(device, shares.pump);
+/// let (mut sender, mut receiver) = channel(alloc)?;
+/// let _fed = feed(&mut sender, rt, &frames);
+/// let end = pump(&mut receiver, rt, &mut door);
+/// let share = door.into_share();
+/// ```
 #[tactic(auto, using(crate::proofs::Moves::last_ends))]
 pub fn pump<D: Door, R: Wait>(receiver: &mut FrameReceiver, rt: &R, door: &mut D) -> PumpEnd
     ensures in_order { (frames : List (List ℕ))

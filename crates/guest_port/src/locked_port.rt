@@ -74,8 +74,8 @@ impl<M: GuestMem, L: Ledger, P: GuestPort> LockedPort<M, L, P> {
     /// let (inner, _note) = IrqPort::new(alloc, 3, seat)?;
     /// let share = shares.port(3).ok_or("it was handed out")?;
     /// let mut port = LockedPort::new(device, share, inner);
-    /// port.reg_write(rt, 0x108, 5)?;
-    /// let enabled = port.reg_read(rt, 0x108)?;
+    /// port.reg_write(rt, VTEIMS, 5)?;
+    /// let enabled = port.reg_read(rt, VTEIMS)?;
     /// port.mem_write(rt, 0, &[7, 0])?;
     /// let mut bytes = [1; 2];
     /// port.mem_read_into(rt, 0, &mut bytes)?;

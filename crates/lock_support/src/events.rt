@@ -1,26 +1,30 @@
 //! A script of 18 events: function 3 is set up, a frame to it comes, and what that left is read.
 use device::{Answer, Event, MemBytes, Reply};
+use script_support::registers::{
+    ADVANCED, ENABLE, MPSAR, PFVFRE, PFVFTE, RAH, RAL, RDBAL0, RDH0, RDLEN0, RDT0, ROUTES, RXDCTL0,
+    SRRCTL0, VALID, VFGPRC, VTEIMS, VTIVAR,
+};
 use std::alloc::{AllocError, Global};
 use wire_frame::{Fault, FrameBuf};
 
 // The functions may receive and transmit, and function 3 has the address 02:00:00:00:00:03.
 const SETTINGS: [(u32, u32); 5] = [
-    (0x51E0, 0xFF),
-    (0x8110, 0xFF),
-    (0xA218, 0x2),
-    (0xA21C, 0x8000_0300),
-    (0xA618, 0x8),
+    (PFVFRE, 0xFF),
+    (PFVFTE, 0xFF),
+    (RAL + 8 * 3, 0x2),
+    (RAH + 8 * 3, VALID | 0x300),
+    (MPSAR + 8 * 3, 0x8),
 ];
 
 // Its ring of eight descriptors has one to fill, and a frame issues the message of vector 0.
 const RECEIVE: [(u32, u32); 7] = [
-    (0x1000, 0x1000),
-    (0x1008, 128),
-    (0x1014, 0x0200_0002),
-    (0x1028, 0x0200_0000),
-    (0x1018, 1),
-    (0x120, 0x8180),
-    (0x108, 7),
+    (RDBAL0, 0x1000),
+    (RDLEN0, 128),
+    (SRRCTL0, ADVANCED | 2),
+    (RXDCTL0, ENABLE),
+    (RDT0, 1),
+    (VTIVAR, ROUTES),
+    (VTEIMS, 7),
 ];
 
 // What the descriptor says once the frame is there: it is done, and the frame has 60 bytes (82599 datasheet, legacy receive
@@ -77,8 +81,8 @@ fn arrival_of(alloc: Global, frame: FrameBuf) -> Result<Vec<Event>, AllocError> 
     let mut events = Vec::with_capacity(alloc, 4)?;
     events.push(Event::Wire(frame))?;
     events.push(Event::MemRead(3, 0x1000, 16))?;
-    events.push(Event::VfRead(3, 0x101C))?;
-    events.push(Event::VfRead(3, 0x1010))?;
+    events.push(Event::VfRead(3, VFGPRC))?;
+    events.push(Event::VfRead(3, RDH0))?;
     Ok(events)
 }
 

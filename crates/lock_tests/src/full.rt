@@ -6,6 +6,7 @@ use device_lock::{CALLERS, Caller, Full, Recorded, Share, Shares};
 use guest_memory::FlatMem;
 use irq_line::GuestSeat;
 use lock_support::{is_scripted, line_of, recorded, script};
+use script_support::registers::{VFGPRC, VTEIMS};
 use std::alloc::Global;
 use std::marker::Brand;
 use std::sync::ledger::{Blank, Ledger};
@@ -49,7 +50,7 @@ fn asked_thrice<L: Ledger>(
     service: &mut Share<L>,
 ) -> (bool, bool, Option<u8>) {
     let first = ask(recorded, service, Event::Open(0)).is_ok();
-    let second = ask(recorded, service, Event::VfWrite(0, 0x108, 1)).is_ok();
+    let second = ask(recorded, service, Event::VfWrite(0, VTEIMS, 1)).is_ok();
     (
         first,
         second,
@@ -82,7 +83,7 @@ fn third<L: Ledger>(
     let before = counts(recorded, service);
     let is_replayed = recorded.replays(other);
     let moved = recorded.rebase();
-    let closed = refused(ask(recorded, service, Event::VfRead(1, 0x101C)));
+    let closed = refused(ask(recorded, service, Event::VfRead(1, VFGPRC)));
     let after = counts(recorded, service);
     (
         asked,

@@ -245,13 +245,13 @@ impl Host {
     /// host.admit(pool, &policy)?;
     /// // the driver asks for a reset (VFMBMEM), takes the mailbox and rings (VFMAILBOX)
     /// let mut mailbox = Mailbox::new();
-    /// let _ = mailbox.write(0x200, 1);
-    /// let _ = mailbox.write(0x2FC, 4);
-    /// assert!(rt; mailbox.write(0x2FC, 1) == Some(Rang::Request));
+    /// let _ = mailbox.write(VFMBMEM, 1);
+    /// let _ = mailbox.write(VFMAILBOX, 4);
+    /// assert!(rt; mailbox.write(VFMAILBOX, 1) == Some(Rang::Request));
     /// let writes = host.answer(pool, &mut mailbox);
     /// // it succeeded, and the address follows
-    /// assert!(rt; mailbox.read(0x200) == Some(0x8000_0001));
-    /// assert!(rt; mailbox.read(0x204) == Some(2));
+    /// assert!(rt; mailbox.read(VFMBMEM) == Some(0x8000_0001));
+    /// assert!(rt; mailbox.read(VFMBMEM + 4) == Some(2));
     /// assert!(rt; !writes.as_slice().is_empty());
     /// ```
     #[tactic(auto, unfolding(crate::specs::Host::host_after, crate::specs::Writes::writes_after, crate::specs::Replies::reply_to))]

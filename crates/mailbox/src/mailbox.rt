@@ -54,10 +54,10 @@ impl Mailbox {
     /// ```
     /// let mut mailbox = Mailbox::new();
     /// // the first word of its memory (VFMBMEM)
-    /// let _ = mailbox.write(0x200, 7);
-    /// assert!(rt; mailbox.read(0x200) == Some(7));
-    /// // there is no register at 0x201
-    /// assert!(rt; mailbox.read(0x201).is_none());
+    /// let _ = mailbox.write(VFMBMEM, 7);
+    /// assert!(rt; mailbox.read(VFMBMEM) == Some(7));
+    /// // there is no register beside a word
+    /// assert!(rt; mailbox.read(VFMBMEM + 1).is_none());
     /// ```
     pub fn new() -> Mailbox
         ensures { result ≡ blank }

@@ -6,6 +6,7 @@ use device_lock::LockedDevice;
 use guest_memory::FlatMem;
 use guest_port::{EndNote, GuestPort, IrqPort, LockedPort};
 use lock_support::{line_of, locked};
+use script_support::registers::{VFLINKS, VTEICS, VTEIMS};
 use std::alloc::Global;
 use std::marker::Brand;
 use std::sync::ledger::{Blank, Ledger};
@@ -43,7 +44,7 @@ fn byte_at<L: Ledger, R: Wait>(rt: &R, port: &mut Port<L>, address: u64) -> Resu
     }
 }
 
-// What a guest's writes to a register, which keeps what is written (VTEIMS, 0x108), and to its memory come to, with what it reads then,
+// What a guest's writes to a register, which keeps what is written (VTEIMS), and to its memory come to, with what it reads then,
 // also into two bytes; and a reset, with what it reads of the register after it.
 type ReadBack = (
     (Result<(), Fault>, Result<u32, Fault>),
@@ -54,10 +55,10 @@ type ReadBack = (
 
 fn reads_back<L: Ledger, R: Wait>(rt: &R, port: &mut Port<L>) -> ReadBack {
     let mut two = [1, 1];
-    let register = (port.reg_write(rt, 0x108, 7), port.reg_read(rt, 0x108));
+    let register = (port.reg_write(rt, VTEIMS, 7), port.reg_read(rt, VTEIMS));
     let memory = (port.mem_write(rt, 0, &[0xAA]), byte_at(rt, port, 0));
     let read = port.mem_read_into(rt, 0, &mut two);
-    let reset = (port.flr(rt), port.reg_read(rt, 0x108));
+    let reset = (port.flr(rt), port.reg_read(rt, VTEIMS));
     (register, memory, (read, two), reset)
 }
 
@@ -135,7 +136,7 @@ fn fills<L: Ledger, R: Wait>(
 ) -> Full {
     let long = (too_long(rt, port), device.kept(rt));
     let made = (refused(rt, port), device.kept(rt));
-    let full = (port.reg_read(rt, 0x10).err(), too_long(rt, port));
+    let full = (port.reg_read(rt, VFLINKS).err(), too_long(rt, port));
     port.end();
     (long, made, full, too_long(rt, port))
 }
@@ -170,14 +171,14 @@ fn refused_calls_are_kept(rt: HostRuntime) -> Result<(), Fail> {
     Ok(())
 }
 
-// What a port peeks and takes twice once vector 0 is enabled and raised by VTEIMS (0x108) and VTEICS (0x104); whether its note knows
+// What a port peeks and takes twice once vector 0 is enabled and raised by VTEIMS and VTEICS; whether its note knows
 // the end, and what a reset is refused with, before its end, after it, and once it is closed; and the caller, the calls and the pool
 // of what it hands back.
 type Closed = ([u8; 3], [(bool, Option<Fault>); 2], (u8, u64, u8));
 
 fn closes<L: Ledger, R: Wait>(rt: &R, port: &mut Port<L>, note: &mut EndNote) -> Option<Closed> {
-    port.reg_write(rt, 0x108, 1).ok()?;
-    port.reg_write(rt, 0x104, 3).ok()?;
+    port.reg_write(rt, VTEIMS, 1).ok()?;
+    port.reg_write(rt, VTEICS, 3).ok()?;
     let taken = [port.peek_irqs(), port.take_irqs(), port.take_irqs()];
     if note.ended() {
         return None;

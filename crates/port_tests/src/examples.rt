@@ -5,6 +5,7 @@ use device::Event;
 use guest_memory::FlatMem;
 use guest_port::{GuestPort, IrqPort, LockedPort};
 use lock_support::{answer, line_of, locked};
+use script_support::registers::VTEIMS;
 use std::alloc::Global;
 use std::marker::Brand;
 use std::sync::Wait;
@@ -28,8 +29,8 @@ fn example_of_locked_port_new<L: Ledger, R: Wait>(
     let (inner, _note) = IrqPort::new(alloc, 3, seat)?;
     let share = shares.port(3).ok_or("it was handed out")?;
     let mut port = LockedPort::new(device, share, inner);
-    port.reg_write(rt, 0x108, 5)?;
-    let enabled = port.reg_read(rt, 0x108)?;
+    port.reg_write(rt, VTEIMS, 5)?;
+    let enabled = port.reg_read(rt, VTEIMS)?;
     port.mem_write(rt, 0, &[7, 0])?;
     let mut bytes = [1; 2];
     port.mem_read_into(rt, 0, &mut bytes)?;

@@ -6,6 +6,7 @@ use guest_memory::{FlatMem, GuestMem};
 use guest_port::{GuestPort, IrqPort, LockedPort, Tokens};
 use irq_line::{DeviceSeat, make};
 use lock_support::locked;
+use script_support::registers::{VTEICS, VTEIMS};
 use std::alloc::Global;
 use std::marker::Brand;
 use std::sync::Wait;
@@ -53,15 +54,15 @@ impl<P: GuestPort> GuestPort for Counting<P> {
 // How often each guest writes and reads.
 const ROUNDS: u8 = 50;
 
-// Whether a guest gets the message of vector 0, which it enables and raises by VTEIMS (0x108) and VTEICS (0x104), and reads back
+// Whether a guest gets the message of vector 0, which it enables and raises by VTEIMS and VTEICS, and reads back
 // what it writes, each time.
 fn is_served<M: GuestMem, L: Ledger, P: GuestPort, R: Wait>(
     rt: &R,
     port: &mut LockedPort<M, L, P>,
 ) -> bool {
     let pool = port.pool();
-    if port.reg_write(rt, 0x108, 1).is_err()
-        || port.reg_write(rt, 0x104, 1).is_err()
+    if port.reg_write(rt, VTEIMS, 1).is_err()
+        || port.reg_write(rt, VTEICS, 1).is_err()
         || port.take_irqs() != 1
     {
         return false;

@@ -73,7 +73,7 @@ impl<M: GuestMem> Journal<M> {
     /// Takes the event on the live device, raises its messages and keeps the call; or no more calls can be kept, and nothing
     /// changes.
     #[inline]
-    pub fn keep<'f>(
+    pub fn record<'f>(
         &mut self,
         caller: Caller,
         request: Request<'_>,

@@ -139,7 +139,7 @@ impl<M: GuestMem, L: Ledger> Recorded<M, L> {
     {
         let Recorded { journal, book } = self;
         let caller = share.caller;
-        let Some(taken) = journal.keep(caller, request, frame) else {
+        let Some(taken) = journal.record(caller, request, frame) else {
             return None;
         };
         book.add(&mut share.part, 1);

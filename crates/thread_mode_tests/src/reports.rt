@@ -6,6 +6,7 @@ use device_lock::{Recorded, Share, Shares};
 use guest_memory::{FlatMem, GuestMem};
 use lock_support::{frame_to_3, line_of, recorded};
 use modes::report::write_report;
+use script_support::registers::{PF_VT_CTL, VTEIMS};
 use std::alloc::Global;
 use std::marker::Brand;
 use std::sync::ledger::{Blank, Ledger};
@@ -39,9 +40,9 @@ fn record_all<M: GuestMem, L: Ledger>(
     let frame = frame_to_3()?;
     let is_recorded = record(recorded, &mut shares.service, Event::Open(0))
         && record(recorded, &mut shares.service, Event::Open(1))
-        && record(recorded, &mut port, Event::VfWrite(1, 0x108, 7))
+        && record(recorded, &mut port, Event::VfWrite(1, VTEIMS, 7))
         && record(recorded, &mut port, Event::VfRead(1, 0x10))
-        && record(recorded, &mut shares.pf, Event::PfRead(0x51B0))
+        && record(recorded, &mut shares.pf, Event::PfRead(PF_VT_CTL))
         && record(recorded, &mut shares.pump, Event::Wire(frame));
     if !is_recorded {
         return Err("a call was not recorded".into());

@@ -5,6 +5,7 @@ use crate::stage::{Begun, Port, SET_UP_EVENTS, begin};
 use device::{Answer, Event, Reply};
 use guest_port::{EndNote, IrqPort};
 use lock_support::{answer, frame_to_3, line_of};
+use script_support::registers::VFLINKS;
 use std::alloc::Global;
 use std::marker::Brand;
 use std::sync::Wait;
@@ -19,7 +20,7 @@ type Dropped = (bool, bool, Option<usize>, bool, usize);
 // Whether a port reads the value of its offset 0x10 so many times.
 fn reads<L: Ledger, R: Wait>(rt: &R, port: &mut Port<L>, calls: usize) -> bool {
     for _ in 0..calls {
-        if port.reg_read(rt, 0x10) != Ok(0x7000_0000) {
+        if port.reg_read(rt, VFLINKS) != Ok(0x7000_0000) {
             return false;
         }
     }

@@ -8,6 +8,7 @@ use guest_memory::FlatMem;
 use lock_support::{answer, frame_to_3};
 use log::sink::Memory as Sink;
 use log::{Level, Log, Logged};
+use script_support::registers::VFGPRC;
 use std::alloc::Global;
 use std::marker::Brand;
 use std::process::Abort;
@@ -169,7 +170,7 @@ fn under_way<L: Ledger, R: Wait>(rt: &R, alloc: Global, blank: Blank) -> Result<
     let after = note.ended();
     let mut door = LockedDoor::new(Arc::try_clone(&device)?, shares.pump);
     let is_pumped = matches!(pump(&mut receiver, rt, &mut door), PumpEnd::Last);
-    let received = read_of_3(rt, &*device, &mut service, 0x101C);
+    let received = read_of_3(rt, &*device, &mut service, VFGPRC);
     let mut notes = Vec::new(alloc);
     notes.push((3, note))?;
     let swept = sweep(rt, &mut notes, &device, &mut service).ok();

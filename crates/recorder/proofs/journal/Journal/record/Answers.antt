@@ -11,8 +11,8 @@ use Rattle.history.specs.Entries.{Entry, entry}
 use Rattle.history.specs.Recording.{Logged, made_like}
 use Rattle.recorder.specs.Legal.{AreAllowed, kept_raises}
 use Rattle.recorder.proofs.CallLemmas.{allowed_more, beside_kept, kept_raises_more}
-use Rattle.recorder.proofs.journal.Journal.keep.Goals as goal
-use Rattle.recorder.proofs.journal.Journal.keep.Given as given
+use Rattle.recorder.proofs.journal.Journal.record.Goals as goal
+use Rattle.recorder.proofs.journal.Journal.record.Given as given
 
 abbrev call : (g : given.Over) (c : goal.After-raise_all g) → Entry
 call g c = entry c.args.caller (event_of c.args.request) (step c.self.inside.recording.live (event_of c.args.request)).answer

@@ -1,6 +1,7 @@
 pub mod Act
 pub mod Events
 pub mod Limits
+pub mod Live
 pub mod Lone
 pub mod Outcome
 pub mod Replies

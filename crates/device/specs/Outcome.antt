@@ -1,12 +1,12 @@
 -- What came of an event, in few words: bytes that were read stand in the memory still, and the outcome says where.
-use Rattle.std.specs.Prelude.{◌≡◌, ℕ, Bool, true, false, List, replicate, Result, Ok, Err, Option, Some, None, if◌then◌else◌}
+use Rattle.std.specs.Prelude.{◌≡◌, ℕ, Bool, true, false, List, replicate, take, Result, Ok, Err, Option, Some, None, if◌then◌else◌}
 use Rattle.wire_frame.specs.Fault.{number_of}
 use Rattle.wire_frame.specs.declared.fault.Fault.{Fault}
 use Rattle.vf_unit.specs.Unit.{Function, bytes_at}
 use Rattle.local_switch.specs.declared.ways.Source.TheVariants.{Pool}
 use Rattle.local_switch.specs.Switch.{leaves}
 use Rattle.device.specs.Events.{Event}
-use Rattle.device.specs.declared.event.Event.TheVariants.{Serve}
+use Rattle.device.specs.declared.event.Event.TheVariants.{MemRead, Serve}
 use Rattle.device.specs.declared.event.Reply.{Reply as ReplyOf}
 use Rattle.device.specs.declared.event.Reply.TheVariants.{Done, Value, Bytes, Idle, More, Sent, Dropped, Faulted, Refused}
 use Rattle.device.specs.declared.event.Answer.{Answer}
@@ -49,6 +49,20 @@ reads _ = false
 abbrev pub IsOf : ℕ → Outcome → Type 0
 IsOf p (Bytes span) = span.pool ≡ p
 IsOf p _ = Unit
+
+-- the first of these cells hold the bytes that were read of a function's memory
+abbrev pub Holds : List ℕ → Function → Outcome → Type 0
+Holds cells f (Bytes span) = take span.count cells ≡ bytes_in f span
+Holds cells f _ = Unit
+
+abbrev pub HoldsIn : List ℕ → World → Outcome → Type 0
+HoldsIn cells w (Bytes span) = take span.count cells ≡ bytes_in (function_of span.pool w) span
+HoldsIn cells w _ = Unit
+
+-- where the event is a read, the first of these cells hold the bytes that were read
+abbrev pub HoldsRead : List ℕ → Event → World → Outcome → Type 0
+HoldsRead cells (MemRead p at count) w o = HoldsIn cells w o
+HoldsRead cells _ w o = Unit
 
 -- ---- what a call by name answers
 

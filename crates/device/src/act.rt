@@ -3,10 +3,11 @@
 //! Each refusal is decided here, but for a function that is not there. The first that fits of a function that is closed, one
 //! that is open already, a bad offset, an access that is too long and one past the end of the memory is told.
 ghost use Rattle.std.specs.Prelude.{◌≡◌, ◌+◌, ◌≤◌, ℕ, length, replicate, nat_lt, true, IfNone, OnErr, if◌then◌else◌};
-ghost use Rattle.vf_unit.specs.Unit.{size_of, is_open, has_range, bytes_at};
+ghost use Rattle.live_memory.specs.Trace.{IsTraced};
+ghost use Rattle.vf_unit.specs.Unit.{size_of, is_open, has_range, bytes_at, told_of};
 ghost use Rattle.device.specs.declared.event.Event.{Event};
 ghost use Rattle.device.specs.Act.{is_bad_offset, refusal, act};
-ghost use Rattle.device.specs.Outcome.{IsOf, issued, reply_of, done_or_refused, value_or_refused, bytes_or_refused};
+ghost use Rattle.device.specs.Outcome.{IsOf, Holds, issued, reply_of, done_or_refused, value_or_refused, bytes_or_refused};
 ghost use Rattle.device.specs.Request.{event_of};
 
 use crate::bytes::{MOST_BYTES, MemSlice};
@@ -15,6 +16,7 @@ use crate::outcome::{Acted, Outcome};
 use crate::span::Span;
 use guest_memory::GuestMem;
 use irq_causes::Vectors;
+use live_memory::{Dma, Trace};
 use vf_unit::VfUnit;
 use wire_frame::Fault;
 
@@ -33,7 +35,7 @@ pub fn is_bad_offset(space: u32, offset: u32) -> bool
 
 // Why an event is refused for this fault: the fault itself, where the function is open.
 #[inline]
-fn unless_closed<M: GuestMem>(unit: &VfUnit<M>, fault: Fault) -> Fault
+fn unless_closed<D: Dma>(unit: &VfUnit<D>, fault: Fault) -> Fault
     ensures { result ≡ (if is_open unit.now then fault else Fault.NotOpen) }
 {
     if unit.is_open() {
@@ -45,7 +47,7 @@ fn unless_closed<M: GuestMem>(unit: &VfUnit<M>, fault: Fault) -> Fault
 
 // Opens a function.
 #[tactic(auto, unfolding(crate::specs::Act::act, crate::specs::Act::refusal))]
-pub(crate) fn open<M: GuestMem>(unit: &mut VfUnit<M>) -> Result<(), Fault>
+pub(crate) fn open<D: Dma>(unit: &mut VfUnit<D>) -> Result<(), Fault>
     ensures function { (p : ℕ) → unit.new ≡ (act unit.old (Event.Open p)).function }
     ensures reply { (p : ℕ) → (act unit.old (Event.Open p)).reply ≡ done_or_refused result }
     ensures silent { (p : ℕ) → (act unit.old (Event.Open p)).messages ≡ 0 }
@@ -60,7 +62,7 @@ pub(crate) fn open<M: GuestMem>(unit: &mut VfUnit<M>) -> Result<(), Fault>
 
 // Closes a function.
 #[tactic(auto, unfolding(crate::specs::Act::act, crate::specs::Act::refusal))]
-pub(crate) fn end<M: GuestMem>(unit: &mut VfUnit<M>) -> Result<(), Fault>
+pub(crate) fn end<D: Dma>(unit: &mut VfUnit<D>) -> Result<(), Fault>
     ensures function { (p : ℕ) → unit.new ≡ (act unit.old (Event.End p)).function }
     ensures reply { (p : ℕ) → (act unit.old (Event.End p)).reply ≡ done_or_refused result }
     ensures silent { (p : ℕ) → (act unit.old (Event.End p)).messages ≡ 0 }
@@ -75,7 +77,7 @@ pub(crate) fn end<M: GuestMem>(unit: &mut VfUnit<M>) -> Result<(), Fault>
 
 // Resets a function: a function-level reset (SR-IOV 1.1, section 2.2.2).
 #[tactic(auto, unfolding(crate::specs::Act::act, crate::specs::Act::refusal))]
-pub(crate) fn flr<M: GuestMem>(unit: &mut VfUnit<M>) -> Result<(), Fault>
+pub(crate) fn flr<D: Dma>(unit: &mut VfUnit<D>) -> Result<(), Fault>
     ensures function { (p : ℕ) → unit.new ≡ (act unit.old (Event.Flr p)).function }
     ensures reply { (p : ℕ) → (act unit.old (Event.Flr p)).reply ≡ done_or_refused result }
     ensures silent { (p : ℕ) → (act unit.old (Event.Flr p)).messages ≡ 0 }
@@ -91,7 +93,7 @@ pub(crate) fn flr<M: GuestMem>(unit: &mut VfUnit<M>) -> Result<(), Fault>
 // Reads a register.
 #[inline]
 #[tactic(auto, unfolding(crate::specs::Act::act, crate::specs::Act::refusal, vf_unit::specs::Unit::read_of, vf_unit::specs::Unit::after_read_of))]
-pub(crate) fn vf_read<M: GuestMem>(unit: &mut VfUnit<M>, offset: u32) -> Result<u32, Fault>
+pub(crate) fn vf_read<D: Dma>(unit: &mut VfUnit<D>, offset: u32) -> Result<u32, Fault>
     ensures function { (p : ℕ) → unit.new ≡ (act unit.old (Event.VfRead p offset)).function }
     ensures reply { (p : ℕ)
         → (act unit.old (Event.VfRead p offset)).reply ≡ value_or_refused result }
@@ -110,8 +112,8 @@ pub(crate) fn vf_read<M: GuestMem>(unit: &mut VfUnit<M>, offset: u32) -> Result<
 // Writes a register; the vectors whose messages this issues.
 #[inline]
 #[tactic(auto, unfolding(crate::specs::Act::act, crate::specs::Act::refusal))]
-pub(crate) fn vf_write<M: GuestMem>(
-    unit: &mut VfUnit<M>,
+pub(crate) fn vf_write<D: Dma>(
+    unit: &mut VfUnit<D>,
     offset: u32,
     value: u32,
 ) -> Result<Vectors, Fault>
@@ -134,7 +136,7 @@ pub(crate) fn vf_write<M: GuestMem>(
 // Why so many bytes of the memory from an address on are not read, if they are not.
 #[inline]
 #[tactic(auto, unfolding(crate::specs::Act::refusal))]
-fn read_refusal<M: GuestMem>(unit: &VfUnit<M>, at: u64, count: usize) -> Option<Fault>
+fn read_refusal<D: Dma>(unit: &VfUnit<D>, at: u64, count: usize) -> Option<Fault>
     ensures refusal { (p : ℕ) → refusal unit.now (Event.MemRead p at count) ≡ result }
     ensures short { IfNone result (count ≤ 2048) }
     ensures inside { IfNone result (has_range unit.now at count ≡ true) }
@@ -161,7 +163,7 @@ fn passes_end(size: u64, at: u64, count: u64) -> bool
 // Finds the bytes of the memory that an event reads.
 #[inline]
 #[tactic(auto, unfolding(crate::specs::Act::act))]
-pub(crate) fn find<M: GuestMem>(unit: &VfUnit<M>, pool: u8, at: u64, count: u16) -> Outcome
+pub(crate) fn find<D: Dma>(unit: &VfUnit<D>, pool: u8, at: u64, count: u16) -> Outcome
     ensures function { (act unit.now (Event.MemRead pool at count)).function ≡ unit.now }
     ensures reply { (act unit.now (Event.MemRead pool at count)).reply ≡ reply_of unit.now result }
     ensures silent { (act unit.now (Event.MemRead pool at count)).messages ≡ 0 }
@@ -194,11 +196,44 @@ pub(crate) fn mem_read<M: GuestMem>(unit: &VfUnit<M>, at: u64, out: &mut [u8]) -
     }
 }
 
+// Reads bytes of the memory into the first cells of `out`, as many as the event asks for.
+#[inline]
+#[tactic(auto, unfolding(crate::specs::Act::act, vf_unit::specs::Unit::told_of))]
+pub(crate) fn load<D: Dma>(
+    unit: &mut VfUnit<D>,
+    trace: &mut Trace,
+    pool: u8,
+    at: u64,
+    count: u16,
+    out: &mut [u8; MOST_BYTES],
+) -> Outcome
+    ensures function { unit.new
+        ≡ (act (told_of trace.old.accesses trace.new.accesses unit.old)
+        (Event.MemRead pool at count)).function }
+    ensures reply { (act (told_of trace.old.accesses trace.new.accesses unit.old)
+        (Event.MemRead pool at count)).reply ≡ reply_of unit.new result }
+    ensures silent { (act (told_of trace.old.accesses trace.new.accesses unit.old)
+        (Event.MemRead pool at count)).messages ≡ 0 }
+    ensures own { IsOf pool result }
+    ensures bytes { Holds out.new unit.new result }
+    ensures size { size_of unit.new ≡ size_of unit.old }
+    ensures traced { IsTraced D.shared
+        (size_of unit.old) trace.old.accesses trace.new.accesses }
+{
+    match read_refusal(unit, at, usize::from(count)) {
+        Some(fault) => Outcome::Refused(fault),
+        None => {
+            unit.mem_load(trace, at, &mut out[..usize::from(count)]);
+            Outcome::Bytes(Span::new(pool, at, count))
+        }
+    }
+}
+
 // Writes bytes of the memory.
 #[inline]
 #[tactic(auto, unfolding(crate::specs::Act::act, crate::specs::Act::refusal, vf_unit::specs::Unit::memory_written))]
-pub(crate) fn mem_write<M: GuestMem>(
-    unit: &mut VfUnit<M>,
+pub(crate) fn mem_write<D: Dma>(
+    unit: &mut VfUnit<D>,
     at: u64,
     written: MemSlice<'_>,
 ) -> Result<(), Fault>
@@ -232,7 +267,7 @@ pub fn read_or_zero<M: GuestMem>(unit: &VfUnit<M>, at: u64, out: &mut [u8])
 
 /// What an event of its own, but for a service, does to a function. Any other event does nothing to it.
 #[tactic(auto, unfolding(crate::specs::Act::act, crate::specs::Act::refusal))]
-pub fn act<M: GuestMem>(unit: &mut VfUnit<M>, request: Request<'_>) -> Acted
+pub fn act<D: Dma>(unit: &mut VfUnit<D>, request: Request<'_>) -> Acted
     ensures function { unit.new ≡ (act unit.old (event_of request.entry)).function }
     ensures reply { reply_of unit.new result.outcome
         ≡ (act unit.old (event_of request.entry)).reply }

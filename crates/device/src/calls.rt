@@ -1,34 +1,37 @@
 //! The calls by name, one for each kind of event, for who embeds a device.
-ghost use Rattle.std.specs.Prelude.{◌≡◌, ◌<◌, ℕ, List, length, replicate, slice_set, Some, None, OnErr, if◌then◌else◌};
+ghost use Rattle.std.specs.Prelude.{◌≡◌, ◌<◌, ℕ, List, length, replicate, slice_set, Some, None, OnErr, ◌≢◌, if◌then◌else◌};
 ghost use Rattle.irq_causes.specs.Messages.{no_messages};
+ghost use Rattle.live_memory.specs.Traces.{trace_of};
 ghost use Rattle.vf_unit.specs.Unit.{bytes_at};
 ghost use Rattle.device.specs.declared.event.Event.{Event};
 ghost use Rattle.device.specs.declared.event.Reply.{Reply};
 ghost use Rattle.device.specs.declared.span.Span.{Span};
-ghost use Rattle.device.specs.World.{silently, function_of, with_function, service, step, sizes_of};
+ghost use Rattle.device.specs.World.{silently, function_of, with_function, step, sizes_of};
+ghost use Rattle.device.specs.Live.{told_world, told_service, TakesLive, AreTraced};
 ghost use Rattle.device.specs.Replies.{is_sent};
 ghost use Rattle.device.specs.Takes.{Takes};
-ghost use Rattle.device.specs.Outcome.{reply_by, done_or_refused, value_or_refused, bytes_or_refused, messages_or_refused, reply_in};
+ghost use Rattle.device.specs.Outcome.{reply_by, done_or_refused, value_or_refused, bytes_or_refused, messages_or_refused, reply_in, HoldsIn};
 
 use crate::act;
 use crate::act::{PF_SPACE, is_bad_offset};
-use crate::bytes::MemSlice;
+use crate::bytes::{MOST_BYTES, MemSlice};
 use crate::device::Device;
 use crate::outcome::{Acted, Outcome};
 use crate::resets::{clear_resets, read_resets};
 use crate::response::Response;
-use crate::service::serve_queue;
+use crate::service::serve_queue_live;
 use crate::span::Span;
 use crate::switching::end_all;
 use guest_memory::GuestMem;
 use irq_causes::{Messages, Vectors};
+use live_memory::{Dma, Step, Touch, Traces};
 use local_switch::Source;
 use pool_filter::PoolRules;
 use vf_unit::Queue;
 use wire_frame::{Fault, FrameBuf, PoolId};
 
 #[tactic(auto, using(crate::proofs::Arrivals::raised_nothing, crate::proofs::SizesStay::size_set))]
-impl<M: GuestMem> Device<M> {
+impl<D: Dma> Device<D> {
     /// Opens a virtual function: its registers become initial, and its memory zero, whatever it was.
     ///
     /// [`Fault::NoSuchVf`], then [`Fault::AlreadyOpen`].
@@ -124,24 +127,6 @@ impl<M: GuestMem> Device<M> {
         }
     }
 
-    /// Fills `out` with the bytes of a guest's memory from an address on; where it is refused, `out` stays.
-    ///
-    /// [`Fault::NoSuchVf`], then [`Fault::NotOpen`], then [`Fault::TooLong`] for more than 2048 bytes, then
-    /// [`Fault::BadRange`] where they pass the end of the memory.
-    #[inline]
-    pub fn mem_read(&self, pool: u8, at: u64, out: &mut [u8]) -> Result<(), Fault>
-        ensures world { self.now ≡ (step self.now (Event.MemRead pool at (length out.old))).world }
-        ensures answer { silently (bytes_or_refused result out.new)
-            ≡ (step self.now (Event.MemRead pool at (length out.old))).answer }
-        ensures unchanged { OnErr result (out.new ≡ out.old) }
-    {
-        let index = usize::from(pool);
-        if index >= self.units.len() {
-            return Err(Fault::NoSuchVf);
-        }
-        act::mem_read(&self.units[index], at, out)
-    }
-
     /// Writes bytes of a guest's memory from an address on.
     ///
     /// [`Fault::NoSuchVf`], then [`Fault::NotOpen`], then [`Fault::BadRange`] where they pass the end of the memory.
@@ -174,38 +159,55 @@ impl<M: GuestMem> Device<M> {
         act::find(&self.units[index], pool, at, count)
     }
 
-    /// Fills `out` with the bytes from a span's address on. What a closed or a missing function has there is zeros, and so
-    /// are bytes past the end of the memory.
+    // Reads bytes of a guest's memory into the first cells of `out`, as many as are asked for.
     #[inline]
-    #[tactic(auto, using(crate::proofs::Inside::read_missing))]
-    pub fn read_span(&self, span: Span, out: &mut [u8])
-        ensures { out.new
-            ≡ bytes_at (function_of span.pool self.now) span.at
-            (replicate {A = ℕ} (length out.old) 0) }
+    pub(crate) fn load(
+        &mut self,
+        traces: &mut Traces,
+        pool: u8,
+        at: u64,
+        count: u16,
+        out: &mut [u8; MOST_BYTES],
+    ) -> Outcome
+        ensures world { self.new
+            ≡ (step (told_world traces.old.touches traces.new.touches self.old)
+            (Event.MemRead pool at count)).world }
+        ensures answer { silently (reply_in self.new result)
+            ≡ (step (told_world traces.old.touches traces.new.touches self.old)
+            (Event.MemRead pool at count)).answer }
+        ensures bytes { HoldsIn out.new self.new result }
+        ensures traced { AreTraced D.shared traces.old.touches traces.new.touches self.old }
+        ensures sizes { sizes_of self.new ≡ sizes_of self.old }
     {
-        let index = usize::from(span.pool());
-        if index < self.units.len() {
-            act::read_or_zero(&self.units[index], span.at(), out);
-        } else {
-            out.fill(0);
+        let index = usize::from(pool);
+        if index >= self.units.len() {
+            return Outcome::Refused(Fault::NoSuchVf);
         }
+        let mut trace = Step::Begin.trace();
+        let outcome = act::load(&mut self.units[index], &mut trace, pool, at, count, out);
+        *traces = Touch::Of(traces, pool, &trace).traces();
+        outcome
     }
 
-    /// Takes the descriptor at the head of a transmit queue (82599 datasheet, transmit descriptors). A frame that this sends
-    /// is put together in `frame`, and handed out from there; it is switched to the pools that accept it, and to the wire.
-    ///
-    /// The outcome is refused for [`Fault::NoSuchVf`], then for [`Fault::NotOpen`]; else it is idle, more, sent, dropped or
-    /// faulted.
+    /// Takes the descriptor at the head of a transmit queue, as [`serve`](Device::serve) does, where others may write the
+    /// memories meanwhile: what they answer is kept in the traces.
     #[inline(never)]
-    pub fn serve<'f>(&mut self, pool: u8, queue: Queue, frame: &'f mut FrameBuf) -> Response<'f>
-        ensures { Takes self.old (Event.Serve pool queue) self.new result }
+    pub fn serve_live<'f>(
+        &mut self,
+        traces: &mut Traces,
+        pool: u8,
+        queue: Queue,
+        frame: &'f mut FrameBuf,
+    ) -> Response<'f>
+        ensures { TakesLive D.shared traces.old.touches traces.new.touches
+            self.old (Event.Serve pool queue) self.new result }
     {
         let index = usize::from(pool);
         if index >= self.units.len() {
             return Response::silent(Outcome::Refused(Fault::NoSuchVf));
         }
         match PoolId::new(pool) {
-            Some(sender) => self.serve_pool(sender, queue, frame),
+            Some(sender) => self.serve_pool(traces, sender, queue, frame),
             None => unreachable!(),
         }
     }
@@ -213,14 +215,16 @@ impl<M: GuestMem> Device<M> {
     // The service of a queue of a function that is there.
     fn serve_pool<'f>(
         &mut self,
+        traces: &mut Traces,
         pool: PoolId,
         queue: Queue,
         frame: &'f mut FrameBuf,
     ) -> Response<'f>
         requires there { pool < length self.old.functions }
-        ensures { Takes self.old (Event.Serve pool queue) self.new result }
+        ensures { TakesLive D.shared traces.old.touches traces.new.touches
+            self.old (Event.Serve pool queue) self.new result }
     {
-        let acted = self.transmit(pool, queue, frame);
+        let acted = self.transmit(traces, pool, queue, frame);
         if !acted.outcome.is_sent() {
             return Response {
                 outcome: acted.outcome,
@@ -230,7 +234,7 @@ impl<M: GuestMem> Device<M> {
             };
         }
         let frame: &'f FrameBuf = frame;
-        let switched = self.switch(Source::Pool(pool), frame);
+        let switched = self.switch(traces, Source::Pool(pool), frame);
         let mut messages = switched.messages;
         messages.set(pool, acted.vectors);
         Response {
@@ -242,23 +246,40 @@ impl<M: GuestMem> Device<M> {
     }
 
     // The service of a queue of a function that is there, but for the switching of a frame that is sent.
-    fn transmit(&mut self, pool: PoolId, queue: Queue, frame: &mut FrameBuf) -> Acted
+    fn transmit(
+        &mut self,
+        traces: &mut Traces,
+        pool: PoolId,
+        queue: Queue,
+        frame: &mut FrameBuf,
+    ) -> Acted
         requires there { pool < length self.old.functions }
         ensures world { self.new
-            ≡ with_function self.old pool (service self.old pool queue).function }
+            ≡ with_function self.old pool
+            (told_service traces.old.touches traces.new.touches self.old pool queue).function }
         ensures sizes { sizes_of self.new ≡ sizes_of self.old }
         ensures reply { (bytes : Span → List ℕ)
-            → reply_by bytes result.outcome ≡ (service self.old pool queue).reply }
-        ensures messages { result.vectors ≡ (service self.old pool queue).messages }
-        ensures sent { (service self.old pool queue).sent
+            → reply_by bytes result.outcome
+            ≡ (told_service traces.old.touches traces.new.touches self.old pool queue).reply }
+        ensures messages { result.vectors
+            ≡ (told_service traces.old.touches traces.new.touches self.old pool queue).messages }
+        ensures sent { (told_service traces.old.touches traces.new.touches self.old pool queue).sent
             ≡ (if is_sent result.outcome then Some frame.new else None) }
+        ensures traced { AreTraced D.shared traces.old.touches traces.new.touches self.old }
+        ensures below { pool < 64 }
+        ensures others { (r : ℕ) → r ≢ pool
+            → trace_of traces.new.touches r ≡ trace_of traces.old.touches r }
     {
         let rules = PoolRules {
             tables: &self.tables,
             pool,
         };
         let index = usize::from(pool.get());
-        serve_queue(&rules, self.limit, &mut self.units[index], queue, frame)
+        let unit = &mut self.units[index];
+        let mut trace = Step::Begin.trace();
+        let acted = serve_queue_live(&rules, self.limit, unit, &mut trace, queue, frame);
+        *traces = Touch::Of(traces, pool.get(), &trace).traces();
+        acted
     }
 
     /// Reads the register of the physical function at an offset in bytes. An offset that no register has reads 0.
@@ -310,6 +331,75 @@ impl<M: GuestMem> Device<M> {
         self.resets = 0;
     }
 
+    /// Takes a frame from the wire, as [`wire`](Device::wire) does, where others may write the memories meanwhile: what they
+    /// answer is kept in the traces.
+    #[inline]
+    pub fn wire_live(&mut self, traces: &mut Traces, frame: &FrameBuf) -> Result<Messages, Fault>
+        ensures world { self.new
+            ≡ (step (told_world traces.old.touches traces.new.touches self.old)
+            (Event.Wire frame.now)).world }
+        ensures answer { messages_or_refused result
+            ≡ (step (told_world traces.old.touches traces.new.touches self.old)
+            (Event.Wire frame.now)).answer }
+        ensures sizes { sizes_of self.new ≡ sizes_of self.old }
+        ensures traced { AreTraced D.shared traces.old.touches traces.new.touches self.old }
+    {
+        if frame.bytes().len() > usize::from(self.limit.get()) {
+            return Err(Fault::BadFrame);
+        }
+        Ok(self.switch(traces, Source::Wire, frame).messages)
+    }
+}
+
+#[tactic(auto, using(crate::proofs::Arrivals::raised_nothing))]
+impl<M: GuestMem> Device<M> {
+    /// Fills `out` with the bytes of a guest's memory from an address on; where it is refused, `out` stays.
+    ///
+    /// [`Fault::NoSuchVf`], then [`Fault::NotOpen`], then [`Fault::TooLong`] for more than 2048 bytes, then
+    /// [`Fault::BadRange`] where they pass the end of the memory.
+    #[inline]
+    pub fn mem_read(&self, pool: u8, at: u64, out: &mut [u8]) -> Result<(), Fault>
+        ensures world { self.now ≡ (step self.now (Event.MemRead pool at (length out.old))).world }
+        ensures answer { silently (bytes_or_refused result out.new)
+            ≡ (step self.now (Event.MemRead pool at (length out.old))).answer }
+        ensures unchanged { OnErr result (out.new ≡ out.old) }
+    {
+        let index = usize::from(pool);
+        if index >= self.units.len() {
+            return Err(Fault::NoSuchVf);
+        }
+        act::mem_read(&self.units[index], at, out)
+    }
+
+    /// Fills `out` with the bytes from a span's address on. What a closed or a missing function has there is zeros, and so
+    /// are bytes past the end of the memory.
+    #[inline]
+    #[tactic(auto, using(crate::proofs::Inside::read_missing))]
+    pub fn read_span(&self, span: Span, out: &mut [u8])
+        ensures { out.new
+            ≡ bytes_at (function_of span.pool self.now) span.at
+            (replicate {A = ℕ} (length out.old) 0) }
+    {
+        let index = usize::from(span.pool());
+        if index < self.units.len() {
+            act::read_or_zero(&self.units[index], span.at(), out);
+        } else {
+            out.fill(0);
+        }
+    }
+
+    /// Takes the descriptor at the head of a transmit queue (82599 datasheet, transmit descriptors). A frame that this sends
+    /// is put together in `frame`, and handed out from there; it is switched to the pools that accept it, and to the wire.
+    ///
+    /// The outcome is refused for [`Fault::NoSuchVf`], then for [`Fault::NotOpen`]; else it is idle, more, sent, dropped or
+    /// faulted.
+    #[inline]
+    pub fn serve<'f>(&mut self, pool: u8, queue: Queue, frame: &'f mut FrameBuf) -> Response<'f>
+        ensures { Takes self.old (Event.Serve pool queue) self.new result }
+    {
+        self.serve_live(&mut Touch::None.traces(), pool, queue, frame)
+    }
+
     /// Takes a frame from the wire, which goes to each pool that accepts it, and else to the default pool; answers with the
     /// messages that this issues.
     ///
@@ -321,10 +411,7 @@ impl<M: GuestMem> Device<M> {
             ≡ (step self.old (Event.Wire frame.now)).answer }
         ensures sizes { sizes_of self.new ≡ sizes_of self.old }
     {
-        if frame.bytes().len() > usize::from(self.limit.get()) {
-            return Err(Fault::BadFrame);
-        }
-        Ok(self.switch(Source::Wire, frame).messages)
+        self.wire_live(&mut Touch::None.traces(), frame)
     }
 }
 

@@ -6,7 +6,8 @@ ghost use Rattle.device.specs.World.{fresh, is_frame_limit, is_makeable, functio
 
 use crate::span::Span;
 use crate::wire_out::WireOut;
-use guest_memory::{GuestMem, is_memory_size};
+use guest_memory::is_memory_size;
+use live_memory::Dma;
 use pool_filter::Tables;
 use std::alloc::{AllocError, Global};
 use std::marker::Model;
@@ -15,17 +16,17 @@ use wire_frame::{Fault, FrameBuf, FrameLimit, PoolId};
 
 /// A device over the memories of its guests.
 #[derive(Drop)]
-pub struct Device<M: GuestMem> {
+pub struct Device<D: Dma> {
     pub(crate) limit: FrameLimit,
     // in a box, so that a device is a few words, and moved in few steps over a small stack
     pub(crate) tables: Box<Tables>,
     // bit p where function p was reset
     pub(crate) resets: u64,
-    pub(crate) units: Vec<VfUnit<M>>,
+    pub(crate) units: Vec<VfUnit<D>>,
     pub(crate) wire: WireOut,
 }
 
-impl<M: GuestMem> Model for Device<M> {
+impl<D: Dma> Model for Device<D> {
     ghost use Rattle.std.specs.Prelude.{length, ◌≤◌};
     ghost use Rattle.device.specs.World.{World};
 
@@ -42,7 +43,7 @@ impl<M: GuestMem> Model for Device<M> {
     ghost invariant = { λ d. length d.units.items ≤ 64 };
 }
 
-impl<M: GuestMem> Device<M> {
+impl<D: Dma> Device<D> {
     /// A device with a virtual function over each of the memories, all closed, that takes frames of up to 1518 bytes.
     /// [`Fault::BadMake`] comes exactly where there are no memories or more than 64, or one has a size outside the limits;
     /// [`Fault::NoMemory`] only where the host refused the room.
@@ -55,13 +56,13 @@ impl<M: GuestMem> Device<M> {
     /// assert!(rt; device.open(1) == Ok(()));
     /// assert!(rt; device.open(2) == Err(Fault::NoSuchVf));
     /// ```
-    pub fn new(alloc: Global, memories: Vec<M>) -> Result<Device<M>, Fault>
+    pub fn new(alloc: Global, memories: Vec<D>) -> Result<Device<D>, Fault>
         ensures ok { IfOk result
-            (λ d. d ≡ fresh 1518 (map (λ m. length (M.bytes m)) memories.items)) }
-        ensures bad_make { is_makeable (map (λ m. length (M.bytes m)) memories.items) ≡ false
+            (λ d. d ≡ fresh 1518 (map (λ m. length (D.seen m)) memories.items)) }
+        ensures bad_make { is_makeable (map (λ m. length (D.seen m)) memories.items) ≡ false
             → result ≡ Err Fault.BadMake }
         ensures no_memory { IfErr result
-            (λ e. is_makeable (map (λ m. length (M.bytes m)) memories.items) ≡ true
+            (λ e. is_makeable (map (λ m. length (D.seen m)) memories.items) ≡ true
             → e ≡ Fault.NoMemory) }
     {
         Device::make(alloc, memories, FrameLimit::standard())
@@ -69,14 +70,14 @@ impl<M: GuestMem> Device<M> {
 
     /// The same, that takes frames of up to `limit` bytes. [`Fault::BadMake`] comes also where that is not 1518 to 9018.
     #[inline(never)]
-    pub fn with_limit(alloc: Global, memories: Vec<M>, limit: u16) -> Result<Device<M>, Fault>
+    pub fn with_limit(alloc: Global, memories: Vec<D>, limit: u16) -> Result<Device<D>, Fault>
         ensures ok { IfOk result
-            (λ d. d ≡ fresh limit (map (λ m. length (M.bytes m)) memories.items)) }
+            (λ d. d ≡ fresh limit (map (λ m. length (D.seen m)) memories.items)) }
         ensures bad_make { (is_frame_limit limit && is_makeable
-            (map (λ m. length (M.bytes m)) memories.items)) ≡ false → result ≡ Err Fault.BadMake }
+            (map (λ m. length (D.seen m)) memories.items)) ≡ false → result ≡ Err Fault.BadMake }
         ensures no_memory { IfErr result
             (λ e.
-            (is_frame_limit limit && is_makeable (map (λ m. length (M.bytes m)) memories.items))
+            (is_frame_limit limit && is_makeable (map (λ m. length (D.seen m)) memories.items))
             ≡ true → e ≡ Fault.NoMemory) }
     {
         match FrameLimit::new(limit) {
@@ -87,13 +88,13 @@ impl<M: GuestMem> Device<M> {
 
     // A device that takes frames up to the limit.
     #[inline(never)]
-    fn make(alloc: Global, memories: Vec<M>, limit: FrameLimit) -> Result<Device<M>, Fault>
+    fn make(alloc: Global, memories: Vec<D>, limit: FrameLimit) -> Result<Device<D>, Fault>
         ensures ok { IfOk result
-            (λ d. d ≡ fresh limit (map (λ m. length (M.bytes m)) memories.items)) }
-        ensures bad_make { is_makeable (map (λ m. length (M.bytes m)) memories.items) ≡ false
+            (λ d. d ≡ fresh limit (map (λ m. length (D.seen m)) memories.items)) }
+        ensures bad_make { is_makeable (map (λ m. length (D.seen m)) memories.items) ≡ false
             → result ≡ Err Fault.BadMake }
         ensures no_memory { IfErr result
-            (λ e. is_makeable (map (λ m. length (M.bytes m)) memories.items) ≡ true
+            (λ e. is_makeable (map (λ m. length (D.seen m)) memories.items) ≡ true
             → e ≡ Fault.NoMemory) }
     {
         if !is_makeable(memories.as_slice()) {
@@ -158,15 +159,15 @@ impl<M: GuestMem> Device<M> {
 
 // Whether a device can be made of these memories.
 #[tactic(auto, unfolding(crate::specs::World::is_makeable))]
-fn is_makeable<M: GuestMem>(memories: &[M]) -> bool
-    ensures makeable { result ≡ is_makeable (map (λ m. length (M.bytes m)) memories.now) }
+fn is_makeable<D: Dma>(memories: &[D]) -> bool
+    ensures makeable { result ≡ is_makeable (map (λ m. length (D.seen m)) memories.now) }
     ensures few { result ≡ true → length memories.now ≤ 64 }
 {
     if memories.is_empty() || memories.len() > usize::from(PoolId::COUNT) {
         return false;
     }
     for memory in memories {
-        if !is_memory_size(memory.size()) {
+        if !is_memory_size(memory.extent()) {
             return false;
         }
     }
@@ -183,9 +184,9 @@ fn first_tables(alloc: Global) -> Result<Box<Tables>, Fault>
 }
 
 // A closed function over each of the memories. The error comes only where the host refused the room.
-fn close_all<M: GuestMem>(alloc: Global, memories: Vec<M>) -> Result<Vec<VfUnit<M>>, AllocError>
+fn close_all<D: Dma>(alloc: Global, memories: Vec<D>) -> Result<Vec<VfUnit<D>>, AllocError>
     ensures { IfOk result
-        (λ units. units.items ≡ map (λ m. Closed (length (M.bytes m))) memories.items) }
+        (λ units. units.items ≡ map (λ m. Closed (length (D.seen m))) memories.items) }
 {
     let mut units = Vec::with_capacity(alloc, memories.len())?;
     for memory in memories {

@@ -1,6 +1,7 @@
 //! The service of a function's transmit queue, by the function's own settings alone.
 ghost use Rattle.std.specs.Prelude.{◌≡◌, ℕ, List, Some, None, if◌then◌else◌};
-ghost use Rattle.vf_unit.specs.Unit.{size_of};
+ghost use Rattle.live_memory.specs.Trace.{IsTraced};
+ghost use Rattle.vf_unit.specs.Unit.{size_of, told_of};
 ghost use Rattle.device.specs.declared.span.Span.{Span};
 ghost use Rattle.device.specs.Act.{serve};
 ghost use Rattle.device.specs.Replies.{is_sent};
@@ -9,6 +10,7 @@ ghost use Rattle.device.specs.Outcome.{reply_by};
 use crate::outcome::{Acted, Outcome};
 use anti_spoof::passes_anti_spoof;
 use guest_memory::GuestMem;
+use live_memory::{Dma, Step, Trace};
 use pool_filter::SenderRules;
 use tx_desc::Progress;
 use vf_unit::{Queue, VfUnit};
@@ -16,7 +18,7 @@ use wire_frame::{Fault, FrameBuf, FrameLimit};
 
 /// Serves a queue of a function, by the function's own settings alone: takes the descriptor at the queue's head (82599
 /// datasheet, transmit descriptors). A frame that is sent is left in `frame`, up to `limit` bytes of it.
-#[tactic(auto, unfolding(crate::specs::Act::serve))]
+#[tactic(auto, using(vf_unit::proofs::Told::told_alone))]
 pub fn serve_queue<R: SenderRules, M: GuestMem>(
     rules: &R,
     limit: FrameLimit,
@@ -32,6 +34,35 @@ pub fn serve_queue<R: SenderRules, M: GuestMem>(
         ≡ (if is_sent result.outcome then Some frame.new else None) }
     ensures size { size_of unit.new ≡ size_of unit.old }
 {
+    serve_queue_live(rules, limit, unit, &mut Step::Begin.trace(), queue, frame)
+}
+
+/// Serves a queue of a function, by the function's own settings alone: takes the descriptor at the queue's head (82599
+/// datasheet, transmit descriptors). A frame that is sent is left in `frame`, up to `limit` bytes of it. What the memory answers
+/// meanwhile is kept in the trace, where others write it.
+#[tactic(auto, unfolding(crate::specs::Act::serve), using(vf_unit::proofs::Told::told_nothing, vf_unit::proofs::Told::open_told))]
+pub(crate) fn serve_queue_live<R: SenderRules, D: Dma>(
+    rules: &R,
+    limit: FrameLimit,
+    unit: &mut VfUnit<D>,
+    trace: &mut Trace,
+    queue: Queue,
+    frame: &mut FrameBuf,
+) -> Acted
+    ensures function { unit.new ≡ (serve limit (R.rules rules.now)
+        (told_of trace.old.accesses trace.new.accesses unit.old) queue).function }
+    ensures reply { (bytes : Span → List ℕ)
+        → reply_by bytes result.outcome ≡ (serve limit (R.rules rules.now)
+        (told_of trace.old.accesses trace.new.accesses unit.old) queue).reply }
+    ensures messages { result.vectors ≡ (serve limit (R.rules rules.now)
+        (told_of trace.old.accesses trace.new.accesses unit.old) queue).messages }
+    ensures sent { (serve limit (R.rules rules.now)
+        (told_of trace.old.accesses trace.new.accesses unit.old) queue).sent
+        ≡ (if is_sent result.outcome then Some frame.new else None) }
+    ensures size { size_of unit.new ≡ size_of unit.old }
+    ensures traced { IsTraced D.shared
+        (size_of unit.old) trace.old.accesses trace.new.accesses }
+{
     if !rules.may_transmit() {
         return Acted::silent(if unit.is_open() {
             Outcome::Idle
@@ -39,7 +70,7 @@ pub fn serve_queue<R: SenderRules, M: GuestMem>(
             Outcome::Refused(Fault::NotOpen)
         });
     }
-    match unit.serve(queue, frame, rules.port_vlan(), limit) {
+    match unit.serve_live(trace, queue, frame, rules.port_vlan(), limit) {
         None => Acted::silent(Outcome::Refused(Fault::NotOpen)),
         Some(service) => {
             let outcome = match service.outcome {

@@ -1,13 +1,16 @@
 //! Frames that are switched: to each function that receives them, and to the wire.
-ghost use Rattle.std.specs.Prelude.{◌≡◌, ℕ, ◌<◌, ◌≤◌, length, map, slice_index, slice_index_or, slice_set};
+ghost use Rattle.std.specs.Prelude.{◌≡◌, ℕ, ◌<◌, ◌≤◌, length, map, false, slice_index, slice_index_or, slice_set};
 ghost use Rattle.wire_frame.specs.Bits.{has_bit};
+ghost use Rattle.live_memory.specs.Trace.{IsTraced};
+ghost use Rattle.live_memory.specs.Traces.{trace_of};
 ghost use Rattle.vf_unit.specs.Unit.{Closed, size_of, ended};
-ghost use Rattle.local_switch.specs.Switch.{leaves};
+ghost use Rattle.local_switch.specs.Switch.{leaves, receives};
 ghost use Rattle.device.specs.World.{is_looped, offered, all_raised, switched, sizes_of};
+ghost use Rattle.device.specs.Live.{told_at, told_functions, told_world, AreTraced};
 
 use crate::device::Device;
-use guest_memory::GuestMem;
 use irq_causes::{Messages, Vectors};
+use live_memory::{Dma, Step, Touch, Traces};
 use local_switch::{Source, route};
 use vf_unit::VfUnit;
 use wire_frame::{FrameBuf, PoolId, PoolSet};
@@ -27,8 +30,9 @@ fn is_looped(from: &Source) -> bool
 }
 
 // Delivers a frame to each function in a set of pools; the messages that each pool got.
-fn deliver_to_all<M: GuestMem>(
-    units: &mut [VfUnit<M>],
+fn deliver_to_all<D: Dma>(
+    units: &mut [VfUnit<D>],
+    traces: &mut Traces,
     pools: PoolSet,
     loopback: bool,
     frame: &FrameBuf,
@@ -37,20 +41,28 @@ fn deliver_to_all<M: GuestMem>(
     ensures functions { (r : ℕ) → r < length units.old →
         slice_index_or units.new r (Closed 0)
         ≡ (offered (has_bit pools r) loopback frame.now
-        (slice_index_or units.old r (Closed 0))).state }
+        (told_at traces.old.touches traces.new.touches units.old r)).state }
     ensures same_length { length units.new ≡ length units.old }
     ensures sizes { map size_of units.new ≡ map size_of units.old }
     ensures pools { length result ≡ 64 }
     ensures messages { (r : ℕ) → r < 64 →
         slice_index result r
         ≡ (offered (has_bit pools r) loopback frame.now
-        (slice_index_or units.old r (Closed 0))).messages }
+        (told_at traces.old.touches traces.new.touches units.old r)).messages }
+    ensures traced { (r : ℕ) → IsTraced D.shared
+        (size_of (slice_index_or units.old r (Closed 0)))
+        (trace_of traces.old.touches r) (trace_of traces.new.touches r) }
+    // the memory of a function that isn't given the frame isn't touched
+    ensures others { (r : ℕ) → has_bit pools r ≡ false
+        → trace_of traces.new.touches r ≡ trace_of traces.old.touches r }
 {
     let mut raised = Messages::none();
     for pool in pools {
         let place = usize::from(pool.get());
         if place < units.len() {
-            let vectors = units[place].deliver(frame, loopback);
+            let mut trace = Step::Begin.trace();
+            let vectors = units[place].deliver_live(&mut trace, frame, loopback);
+            *traces = Touch::Of(traces, pool.get(), &trace).traces();
             note(&mut raised, pool, vectors);
         }
     }
@@ -70,7 +82,7 @@ fn note(raised: &mut Messages, pool: PoolId, vectors: Vectors)
 }
 
 // Closes every function.
-pub fn end_all<M: GuestMem>(units: &mut [VfUnit<M>])
+pub fn end_all<D: Dma>(units: &mut [VfUnit<D>])
     ensures ended { units.new ≡ map ended units.old }
     ensures sizes { map size_of units.new ≡ map size_of units.old }
 {
@@ -79,12 +91,17 @@ pub fn end_all<M: GuestMem>(units: &mut [VfUnit<M>])
     }
 }
 
-impl<M: GuestMem> Device<M> {
+impl<D: Dma> Device<D> {
     // Switches a frame.
-    pub(crate) fn switch(&mut self, from: Source, frame: &FrameBuf) -> Switched
-        ensures world { self.new ≡ switched self.old from frame.now }
+    pub(crate) fn switch(&mut self, traces: &mut Traces, from: Source, frame: &FrameBuf) -> Switched
+        ensures world { self.new
+            ≡ switched (told_world traces.old.touches traces.new.touches self.old) from frame.now }
         ensures messages { result.messages
-            ≡ all_raised self.old.settings self.old.functions from frame.now }
+            ≡ all_raised self.old.settings
+            (told_functions traces.old.touches traces.new.touches self.old.functions) from frame.now }
+        ensures traced { AreTraced D.shared traces.old.touches traces.new.touches self.old }
+        ensures others { (r : ℕ) → r < 64 → receives self.old.settings from frame.now r ≡ false
+            → trace_of traces.new.touches r ≡ trace_of traces.old.touches r }
         ensures left { result.left ≡ leaves self.old.settings from frame.now }
         ensures sizes { sizes_of self.new ≡ sizes_of self.old }
     {
@@ -92,7 +109,7 @@ impl<M: GuestMem> Device<M> {
         let route = route(&self.tables, from, frame);
         self.wire.push_where(route.wire, frame);
         Switched {
-            messages: deliver_to_all(&mut self.units, route.local, loopback, frame),
+            messages: deliver_to_all(&mut self.units, traces, route.local, loopback, frame),
             left: route.wire,
         }
     }

@@ -4,11 +4,12 @@ ghost use Rattle.device.specs.declared.event.Event.{Event};
 ghost use Rattle.device.specs.declared.span.Span.{Span};
 ghost use Rattle.device.specs.World.{step, sent_by, answers, world_after};
 ghost use Rattle.device.specs.Lone.{SeesAsAlone, EndsAsAlone};
-ghost use Rattle.device.specs.Outcome.{reads, reply_by, answer_in};
+ghost use Rattle.device.specs.Outcome.{reads, reply_by, answer_in, HoldsRead};
 ghost use Rattle.device.specs.Takes.{Takes};
+ghost use Rattle.device.specs.Live.{TakesLive};
 ghost use Rattle.device.specs.Request.{event_of};
 
-use crate::bytes::{MemBytes, MemSlice};
+use crate::bytes::{MOST_BYTES, MemBytes, MemSlice};
 use crate::device::Device;
 use crate::event::{Answer, Event, Reply, Request};
 use crate::outcome::Outcome;
@@ -16,56 +17,54 @@ use crate::response::Response;
 use crate::span::Span;
 use guest_memory::GuestMem;
 use irq_causes::Messages;
+use live_memory::{Dma, Touch, Traces};
 use std::alloc::Global;
 use wire_frame::{Fault, FrameBuf, PoolId};
 
-impl<M: GuestMem> Device<M> {
-    /// Takes the event that a request stands for, and tells in few words what came of it.
+impl<D: Dma> Device<D> {
+    /// Takes the event that a request stands for, where others may write the memories of the functions meanwhile: what they
+    /// answer is kept in the traces. It means what [`take`](Device::take) does in the world in which each function's memory
+    /// holds what was read from it: as if its guest had written just that, right before the event.
     ///
-    /// A frame that a service sends is put together in `frame`, and handed out from there. Bytes that are read stand in the
-    /// memory still: the outcome says where, and [`read_span`](Device::read_span) copies them.
-    ///
-    /// ```
-    /// let mut memories = Vec::new(rt.alloc());
-    /// memories.push(FlatMem::new(rt.alloc(), 65536)?)?;
-    /// let mut device = Device::new(rt.alloc(), memories)?;
-    /// let mut frame = FrameBuf::blank();
-    /// device.take(Request::Open(0), &mut frame);
-    /// device.take(Request::MemWrite(0, 8, MemSlice::new(&[7])?), &mut frame);
-    /// let taken = device.take(Request::MemRead(0, 8, 2), &mut frame);
-    /// let Outcome::Bytes(span) = taken.outcome else {
-    ///     return Err("no bytes".into());
-    /// };
-    /// let mut bytes = [1; 2];
-    /// device.read_span(span, &mut bytes);
-    /// assert!(rt; bytes == [7, 0]);
-    /// ```
+    /// Bytes that the event reads are read once, into the first cells of `bytes`; else these stay.
     #[inline]
-    pub fn take<'f>(&mut self, request: Request<'_>, frame: &'f mut FrameBuf) -> Response<'f>
-        ensures takes { Takes self.old (event_of request.entry) self.new result }
-        // to each function the event is as if it were alone
-        ensures isolated { (p : ℕ) → p < length self.old.functions → SeesAsAlone
-            p self.old (event_of request.entry ∷ []) (answer_in self.new result ∷ []) }
-        ensures isolated_state { (p : ℕ) → p < length self.old.functions → EndsAsAlone
-            p self.old (event_of request.entry ∷ []) self.new }
+    pub fn take_live<'f>(
+        &mut self,
+        traces: &mut Traces,
+        request: Request<'_>,
+        frame: &'f mut FrameBuf,
+        bytes: &mut [u8; MOST_BYTES],
+    ) -> Response<'f>
+        ensures takes { TakesLive D.shared traces.old.touches traces.new.touches
+            self.old (event_of request.entry) self.new result }
+        ensures bytes { HoldsRead bytes.new (event_of request.entry) self.new result.outcome }
     {
-        let count = self.functions();
-        prove!(count <= usize::from(PoolId::COUNT));
-        self.take_any(request, frame)
+        match request {
+            Request::MemRead(pool, at, count) => {
+                Response::silent(self.load(traces, pool, at, count, bytes))
+            }
+            _ => self.take_any(traces, request, frame),
+        }
     }
 
-    // The same, but for what each function sees of it.
+    // Takes the event that a request stands for, and tells where bytes that it reads stand.
     #[inline]
-    fn take_any<'f>(&mut self, request: Request<'_>, frame: &'f mut FrameBuf) -> Response<'f>
-        ensures { Takes self.old (event_of request.entry) self.new result }
+    fn take_any<'f>(
+        &mut self,
+        traces: &mut Traces,
+        request: Request<'_>,
+        frame: &'f mut FrameBuf,
+    ) -> Response<'f>
+        ensures { TakesLive D.shared traces.old.touches traces.new.touches
+            self.old (event_of request.entry) self.new result }
     {
         match request {
             Request::VfRead(pool, offset) => self.take_vf_read(pool, offset),
             Request::VfWrite(pool, offset, value) => self.take_vf_write(pool, offset, value),
             Request::MemRead(pool, at, count) => self.take_mem_read(pool, at, count),
             Request::MemWrite(pool, at, written) => self.take_mem_write(pool, at, written),
-            Request::Serve(pool, queue) => self.serve(pool, queue, frame),
-            Request::Wire(frame) => self.take_wire(frame),
+            Request::Serve(pool, queue) => self.serve_live(traces, pool, queue, frame),
+            Request::Wire(frame) => self.take_wire(traces, frame),
             Request::PfRead(offset) => self.take_pf_read(offset),
             Request::PfWrite(offset, value) => self.take_pf_write(offset, value),
             Request::Open(pool) => self.take_open(pool),
@@ -111,10 +110,11 @@ impl<M: GuestMem> Device<M> {
 
     // A frame from the wire.
     #[inline]
-    fn take_wire<'f>(&mut self, frame: &FrameBuf) -> Response<'f>
-        ensures { Takes self.old (Event.Wire frame.now) self.new result }
+    fn take_wire<'f>(&mut self, traces: &mut Traces, frame: &FrameBuf) -> Response<'f>
+        ensures { TakesLive D.shared traces.old.touches traces.new.touches
+            self.old (Event.Wire frame.now) self.new result }
     {
-        Response::issued(self.wire(frame))
+        Response::issued(self.wire_live(traces, frame))
     }
 
     // A read of a register of the physical function.
@@ -164,6 +164,42 @@ impl<M: GuestMem> Device<M> {
     {
         self.reset();
         Response::done_with(Messages::none())
+    }
+}
+
+impl<M: GuestMem> Device<M> {
+    /// Takes the event that a request stands for, and tells in few words what came of it.
+    ///
+    /// A frame that a service sends is put together in `frame`, and handed out from there. Bytes that are read stand in the
+    /// memory still: the outcome says where, and [`read_span`](Device::read_span) copies them.
+    ///
+    /// ```
+    /// let mut memories = Vec::new(rt.alloc());
+    /// memories.push(FlatMem::new(rt.alloc(), 65536)?)?;
+    /// let mut device = Device::new(rt.alloc(), memories)?;
+    /// let mut frame = FrameBuf::blank();
+    /// device.take(Request::Open(0), &mut frame);
+    /// device.take(Request::MemWrite(0, 8, MemSlice::new(&[7])?), &mut frame);
+    /// let taken = device.take(Request::MemRead(0, 8, 2), &mut frame);
+    /// let Outcome::Bytes(span) = taken.outcome else {
+    ///     return Err("no bytes".into());
+    /// };
+    /// let mut bytes = [1; 2];
+    /// device.read_span(span, &mut bytes);
+    /// assert!(rt; bytes == [7, 0]);
+    /// ```
+    #[inline]
+    pub fn take<'f>(&mut self, request: Request<'_>, frame: &'f mut FrameBuf) -> Response<'f>
+        ensures takes { Takes self.old (event_of request.entry) self.new result }
+        // to each function the event is as if it were alone
+        ensures isolated { (p : ℕ) → p < length self.old.functions → SeesAsAlone
+            p self.old (event_of request.entry ∷ []) (answer_in self.new result ∷ []) }
+        ensures isolated_state { (p : ℕ) → p < length self.old.functions → EndsAsAlone
+            p self.old (event_of request.entry ∷ []) self.new }
+    {
+        let count = self.functions();
+        prove!(count <= usize::from(PoolId::COUNT));
+        self.take_any(&mut Touch::None.traces(), request, frame)
     }
 
     /// The answer that a [`Response`] stands for, right after it. It is inlined, so that no answer is made for who looks at

@@ -4,7 +4,7 @@ ghost use Rattle.std.specs.Prelude.{◌≡◌, length, IfOk};
 ghost use Rattle.rings.specs.Ring.{LiesInside};
 
 use crate::compare::{assert_equal, assert_equal_at};
-use guest_memory::{FlatMem, GuestMem, read_word, write_bytes, write_words};
+use guest_memory::{FlatMem, GuestMem, read_bytes, read_word, write_bytes, write_words};
 use rings::{Ring, RingRegister};
 use std::alloc::Global;
 use std::iter;
@@ -185,6 +185,65 @@ fn a_descriptor_sends_itself(rt: HostRuntime) -> Result<(), Fail> {
     assert_equal(&rt, frame.bytes(), expected.as_slice());
     assert_eq!(rt; memory.size(), 65536);
     assert_equal(&rt, read_word(&memory, RING + 8), 0x1_2930_0010);
+    Ok(())
+}
+
+/// A memory whose bytes about the ring differ from 16 to 16, and a first descriptor of the two words.
+fn striped(rt: &impl Abort, alloc: Global, buffer: u64, word: u64) -> Result<FlatMem, Fault>
+    ensures { IfOk result (λ m. length m ≡ 65536) }
+{
+    let mut memory = FlatMem::new(alloc, SIZE)?;
+    for stripe in 0..16u8 {
+        assert_eq!(rt; memory.size(), 65536);
+        write_words(
+            &mut memory,
+            RING - 128 + 16 * u64::from(stripe),
+            0x0101_0101_0101_0101 * u64::from(stripe),
+            0x8070_6050_4030_2010,
+        );
+    }
+    assert_eq!(rt; memory.size(), 65536);
+    write_words(&mut memory, RING, buffer, word);
+    Ok(memory)
+}
+
+/// Where the bytes of a frame begin and how many they are, beside the 16 bytes of its descriptor: up to them, over the first of
+/// them, over all, some, all and no others, over the last, and behind. What stands there is sent, by the lent frame's room
+/// or without.
+#[test]
+fn frames_over_their_descriptor(rt: HostRuntime) -> Result<(), Fail> {
+    let rows = [
+        (RING - 60, 60u16),
+        (RING - 50, 60),
+        (RING - 22, 60),
+        (RING + 1, 14),
+        (RING, 16),
+        (RING + 6, 60),
+        (RING + 16, 60),
+    ];
+    for (buffer, size) in rows {
+        for lent in [FrameBuf::blank(), FrameBuf::from_bytes(&[1; 100])?] {
+            let word = 0x0900_0000 + u64::from(size);
+            let mut memory = striped(&rt, rt.alloc(), buffer, word)?;
+            let mut due = [0u8; 60];
+            assert!(rt; buffer < 0x2000);
+            read_bytes(&memory, buffer, &mut due);
+            let mut ring = ring_of(1);
+            let mut pending = Pending::new(rt.alloc())?;
+            let mut frame = lent;
+            let served = fetch_into(
+                &mut memory,
+                &mut ring,
+                &mut pending,
+                &mut frame,
+                PortVlan::Descriptor,
+                FrameLimit::standard(),
+            );
+            assert_equal_at(&rt, served.outcome, Progress::Ended, buffer);
+            assert_eq!(rt; frame.bytes().len(), usize::from(size), "at {buffer:x}");
+            assert!(rt; due.starts_with(frame.bytes()), "at {buffer:x}");
+        }
+    }
     Ok(())
 }
 

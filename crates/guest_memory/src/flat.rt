@@ -73,13 +73,9 @@ impl FlatMem {
         let size = size as usize;
         // one more than pages, so that an access of no bytes at the end needs no test
         let pages = size / PAGE + 1;
-        let Ok(table) = Vec::with_capacity(alloc, pages) else {
-            return Err(Fault::NoMemory);
-        };
-        match Vec::with_capacity(alloc, pages * PAGE) {
-            Ok(cells) => Ok(FlatMem { table, cells, size }),
-            Err(_) => Err(Fault::NoMemory),
-        }
+        let table = Vec::with_capacity(alloc, pages)?;
+        let cells = Vec::with_capacity(alloc, pages * PAGE)?;
+        Ok(FlatMem { table, cells, size })
     }
 
     // A read within a page.
@@ -135,6 +131,7 @@ impl FlatMem {
         requires { addr + 16 ≤ length self.now }
         ensures low { result.0 ≡ word_at addr self.now }
         ensures high { result.1 ≡ word_at (addr + 8) self.now }
+        ensures both { two_words result.0 result.1 ≡ slice_range self.now addr (addr + 16) }
     {
         let mut words = [0u8; 16];
         self.read_pages(addr as usize, &mut words);

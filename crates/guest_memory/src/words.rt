@@ -51,14 +51,13 @@ pub(crate) fn bytes_of_two(low: u64, high: u64) -> [u8; 16]
 
 // The two words of sixteen bytes.
 #[inline]
-#[tactic(auto, unfolding(crate::specs::Memory::word_at))]
+#[tactic(auto, using(crate::proofs::EightBytes::words_back), unfolding(crate::specs::Memory::word_at))]
 pub(crate) fn words_of(bytes: &[u8]) -> (u64, u64)
     requires { length bytes.now ≡ 16 }
     ensures low { result.0 ≡ word_at 0 bytes.now }
     ensures high { result.1 ≡ word_at 8 bytes.now }
+    ensures both { two_words result.0 result.1 ≡ bytes.now }
 {
-    (
-        LittleEndian::read_u64(&bytes[..8]),
-        LittleEndian::read_u64(&bytes[8..16]),
-    )
+    let (low, high) = bytes.split_at(8);
+    (LittleEndian::read_u64(low), LittleEndian::read_u64(high))
 }

@@ -1,98 +1,107 @@
-//! The interface of a memory that others write too.
-ghost use Rattle.std.specs.Prelude.{◌≡◌, ℕ, ◌+◌, ◌≤◌, ◌++◌, List, [], ◌∷◌, length, replicate};
-ghost use Rattle.guest_memory.specs.Memory.{word_bytes, two_words};
-ghost use Rattle.live_memory.specs.Trace.{Access, Read, Wrote};
+//! The interface of a memory that others may write too.
+ghost use Rattle.std.specs.Prelude.{◌≡◌, ℕ, ◌+◌, ◌≤◌, Bool, false, List, length, replicate, slice_range};
+ghost use Rattle.guest_memory.specs.Memory.{overwrite, word_at, word_bytes, two_words};
+ghost use Rattle.live_memory.specs.Trace.{Read, Wrote, noted};
 
+use crate::trace::Trace;
 use crate::words::{bytes_of, bytes_of_two, word_of, words_of};
 
-/// A memory that others write too, by a device's accesses to it. An access lies inside the memory, and no call takes memory of
-/// the host. The number of bytes never changes.
+/// A guest's memory, by a device's accesses to it. An access lies inside the memory, and no call takes memory of the host. The
+/// number of bytes never changes.
 ///
-/// Each call adds itself to the trace and nothing else. An access of words is one access. The accesses of words have bodies here,
-/// over those of bytes, which may be written anew for a memory that has a shorter way to a word.
+/// `shared` says whether others write the memory while a device works on it. `answer` is what the memory answers to a read of so
+/// many bytes from an address on. Where the memory is shared nothing is said of it: it may be another one at each read. `seen`
+/// is the memory as the device knows it: each access puts its bytes there, a read those that it was answered. Where the memory
+/// is shared, each access is also kept in the trace that the caller lends.
 ///
-/// `loan` names the reference that a memory keeps, where it works on a memory that it was lent. No call exchanges that reference,
-/// so whoever lent the memory knows afterwards what was done with it.
+/// The accesses of words have bodies here, over those of bytes, which may be written anew for a memory that has a shorter way to
+/// a word.
 pub trait Dma: Drop {
-    ghost extent: { Self → ℕ };
+    ghost shared: { Bool };
 
-    ghost trace: { Self → List Access };
+    ghost seen: { Self → List ℕ };
 
-    ghost loan: { Self → ℕ };
+    ghost answer: { Self → ℕ → ℕ → List ℕ };
+
+    ghost whole: { (memory : Self) (at count : ℕ) → at + count ≤ length (seen memory) → length (answer memory at count) ≡ count };
+
+    ghost steady: { (memory : Self) (at count : ℕ) → shared ≡ false → answer memory at count ≡ slice_range (seen memory) at (at + count) };
 
     /// The number of bytes.
-    fn size(&self) -> u64
-        ensures { result ≡ extent self.now };
+    fn extent(&self) -> u64
+        ensures { result ≡ length (seen self.now) };
 
     /// Copies the bytes from `addr` on into `out`, whatever they are by then.
-    fn read_at(&mut self, addr: u64, out: &mut [u8])
-        requires { addr + length out.old ≤ extent self.old }
-        ensures traced { trace self.new ≡ trace self.old ++ Read addr out.new ∷ [] }
-        ensures len { length out.new ≡ length out.old }
-        ensures size { extent self.new ≡ extent self.old }
-        ensures loan { loan self.new ≡ loan self.old };
+    fn load(&mut self, trace: &mut Trace, addr: u64, out: &mut [u8])
+        requires { addr + length out.old ≤ length (seen self.old) }
+        ensures out { out.new ≡ answer self.old addr (length out.old) }
+        ensures seen { seen self.new ≡ overwrite addr (answer self.old addr (length out.old)) (seen self.old) }
+        ensures size { length (seen self.new) ≡ length (seen self.old) }
+        ensures traced { trace.new.accesses ≡ noted shared trace.old.accesses (Read addr (answer self.old addr (length out.old))) };
 
     /// Writes `source` over the bytes from `addr` on.
-    fn write_at(&mut self, addr: u64, source: &[u8])
-        requires { addr + length source.now ≤ extent self.old }
-        ensures traced { trace self.new ≡ trace self.old ++ Wrote addr source.now ∷ [] }
-        ensures size { extent self.new ≡ extent self.old }
-        ensures loan { loan self.new ≡ loan self.old };
+    fn store(&mut self, trace: &mut Trace, addr: u64, source: &[u8])
+        requires { addr + length source.now ≤ length (seen self.old) }
+        ensures seen { seen self.new ≡ overwrite addr source.now (seen self.old) }
+        ensures size { length (seen self.new) ≡ length (seen self.old) }
+        ensures traced { trace.new.accesses ≡ noted shared trace.old.accesses (Wrote addr source.now) };
 
     /// The word at `addr`, lowest byte first.
     #[inline]
-    fn read_word(&mut self, addr: u64) -> u64
-        requires { addr + 8 ≤ extent self.old }
-        ensures traced { trace self.new ≡ trace self.old ++ Read addr (word_bytes result) ∷ [] }
-        ensures size { extent self.new ≡ extent self.old }
-        ensures loan { loan self.new ≡ loan self.old }
+    #[tactic(auto, using(crate::proofs::Written::word_there))]
+    fn load_word(&mut self, trace: &mut Trace, addr: u64) -> u64
+        requires { addr + 8 ≤ length (seen self.old) }
+        ensures value { result ≡ word_at addr (seen self.new) }
+        ensures seen { seen self.new ≡ overwrite addr (answer self.old addr 8) (seen self.old) }
+        ensures size { length (seen self.new) ≡ length (seen self.old) }
+        ensures traced { trace.new.accesses ≡ noted shared trace.old.accesses (Read addr (answer self.old addr 8)) }
     {
         let mut word = [0u8; 8];
-        self.read_at(addr, &mut word);
+        self.load(trace, addr, &mut word);
         word_of(&word)
     }
 
-    /// The two words from `addr` on, as of a descriptor of 16 bytes, read as one.
+    /// The two words from `addr` on, as of a descriptor of 16 bytes, read by one access.
     #[inline]
-    fn read_words(&mut self, addr: u64) -> (u64, u64)
-        requires { addr + 16 ≤ extent self.old }
-        ensures traced { trace self.new
-            ≡ trace self.old ++ Read addr (two_words result.0 result.1) ∷ [] }
-        ensures size { extent self.new ≡ extent self.old }
-        ensures loan { loan self.new ≡ loan self.old }
+    #[tactic(auto, using(crate::proofs::Written::low_there, crate::proofs::Written::high_there, crate::proofs::Written::written_there))]
+    fn load_words(&mut self, trace: &mut Trace, addr: u64) -> (u64, u64)
+        requires { addr + 16 ≤ length (seen self.old) }
+        ensures low { result.0 ≡ word_at addr (seen self.new) }
+        ensures high { result.1 ≡ word_at (addr + 8) (seen self.new) }
+        ensures both { two_words result.0 result.1 ≡ slice_range (seen self.new) addr (addr + 16) }
+        ensures seen { seen self.new ≡ overwrite addr (answer self.old addr 16) (seen self.old) }
+        ensures size { length (seen self.new) ≡ length (seen self.old) }
+        ensures traced { trace.new.accesses ≡ noted shared trace.old.accesses (Read addr (answer self.old addr 16)) }
     {
         let mut words = [0u8; 16];
-        self.read_at(addr, &mut words);
+        self.load(trace, addr, &mut words);
         words_of(&words)
     }
 
-    /// Writes a word at `addr`, lowest byte first.
+    /// Writes a word at `addr`, lowest byte first, by one access.
     #[inline]
-    fn write_word(&mut self, addr: u64, word: u64)
-        requires { addr + 8 ≤ extent self.old }
-        ensures traced { trace self.new ≡ trace self.old ++ Wrote addr (word_bytes word) ∷ [] }
-        ensures size { extent self.new ≡ extent self.old }
-        ensures loan { loan self.new ≡ loan self.old }
+    fn store_word(&mut self, trace: &mut Trace, addr: u64, word: u64)
+        requires { addr + 8 ≤ length (seen self.old) }
+        ensures seen { seen self.new ≡ overwrite addr (word_bytes word) (seen self.old) }
+        ensures size { length (seen self.new) ≡ length (seen self.old) }
+        ensures traced { trace.new.accesses ≡ noted shared trace.old.accesses (Wrote addr (word_bytes word)) }
     {
-        self.write_at(addr, &bytes_of(word));
+        self.store(trace, addr, &bytes_of(word));
     }
 
-    /// Writes two words from `addr` on, as one.
+    /// Writes two words from `addr` on, by one access.
     #[inline]
-    fn write_words(&mut self, addr: u64, low: u64, high: u64)
-        requires { addr + 16 ≤ extent self.old }
-        ensures traced { trace self.new
-            ≡ trace self.old ++ Wrote addr (two_words low high) ∷ [] }
-        ensures size { extent self.new ≡ extent self.old }
-        ensures loan { loan self.new ≡ loan self.old }
+    fn store_words(&mut self, trace: &mut Trace, addr: u64, low: u64, high: u64)
+        requires { addr + 16 ≤ length (seen self.old) }
+        ensures seen { seen self.new ≡ overwrite addr (two_words low high) (seen self.old) }
+        ensures size { length (seen self.new) ≡ length (seen self.old) }
+        ensures traced { trace.new.accesses ≡ noted shared trace.old.accesses (Wrote addr (two_words low high)) }
     {
-        self.write_at(addr, &bytes_of_two(low, high));
+        self.store(trace, addr, &bytes_of_two(low, high));
     }
 
-    /// Writes zero over every byte.
-    fn clear(&mut self)
-        ensures traced { trace self.new
-            ≡ trace self.old ++ Wrote 0 (replicate (extent self.old) 0) ∷ [] }
-        ensures size { extent self.new ≡ extent self.old }
-        ensures loan { loan self.new ≡ loan self.old };
+    /// Writes zero over every byte, as where a function is opened.
+    fn erase(&mut self)
+        ensures seen { seen self.new ≡ replicate (length (seen self.old)) 0 }
+        ensures size { length (seen self.new) ≡ length (seen self.old) };
 }

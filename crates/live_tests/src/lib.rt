@@ -5,10 +5,14 @@
 #![tactic(auto)]
 
 #[cfg(test)]
+mod alone;
+#[cfg(test)]
 mod by_hand;
 #[cfg(test)]
 mod compare;
 #[cfg(test)]
+mod mapped;
+#[cfg(test)]
 mod restless;
 #[cfg(test)]
-mod steady;
+mod turning;

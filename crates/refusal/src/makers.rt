@@ -10,6 +10,7 @@ use guest_port::{GuestPort, IrqPort, Refused};
 use irq_causes::Vectors;
 use irq_line::{DeviceSeat, make};
 use lock_support::{answer, frame_to_3, is_scripted, line_of, locked, recorded};
+use mapped_memory::LiveMem;
 use modes::Mode;
 use modes::drive::drive;
 use std::alloc::Global;
@@ -29,6 +30,13 @@ pub fn raise(device: &mut DeviceSeat, pool: u8, mask: u8) {
 pub fn flat_mem(alloc: Global) -> Came {
     match FlatMem::new(alloc, 4096) {
         Ok(memory) => Came::whole(memory.size() == 4096),
+        Err(fault) => Came::refused(fault, true),
+    }
+}
+
+pub fn live_mem(alloc: Global) -> Came {
+    match LiveMem::new(alloc, 4096) {
+        Ok(memory) => Came::whole(memory.regions() == 0),
         Err(fault) => Came::refused(fault, true),
     }
 }

@@ -136,6 +136,9 @@ pub words_at-is : (places m : List ℕ) (b n : ℕ) (xs : List ℕ) → zip_writ
 unfolding words_at
 words_at-is places m b n xs = refl
 
+pub passes_words : (end n : ℕ) (places m : List ℕ) (b count : ℕ) (xs : List ℕ) → end ≡ n → passes_end n (zip_writes (words_at places m) (cut b count xs)) ≡ passes_end end (data_writes places (cut b count xs) m)
+passes_words end n places m b count xs same = ap (passes_end n) (words_at-is places m b count xs) ∙ ap (λ (k : ℕ). passes_end k (data_writes places (cut b count xs) m)) (sym same)
+
 pub length-words_at : (places m : List ℕ) → length (words_at places m) ≡ length places
 unfolding words_at
 length-words_at places m = length-map places (λ (s : ℕ). word_at s m)
@@ -143,6 +146,15 @@ length-words_at places m = length-map places (λ (s : ℕ). word_at s m)
 pub get_or-words_at : (places m : List ℕ) (i : ℕ) → i < length places → get_or (words_at places m) i 0 ≡ word_at (get_or places i 0) m
 unfolding words_at
 get_or-words_at places m i h = get_or-map (λ (s : ℕ). word_at s m) places i 0 0 h
+
+-- the words stay at places where the word does
+pub same_words : (row m k : List ℕ) (i : ℕ) → ((j : ℕ) → j < i → j < length row → word_at (get_or row j 0) m ≡ word_at (get_or row j 0) k) → take i (words_at row m) ≡ take i (words_at row k)
+unfolding words_at
+same_words [] m k i same = refl
+same_words (p ∷ row) m k zero same = refl
+same_words (p ∷ row) m k (suc i) same =
+    ap (λ (w : ℕ). w ∷ take i (words_at row m)) (same 0 (omega arith) (omega arith))
+    ∙ ap (λ (ws : List ℕ). word_at p k ∷ ws) (same_words row m k i (λ j less there. same (suc j) (omega (arith, less)) (omega (arith, there))))
 
 -- one more address read
 pub filled_on : (kept words : List ℕ) (i a : ℕ) → i < length kept → i < length words → a ≡ get_or words i 0 → take i kept ≡ take i words → take (i + 1) (set kept i a) ≡ take (i + 1) words

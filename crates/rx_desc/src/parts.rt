@@ -2,8 +2,9 @@
 ghost use Rattle.std.specs.Prelude.{◌≡◌, ℕ, ◌+◌, ◌^◌, ◌<◌, ◌≤◌, length, take, drop};
 ghost use Rattle.guest_memory.specs.Memory.{overwrite};
 ghost use Rattle.rx_desc.specs.Parts.{text_of};
+ghost use Rattle.rx_desc.specs.Writing.{OnlyWrites};
 
-use guest_memory::{GuestMem, write_bytes};
+use live_memory::{Dma, Trace};
 
 // Bytes that stand in two parts, one after the other: a frame without its tag is its addresses and what follows the tag.
 #[derive(Clone, Copy)]
@@ -53,29 +54,33 @@ impl<'a> Parts<'a> {
 
 // Writes the bytes over those of the memory from `at` on.
 #[inline(always)]
-pub(crate) fn write_parts<M: GuestMem>(memory: &mut M, at: u64, source: Parts)
-    requires inside { at + length (text_of source) ≤ length (M.bytes memory.old) }
+pub(crate) fn write_parts<D: Dma>(memory: &mut D, trace: &mut Trace, at: u64, source: Parts)
+    requires inside { at + length (text_of source) ≤ length (D.seen memory.old) }
     requires fits { at + length (text_of source) < 2 ^ 64 }
-    ensures written { M.bytes memory.new
-        ≡ overwrite at (text_of source.entry) (M.bytes memory.old) }
-    ensures size { length (M.bytes memory.new) ≡ length (M.bytes memory.old) }
+    ensures written { D.seen memory.new
+        ≡ overwrite at (text_of source.entry) (D.seen memory.old) }
+    ensures writes { OnlyWrites D.shared (length (D.seen memory.old)) trace.old.accesses
+        trace.new.accesses }
+    ensures size { length (D.seen memory.new) ≡ length (D.seen memory.old) }
 {
     if source.front.is_empty() {
-        memory.write_at(at, source.back);
+        memory.store(trace, at, source.back);
     } else {
-        write_both(memory, at, source);
+        write_both(memory, trace, at, source);
     }
 }
 
-// Writes both parts, one behind the other. It stands apart, so that bytes in one part are written in few instructions.
+// Writes both parts, one behind the other. It isn't inlined, so that bytes in one part are written in few instructions.
 #[inline(never)]
-fn write_both<M: GuestMem>(memory: &mut M, at: u64, source: Parts)
-    requires inside { at + length (text_of source) ≤ length (M.bytes memory.old) }
+fn write_both<D: Dma>(memory: &mut D, trace: &mut Trace, at: u64, source: Parts)
+    requires inside { at + length (text_of source) ≤ length (D.seen memory.old) }
     requires fits { at + length (text_of source) < 2 ^ 64 }
-    ensures written { M.bytes memory.new
-        ≡ overwrite at (text_of source.entry) (M.bytes memory.old) }
-    ensures size { length (M.bytes memory.new) ≡ length (M.bytes memory.old) }
+    ensures written { D.seen memory.new
+        ≡ overwrite at (text_of source.entry) (D.seen memory.old) }
+    ensures writes { OnlyWrites D.shared (length (D.seen memory.old)) trace.old.accesses
+        trace.new.accesses }
+    ensures size { length (D.seen memory.new) ≡ length (D.seen memory.old) }
 {
-    write_bytes(memory, at, source.front);
-    write_bytes(memory, at + source.front.len() as u64, source.back);
+    memory.store(trace, at, source.front);
+    memory.store(trace, at + source.front.len() as u64, source.back);
 }

@@ -1,13 +1,16 @@
 //! Placing a frame.
 ghost use Rattle.std.specs.Prelude.{◌≡◌, ℕ, ◌+◌, ◌*◌, ◌-◌, ◌^◌, ◌<◌, ◌≤◌, length, false, is_none, IfSome, IsTrue, [], ◌∷◌};
 ghost use Rattle.guest_memory.specs.Memory.{write_all};
-ghost use Rattle.rings.specs.Ring.{owned, LiesInside};
+ghost use Rattle.live_memory.specs.Trace.{met, IsTraced};
+ghost use Rattle.rings.specs.Ring.{owned, IsRing, LiesInside};
 ghost use Rattle.rx_desc.specs.Parts.{text_of};
-ghost use Rattle.rx_desc.specs.Receive.{deliver, deliver_pieces, data_of, tag_taken, cut, pieces, slots, zip_writes, data_writes, back_writes, passes_end, status as status_of};
+ghost use Rattle.rx_desc.specs.Receive.{Delivers, deliver, deliver_pieces, data_of, tag_taken, cut, pieces, slots, zip_writes, data_writes, back_writes, passes_end, status as status_of};
+ghost use Rattle.rx_desc.specs.Writing.{OnlyWrites};
 
 use crate::descriptor::RxDescriptor;
 use crate::parts::{Parts, write_parts};
-use guest_memory::{GuestMem, read_word, write_words};
+use guest_memory::GuestMem;
+use live_memory::{Dma, Step, Trace};
 use rings::Ring;
 use wire_frame::FrameBuf;
 
@@ -71,32 +74,45 @@ pub fn place_in<M: GuestMem>(
     ensures on { IsTrue ring.new.enabled → IsTrue ring.old.enabled }
 {
     let memory_size = memory.size();
-    place_within(memory, memory_size, ring, config, frame, loopback)
+    let mut trace = Step::Begin.trace();
+    place_within(
+        memory,
+        &mut trace,
+        memory_size,
+        ring,
+        config,
+        frame,
+        loopback,
+    )
 }
 
-/// Places a frame as [`place_in`] does, of a memory whose size the caller knows.
+/// Places a frame as [`place_in`] does, in a memory that others may write meanwhile, and whose size the caller knows.
+///
+/// It does what `deliver` says of the memory that it met: the one before, with all that was read written into it. No byte is
+/// read after it was read or written in this call. Where the memory is shared, `trace` grows by each access.
 #[inline]
 #[tactic(auto, unfolding(crate::specs::Receive::deliver))]
-pub fn place_within<M: GuestMem>(
-    memory: &mut M,
+pub fn place_within<D: Dma>(
+    memory: &mut D,
+    trace: &mut Trace,
     memory_size: u64,
     ring: &mut Ring,
     config: &RxConfig,
     frame: &FrameBuf,
     loopback: bool,
 ) -> Placed
-    requires known { memory_size ≡ length (M.bytes memory.old) }
+    requires known { memory_size ≡ length (D.seen memory.old) }
     requires least { IsTrue ring.old.enabled → 1024 ≤ config.now.buffer_size }
     requires most { IsTrue ring.old.enabled → config.now.buffer_size ≤ 16384 }
-    requires inside { LiesInside (length (M.bytes memory.old)) ring.old }
-    ensures placed { result
-        ≡ (deliver config.now loopback frame.now (M.bytes memory.old) ring.old).placed }
-    ensures written { M.bytes memory.new
-        ≡ (deliver config.now loopback frame.now (M.bytes memory.old) ring.old).memory }
-    ensures ring { ring.new
-        ≡ (deliver config.now loopback frame.now (M.bytes memory.old) ring.old).ring }
-    ensures size { length (M.bytes memory.new) ≡ length (M.bytes memory.old) }
-    ensures inside { LiesInside (length (M.bytes memory.new)) ring.new }
+    requires inside { LiesInside (length (D.seen memory.old)) ring.old }
+    ensures done { Delivers
+        (deliver config.now loopback frame.now
+        (met trace.old.accesses trace.new.accesses (D.seen memory.old)) ring.old)
+        result (D.seen memory.new) ring.new }
+    ensures traced { IsTraced D.shared (length (D.seen memory.old)) trace.old.accesses
+        trace.new.accesses }
+    ensures size { length (D.seen memory.new) ≡ length (D.seen memory.old) }
+    ensures inside { LiesInside (length (D.seen memory.new)) ring.new }
     ensures on { IsTrue ring.new.enabled → IsTrue ring.old.enabled }
 {
     if !ring.is_enabled() {
@@ -107,6 +123,7 @@ pub fn place_within<M: GuestMem>(
     if config.strip_tag || bytes.len() > size {
         return place_frame(
             memory,
+            trace,
             memory_size,
             ring,
             size,
@@ -119,14 +136,15 @@ pub fn place_within<M: GuestMem>(
         front: &bytes[..0],
         back: bytes,
     };
-    place_one(memory, memory_size, ring, source, loopback, None)
+    place_one(memory, trace, memory_size, ring, source, loopback, None)
 }
 
-// Places a frame, without its tag where tags are stripped. It stands apart, so that a whole frame in one buffer is placed in few
+// Places a frame, without its tag where tags are stripped. It isn't inlined, so that a whole frame in one buffer is placed in few
 // instructions.
 #[inline(never)]
-fn place_frame<M: GuestMem>(
-    memory: &mut M,
+fn place_frame<D: Dma>(
+    memory: &mut D,
+    trace: &mut Trace,
     memory_size: u64,
     ring: &mut Ring,
     size: usize,
@@ -134,25 +152,33 @@ fn place_frame<M: GuestMem>(
     frame: &FrameBuf,
     loopback: bool,
 ) -> Placed
-    requires known { memory_size ≡ length (M.bytes memory.old) }
+    requires known { memory_size ≡ length (D.seen memory.old) }
     requires least { 1024 ≤ size }
     requires most { size ≤ 16384 }
-    requires inside { LiesInside (length (M.bytes memory.old)) ring.old }
-    ensures placed { result
-        ≡ (deliver_pieces loopback (tag_taken strip_tag frame.now)
-        (pieces size (data_of strip_tag frame.now)) (M.bytes memory.old) ring.old).placed }
-    ensures written { M.bytes memory.new
-        ≡ (deliver_pieces loopback (tag_taken strip_tag frame.now)
-        (pieces size (data_of strip_tag frame.now)) (M.bytes memory.old) ring.old).memory }
-    ensures ring { ring.new
-        ≡ (deliver_pieces loopback (tag_taken strip_tag frame.now)
-        (pieces size (data_of strip_tag frame.now)) (M.bytes memory.old) ring.old).ring }
-    ensures size { length (M.bytes memory.new) ≡ length (M.bytes memory.old) }
-    ensures inside { LiesInside (length (M.bytes memory.new)) ring.new }
+    requires valid { IsRing ring.old }
+    requires inside { LiesInside (length (D.seen memory.old)) ring.old }
+    ensures done { Delivers
+        (deliver_pieces loopback (tag_taken strip_tag frame.now)
+        (pieces size (data_of strip_tag frame.now))
+        (met trace.old.accesses trace.new.accesses (D.seen memory.old)) ring.old)
+        result (D.seen memory.new) ring.new }
+    ensures traced { IsTraced D.shared (length (D.seen memory.old)) trace.old.accesses
+        trace.new.accesses }
+    ensures size { length (D.seen memory.new) ≡ length (D.seen memory.old) }
+    ensures inside { LiesInside (length (D.seen memory.new)) ring.new }
     ensures on { IsTrue ring.new.enabled → IsTrue ring.old.enabled }
 {
     let (source, tag) = without_tag(strip_tag, frame);
-    place_data(memory, memory_size, ring, size, source, loopback, tag)
+    place_data(
+        memory,
+        trace,
+        memory_size,
+        ring,
+        size,
+        source,
+        loopback,
+        tag,
+    )
 }
 
 // The bytes of a frame that are placed, and the tag that was taken off it, where it is to be stripped and has one.
@@ -182,8 +208,9 @@ pub(crate) fn without_tag(strip_tag: bool, frame: &FrameBuf) -> (Parts<'_>, Opti
 
 // Places `source` in the buffers of the ring's next descriptors; `tag` was taken off it.
 #[inline]
-fn place_data<M: GuestMem>(
-    memory: &mut M,
+fn place_data<D: Dma>(
+    memory: &mut D,
+    trace: &mut Trace,
     memory_size: u64,
     ring: &mut Ring,
     size: usize,
@@ -191,27 +218,25 @@ fn place_data<M: GuestMem>(
     loopback: bool,
     tag: Option<u16>,
 ) -> Placed
-    requires known { memory_size ≡ length (M.bytes memory.old) }
+    requires known { memory_size ≡ length (D.seen memory.old) }
     requires least { 1024 ≤ size }
     requires most { size ≤ 16384 }
     requires some { 1 ≤ length (text_of source) }
     requires short { length (text_of source) ≤ 9018 }
-    requires inside { LiesInside (length (M.bytes memory.old)) ring.old }
-    ensures placed { result
-        ≡ (deliver_pieces loopback tag (pieces size (text_of source.entry))
-        (M.bytes memory.old) ring.old).placed }
-    ensures written { M.bytes memory.new
-        ≡ (deliver_pieces loopback tag (pieces size (text_of source.entry))
-        (M.bytes memory.old) ring.old).memory }
-    ensures ring { ring.new
-        ≡ (deliver_pieces loopback tag (pieces size (text_of source.entry))
-        (M.bytes memory.old) ring.old).ring }
-    ensures size { length (M.bytes memory.new) ≡ length (M.bytes memory.old) }
-    ensures inside { LiesInside (length (M.bytes memory.new)) ring.new }
+    requires valid { IsRing ring.old }
+    requires inside { LiesInside (length (D.seen memory.old)) ring.old }
+    ensures done { Delivers
+        (deliver_pieces loopback tag (pieces size (text_of source.entry))
+        (met trace.old.accesses trace.new.accesses (D.seen memory.old)) ring.old)
+        result (D.seen memory.new) ring.new }
+    ensures traced { IsTraced D.shared (length (D.seen memory.old)) trace.old.accesses
+        trace.new.accesses }
+    ensures size { length (D.seen memory.new) ≡ length (D.seen memory.old) }
+    ensures inside { LiesInside (length (D.seen memory.new)) ring.new }
     ensures on { IsTrue ring.new.enabled → IsTrue ring.old.enabled }
 {
     if source.len() <= size {
-        return place_one(memory, memory_size, ring, source, loopback, tag);
+        return place_one(memory, trace, memory_size, ring, source, loopback, tag);
     }
     let count = (source.len() + size - 1) / size;
     if count > ring.available() as usize {
@@ -219,6 +244,7 @@ fn place_data<M: GuestMem>(
     }
     place_many(
         memory,
+        trace,
         memory_size,
         ring,
         size,
@@ -229,53 +255,52 @@ fn place_data<M: GuestMem>(
     )
 }
 
-// Places `source` in one buffer. Nothing is kept beside the word of its descriptor. It stands in line, and calls the memory
-// itself: a call through a table is followed by a test for each function in line around it.
+// Places `source` in one buffer. Nothing is kept beside the word of its descriptor. It is inlined, and calls the memory itself: a
+// call through a table is followed by a test for each inlined function around it.
 #[inline(always)]
-fn place_one<M: GuestMem>(
-    memory: &mut M,
+fn place_one<D: Dma>(
+    memory: &mut D,
+    trace: &mut Trace,
     memory_size: u64,
     ring: &mut Ring,
     source: Parts,
     loopback: bool,
     tag: Option<u16>,
 ) -> Placed
-    requires known { memory_size ≡ length (M.bytes memory.old) }
+    requires known { memory_size ≡ length (D.seen memory.old) }
     requires short { length (text_of source) ≤ 9018 }
-    requires inside { LiesInside (length (M.bytes memory.old)) ring.old }
-    ensures placed { result
-        ≡ (deliver_pieces loopback tag (text_of source.entry ∷ [])
-        (M.bytes memory.old) ring.old).placed }
-    ensures written { M.bytes memory.new
-        ≡ (deliver_pieces loopback tag (text_of source.entry ∷ [])
-        (M.bytes memory.old) ring.old).memory }
-    ensures ring { ring.new
-        ≡ (deliver_pieces loopback tag (text_of source.entry ∷ [])
-        (M.bytes memory.old) ring.old).ring }
-    ensures size { length (M.bytes memory.new) ≡ length (M.bytes memory.old) }
-    ensures inside { LiesInside (length (M.bytes memory.new)) ring.new }
+    requires inside { LiesInside (length (D.seen memory.old)) ring.old }
+    ensures done { Delivers
+        (deliver_pieces loopback tag (text_of source.entry ∷ [])
+        (met trace.old.accesses trace.new.accesses (D.seen memory.old)) ring.old)
+        result (D.seen memory.new) ring.new }
+    ensures traced { IsTraced D.shared (length (D.seen memory.old)) trace.old.accesses
+        trace.new.accesses }
+    ensures size { length (D.seen memory.new) ≡ length (D.seen memory.old) }
+    ensures inside { LiesInside (length (D.seen memory.new)) ring.new }
     ensures on { IsTrue ring.new.enabled → IsTrue ring.old.enabled }
 {
     let Some(at) = ring.head_slot() else {
         return Placed::NoRoom;
     };
-    let buffer = memory.read_word(at);
+    let buffer = memory.load_word(trace, at);
     let descriptor = RxDescriptor { at, buffer };
     let count = source.len() as u64;
     if !descriptor.holds(count, memory_size) {
         ring.disable();
         return Placed::Faulted;
     }
-    write_parts(memory, buffer, source);
-    memory.write_words(at, 0, status(count, loopback, tag, true));
+    write_parts(memory, trace, buffer, source);
+    memory.store_words(trace, at, 0, status(count, loopback, tag, true));
     ring.advance(1);
     Placed::Put
 }
 
 // Places `source` in the buffers of as many descriptors as it has pieces, which are owned.
 #[inline(never)]
-fn place_many<M: GuestMem>(
-    memory: &mut M,
+fn place_many<D: Dma>(
+    memory: &mut D,
+    trace: &mut Trace,
     memory_size: u64,
     ring: &mut Ring,
     size: usize,
@@ -284,63 +309,68 @@ fn place_many<M: GuestMem>(
     loopback: bool,
     tag: Option<u16>,
 ) -> Placed
-    requires known { memory_size ≡ length (M.bytes memory.old) }
+    requires known { memory_size ≡ length (D.seen memory.old) }
     requires nine { count ≤ 9 }
     requires short { length (text_of source) ≤ 9018 }
     requires room { count ≤ length (owned ring.old) }
-    requires inside { LiesInside (length (M.bytes memory.old)) ring.old }
-    ensures placed { result
-        ≡ (deliver_pieces loopback tag (cut size count (text_of source.entry))
-        (M.bytes memory.old) ring.old).placed }
-    ensures written { M.bytes memory.new
-        ≡ (deliver_pieces loopback tag (cut size count (text_of source.entry))
-        (M.bytes memory.old) ring.old).memory }
-    ensures ring { ring.new
-        ≡ (deliver_pieces loopback tag (cut size count (text_of source.entry))
-        (M.bytes memory.old) ring.old).ring }
-    ensures size { length (M.bytes memory.new) ≡ length (M.bytes memory.old) }
-    ensures inside { LiesInside (length (M.bytes memory.new)) ring.new }
+    requires valid { IsRing ring.old }
+    requires inside { LiesInside (length (D.seen memory.old)) ring.old }
+    ensures done { Delivers
+        (deliver_pieces loopback tag (cut size count (text_of source.entry))
+        (met trace.old.accesses trace.new.accesses (D.seen memory.old)) ring.old)
+        result (D.seen memory.new) ring.new }
+    ensures traced { IsTraced D.shared (length (D.seen memory.old)) trace.old.accesses
+        trace.new.accesses }
+    ensures size { length (D.seen memory.new) ≡ length (D.seen memory.old) }
+    ensures inside { LiesInside (length (D.seen memory.new)) ring.new }
     ensures on { IsTrue ring.new.enabled → IsTrue ring.old.enabled }
 {
-    let Some(addresses) = buffers(memory, memory_size, ring, size, source, count) else {
+    let Some(addresses) = buffers(memory, trace, memory_size, ring, size, source, count) else {
         ring.disable();
         return Placed::Faulted;
     };
-    write_pieces(memory, &addresses, size, source, count);
-    write_back(memory, ring, size, source, count, loopback, tag);
+    write_pieces(memory, trace, &addresses, size, source, count);
+    write_back(memory, trace, ring, size, source, count, loopback, tag);
     ring.advance(count as u32);
     Placed::Put
 }
 
 // The addresses of the buffers of the first descriptors; none where some piece would pass the memory's end.
-fn buffers<M: GuestMem>(
-    memory: &M,
+fn buffers<D: Dma>(
+    memory: &mut D,
+    trace: &mut Trace,
     memory_size: u64,
     ring: &Ring,
     size: usize,
     source: Parts,
     count: usize,
 ) -> Option<[u64; MOST_PIECES]>
-    requires known { memory_size ≡ length (M.bytes memory.now) }
+    requires known { memory_size ≡ length (D.seen memory.old) }
     requires nine { count ≤ 9 }
     requires room { count ≤ length (owned ring.now) }
-    requires inside { LiesInside (length (M.bytes memory.now)) ring.now }
-    ensures small { length (M.bytes memory.now) < 2 ^ 64 }
+    requires valid { IsRing ring.now }
+    requires inside { LiesInside (length (D.seen memory.old)) ring.now }
+    ensures met { D.seen memory.new
+        ≡ met trace.old.accesses trace.new.accesses (D.seen memory.old) }
+    ensures traced { IsTraced D.shared (length (D.seen memory.old)) trace.old.accesses
+        trace.new.accesses }
+    ensures size { length (D.seen memory.new) ≡ length (D.seen memory.old) }
+    ensures small { length (D.seen memory.new) < 2 ^ 64 }
     ensures variant { is_none result
-        ≡ passes_end (length (M.bytes memory.now))
+        ≡ passes_end (length (D.seen memory.new))
         (data_writes (slots ring.now) (cut size count (text_of source.entry))
-        (M.bytes memory.now)) }
+        (D.seen memory.new)) }
     ensures value { IfSome result
         (λ xs. zip_writes xs (cut size count (text_of source.entry))
         ≡ data_writes (slots ring.now) (cut size count (text_of source.entry))
-        (M.bytes memory.now)) }
+        (D.seen memory.new)) }
 {
     let mut addresses = [0u64; MOST_PIECES];
     let mut rest = source;
     for i in 0..count {
         let (piece, tail) = rest.split_at(size.min(rest.len()));
         let at = ring.slot(i as u32);
-        let buffer = read_word(memory, at);
+        let buffer = memory.load_word(trace, at);
         let descriptor = RxDescriptor { at, buffer };
         if !descriptor.holds(piece.len() as u64, memory_size) {
             return None;
@@ -352,33 +382,37 @@ fn buffers<M: GuestMem>(
 }
 
 // Writes each piece at its address.
-fn write_pieces<M: GuestMem>(
-    memory: &mut M,
+fn write_pieces<D: Dma>(
+    memory: &mut D,
+    trace: &mut Trace,
     addresses: &[u64; MOST_PIECES],
     size: usize,
     source: Parts,
     count: usize,
 )
     requires nine { count ≤ 9 }
-    requires small { length (M.bytes memory.old) < 2 ^ 64 }
-    requires fits { passes_end (length (M.bytes memory.old))
+    requires small { length (D.seen memory.old) < 2 ^ 64 }
+    requires fits { passes_end (length (D.seen memory.old))
         (zip_writes addresses.now (cut size count (text_of source))) ≡ false }
-    ensures written { M.bytes memory.new
+    ensures written { D.seen memory.new
         ≡ write_all (zip_writes addresses.now (cut size count (text_of source.entry)))
-        (M.bytes memory.old) }
-    ensures size { length (M.bytes memory.new) ≡ length (M.bytes memory.old) }
+        (D.seen memory.old) }
+    ensures writes { OnlyWrites D.shared (length (D.seen memory.old)) trace.old.accesses
+        trace.new.accesses }
+    ensures size { length (D.seen memory.new) ≡ length (D.seen memory.old) }
 {
     let mut rest = source;
     for i in 0..count {
         let (piece, tail) = rest.split_at(size.min(rest.len()));
-        write_parts(memory, addresses[i], piece);
+        write_parts(memory, trace, addresses[i], piece);
         rest = tail;
     }
 }
 
 // Writes back the first descriptors.
-fn write_back<M: GuestMem>(
-    memory: &mut M,
+fn write_back<D: Dma>(
+    memory: &mut D,
+    trace: &mut Trace,
     ring: &Ring,
     size: usize,
     source: Parts,
@@ -387,21 +421,23 @@ fn write_back<M: GuestMem>(
     tag: Option<u16>,
 )
     requires room { count ≤ length (owned ring.now) }
-    requires inside { LiesInside (length (M.bytes memory.old)) ring.now }
+    requires inside { LiesInside (length (D.seen memory.old)) ring.now }
     requires short { length (text_of source) ≤ 9018 }
     requires nine { count ≤ 9 }
-    ensures written { M.bytes memory.new
+    ensures written { D.seen memory.new
         ≡ write_all
         (back_writes loopback tag (slots ring.now) (cut size count (text_of source.entry)))
-        (M.bytes memory.old) }
-    ensures size { length (M.bytes memory.new) ≡ length (M.bytes memory.old) }
+        (D.seen memory.old) }
+    ensures writes { OnlyWrites D.shared (length (D.seen memory.old)) trace.old.accesses
+        trace.new.accesses }
+    ensures size { length (D.seen memory.new) ≡ length (D.seen memory.old) }
 {
     let mut rest = source;
     for i in 0..count {
         let (piece, tail) = rest.split_at(size.min(rest.len()));
         let len = piece.len();
         let word = status(len as u64, loopback, tag, i + 1 == count);
-        write_words(memory, ring.slot(i as u32), 0, word);
+        memory.store_words(trace, ring.slot(i as u32), 0, word);
         rest = tail;
     }
 }

@@ -1,0 +1,4 @@
+pub mod Unread
+pub mod Around
+pub mod Taking
+pub mod Joining

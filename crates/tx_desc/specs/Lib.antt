@@ -1,3 +1,4 @@
 pub mod Transmit
 pub mod Lent
 pub mod Words
+pub mod Fetches

@@ -1,15 +1,19 @@
 //! Taking the descriptor at the head of a ring.
-ghost use Rattle.std.specs.Prelude.{◌≡◌, ◌+◌, ◌^◌, ◌<◌, ◌≤◌, IsTrue, false, [], length, slice_range};
+ghost use Rattle.std.specs.Prelude.{◌≡◌, ◌+◌, ◌^◌, ◌<◌, ◌≤◌, IsTrue, [], length, if◌then◌else◌};
+ghost use Rattle.guest_memory.specs.Memory.{overwrite, word_bytes};
+ghost use Rattle.live_memory.specs.Trace.{since, reads, met, IsTraced};
 ghost use Rattle.rings.specs.Ring.{LiesInside, no_ring, owned};
-ghost use Rattle.tx_desc.specs.Transmit.{fetch, taken, length_of, joined, ended, Gathered};
+ghost use Rattle.tx_desc.specs.Transmit.{fetch, taken, joined, ended, wants_report, done_word, Gathered};
 ghost use Rattle.tx_desc.specs.declared.outcome.Fetched.TheVariants.{Frame};
 ghost use Rattle.tx_desc.specs.Lent.{fetched_in, lent_after};
+ghost use Rattle.tx_desc.specs.Fetches.{Fetches, Stands, ReadsApart, KeepsApart, IsWhole, data_of};
 
 use crate::Pending;
 use crate::descriptor::{Kind, TxDescriptor};
-use crate::memory_range::MemoryRange;
 use crate::outcome::{Fetched, Progress, Served};
+use crate::reading::{read_data, read_descriptor};
 use guest_memory::GuestMem;
+use live_memory::{Dma, Step, Trace};
 use rings::Ring;
 use wire_frame::{FrameBuf, FrameLimit, PortVlan};
 
@@ -43,14 +47,27 @@ pub fn fetch_into<M: GuestMem>(
     ensures inside { LiesInside (length (M.bytes memory.new)) ring.new }
 {
     let memory_size = memory.size();
-    fetch_within(memory, memory_size, ring, pending, frame, rule, limit)
+    let mut trace = Step::Begin.trace();
+    fetch_within(
+        memory,
+        &mut trace,
+        memory_size,
+        ring,
+        pending,
+        frame,
+        rule,
+        limit,
+    )
 }
 
-/// Takes a descriptor as [`fetch_into`] does, from a memory whose size the caller knows.
+/// Takes a descriptor as [`fetch_into`] does, from a memory whose size the caller knows, and that others may write meanwhile.
+///
+/// It does what is due on the memory that it met: the one that was, with all bytes written into it that were read from it. No
+/// byte is read twice, so there is one such memory whatever others write, and whenever.
 #[inline]
-#[tactic(auto, unfolding(crate::specs::Transmit::fetch))]
-pub fn fetch_within<M: GuestMem>(
-    memory: &mut M,
+pub fn fetch_within<D: Dma>(
+    memory: &mut D,
+    trace: &mut Trace,
     memory_size: u64,
     ring: &mut Ring,
     pending: &mut Pending,
@@ -58,28 +75,21 @@ pub fn fetch_within<M: GuestMem>(
     rule: PortVlan,
     limit: FrameLimit,
 ) -> Served
-    requires known { memory_size ≡ length (M.bytes memory.old) }
-    requires inside { LiesInside (length (M.bytes memory.old)) ring.old }
-    ensures outcome { fetched_in result.outcome frame.new
-        ≡ (fetch limit rule (M.bytes memory.old) ring.old pending.old).outcome }
-    ensures frame { frame.new
-        ≡ lent_after
-        (fetch limit rule (M.bytes memory.old) ring.old pending.old).outcome frame.old }
-    ensures reported { result.reported
-        ≡ (fetch limit rule (M.bytes memory.old) ring.old pending.old).reported }
-    ensures memory { M.bytes memory.new
-        ≡ (fetch limit rule (M.bytes memory.old) ring.old pending.old).memory }
-    ensures ring { ring.new ≡ (fetch limit rule (M.bytes memory.old) ring.old pending.old).ring }
-    ensures pending { pending.new
-        ≡ (fetch limit rule (M.bytes memory.old) ring.old pending.old).pending }
-    ensures size { length (M.bytes memory.new) ≡ length (M.bytes memory.old) }
-    ensures inside { LiesInside (length (M.bytes memory.new)) ring.new }
+    requires known { memory_size ≡ length (D.seen memory.old) }
+    requires inside { LiesInside (length (D.seen memory.old)) ring.old }
+    ensures fetches { Fetches
+        (fetch limit rule
+        (met trace.old.accesses trace.new.accesses (D.seen memory.old)) ring.old pending.old)
+        result (D.seen memory.new) ring.new pending.new frame.old frame.new }
+    ensures traced { IsTraced D.shared (length (D.seen memory.old))
+        trace.old.accesses trace.new.accesses }
+    ensures size { length (D.seen memory.new) ≡ length (D.seen memory.old) }
+    ensures inside { LiesInside (length (D.seen memory.new)) ring.new }
 {
     let Some(at) = ring.head_slot() else {
         return Served::unreported(Progress::Idle);
     };
-    let (buffer, word) = memory.read_words(at);
-    let descriptor = TxDescriptor { at, buffer, word };
+    let descriptor = read_descriptor(memory, trace, at);
     match descriptor.kind(memory_size) {
         Kind::Context => {
             ring.advance(1);
@@ -90,13 +100,14 @@ pub fn fetch_within<M: GuestMem>(
             pending.clear();
             Served::unreported(Progress::Faulted)
         }
-        Kind::Data => take_data(memory, ring, pending, frame, descriptor, rule, limit),
+        Kind::Data => take_data(memory, trace, ring, pending, frame, descriptor, rule, limit),
     }
 }
 
 // Takes a descriptor that has bytes.
-fn take_data<M: GuestMem>(
-    memory: &mut M,
+fn take_data<D: Dma>(
+    memory: &mut D,
+    trace: &mut Trace,
     ring: &mut Ring,
     pending: &mut Pending,
     frame: &mut FrameBuf,
@@ -104,78 +115,78 @@ fn take_data<M: GuestMem>(
     rule: PortVlan,
     limit: FrameLimit,
 ) -> Served
-    requires place { descriptor.at + 16 ≤ length (M.bytes memory.old) }
-    requires fits { descriptor.at + 16 < 2 ^ 64 }
-    requires bytes { descriptor.buffer + length_of descriptor.word ≤ length (M.bytes memory.old) }
+    requires stands { Stands (D.seen memory.old) descriptor }
     requires owned { 1 ≤ length (owned ring.old) }
-    requires inside { LiesInside (length (M.bytes memory.old)) ring.old }
-    ensures outcome { fetched_in result.outcome frame.new
-        ≡ (taken Kind.Data limit rule
-        (M.bytes memory.old) ring.old pending.old descriptor).outcome }
-    ensures frame { frame.new
-        ≡ lent_after
+    requires inside { LiesInside (length (D.seen memory.old)) ring.old }
+    ensures fetches { Fetches
         (taken Kind.Data limit rule
-        (M.bytes memory.old) ring.old pending.old descriptor).outcome frame.old }
-    ensures reported { result.reported
-        ≡ (taken Kind.Data limit rule
-        (M.bytes memory.old) ring.old pending.old descriptor).reported }
-    ensures memory { M.bytes memory.new
-        ≡ (taken Kind.Data limit rule (M.bytes memory.old) ring.old pending.old descriptor).memory }
-    ensures ring { ring.new
-        ≡ (taken Kind.Data limit rule (M.bytes memory.old) ring.old pending.old descriptor).ring }
-    ensures pending { pending.new
-        ≡ (taken Kind.Data limit rule
-        (M.bytes memory.old) ring.old pending.old descriptor).pending }
-    ensures size { length (M.bytes memory.new) ≡ length (M.bytes memory.old) }
-    ensures inside { LiesInside (length (M.bytes memory.new)) ring.new }
+        (met trace.old.accesses trace.new.accesses (D.seen memory.old)) ring.old pending.old descriptor)
+        result (D.seen memory.new) ring.new pending.new frame.old frame.new }
+    ensures apart { KeepsApart D.shared descriptor.at
+        trace.old.accesses trace.new.accesses (D.seen memory.old) }
+    ensures size { length (D.seen memory.new) ≡ length (D.seen memory.old) }
+    ensures inside { LiesInside (length (D.seen memory.new)) ring.new }
 {
-    let outcome = gather(memory, pending, frame, descriptor, rule, limit);
-    let reported = descriptor.wants_report();
-    if reported {
-        memory.write_word(descriptor.at + 8, descriptor.done_word());
-    }
+    let outcome = gather(memory, trace, pending, frame, descriptor, rule, limit);
+    let reported = report(memory, trace, descriptor);
     ring.advance(1);
     Served { outcome, reported }
 }
 
+// Writes a descriptor back where its driver asks for it, and tells whether it was.
+#[inline]
+fn report<D: Dma>(memory: &mut D, trace: &mut Trace, descriptor: TxDescriptor) -> bool
+    requires place { descriptor.at + 16 ≤ length (D.seen memory.old) }
+    requires fits { descriptor.at + 16 < 2 ^ 64 }
+    ensures value { result ≡ wants_report descriptor.word }
+    ensures memory { D.seen memory.new
+        ≡ (if wants_report descriptor.word
+        then overwrite (descriptor.at + 8) (word_bytes (done_word descriptor.word)) (D.seen memory.old)
+        else D.seen memory.old) }
+    ensures size { length (D.seen memory.new) ≡ length (D.seen memory.old) }
+    ensures traced { IsTraced D.shared (length (D.seen memory.old))
+        trace.old.accesses trace.new.accesses }
+    ensures unread { reads (since trace.old.accesses trace.new.accesses) ≡ [] }
+{
+    let wanted = descriptor.wants_report();
+    if wanted {
+        memory.store_word(trace, descriptor.at + 8, descriptor.done_word());
+    }
+    wanted
+}
+
 // Gathers the bytes of a descriptor, and ends the frame where it is the last one.
 #[inline]
-fn gather<M: GuestMem>(
-    memory: &M,
+fn gather<D: Dma>(
+    memory: &mut D,
+    trace: &mut Trace,
     pending: &mut Pending,
     frame: &mut FrameBuf,
     descriptor: TxDescriptor,
     rule: PortVlan,
     limit: FrameLimit,
 ) -> Progress
-    requires { descriptor.buffer + length_of descriptor.word ≤ length (M.bytes memory.now) }
+    requires { Stands (D.seen memory.old) descriptor }
     ensures outcome { fetched_in result frame.new
-        ≡ (taken Kind.Data limit rule (M.bytes memory.now) no_ring pending.old descriptor).outcome }
+        ≡ (taken Kind.Data limit rule (D.seen memory.new) no_ring pending.old descriptor).outcome }
     ensures frame { frame.new
         ≡ lent_after
         (taken Kind.Data limit rule
-        (M.bytes memory.now) no_ring pending.old descriptor).outcome frame.old }
+        (D.seen memory.new) no_ring pending.old descriptor).outcome frame.old }
     ensures pending { pending.new
-        ≡ (taken Kind.Data limit rule (M.bytes memory.now) no_ring pending.old descriptor).pending }
+        ≡ (taken Kind.Data limit rule (D.seen memory.new) no_ring pending.old descriptor).pending }
+    ensures reads { ReadsApart D.shared descriptor.at
+        trace.old.accesses trace.new.accesses (D.seen memory.old) (D.seen memory.new) }
 {
     if !descriptor.ends_frame() {
-        pending.join(
-            memory,
-            descriptor.buffer,
-            descriptor.length() as usize,
-            limit,
-        );
+        pending.join(memory, trace, descriptor, limit);
         return Progress::More;
     }
-    if pending.is_empty() && take_whole(memory, frame, descriptor, rule, limit) {
+    if pending.is_empty() && is_whole(frame, descriptor, rule, limit) {
+        take_whole(memory, trace, frame, descriptor, rule, limit);
         return Progress::Ended;
     }
-    pending.join(
-        memory,
-        descriptor.buffer,
-        descriptor.length() as usize,
-        limit,
-    );
+    pending.join(memory, trace, descriptor, limit);
     let is_frame = pending.end(frame, descriptor, rule, limit);
     pending.clear();
     if is_frame {
@@ -185,35 +196,39 @@ fn gather<M: GuestMem>(
     }
 }
 
-// Makes the lent frame the bytes of a descriptor, where they are a frame as they stand and the lent one is as long at least;
-// tells whether it did. Shorter ones may be none, and a longer one would have to be made room for.
+// Whether the bytes of a descriptor are a frame as they stand, and the lent frame is as long at least. Shorter ones may be none,
+// and a longer one would have to be made room for.
 #[inline]
-#[tactic(auto, unfolding(crate::specs::Transmit::joined, crate::specs::Transmit::ended))]
-fn take_whole<M: GuestMem>(
-    memory: &M,
-    frame: &mut FrameBuf,
-    descriptor: TxDescriptor,
-    rule: PortVlan,
-    limit: FrameLimit,
-) -> bool
-    requires { descriptor.buffer + length_of descriptor.word ≤ length (M.bytes memory.now) }
-    ensures whole { IsTrue result
-        → ended limit rule descriptor.word
-        (joined limit (Gathered [])
-        (slice_range (M.bytes memory.now) descriptor.buffer
-        (descriptor.buffer + length_of descriptor.word))) ≡ Frame frame.new }
-    ensures other { result ≡ false → frame.new ≡ frame.old }
+fn is_whole(frame: &FrameBuf, descriptor: TxDescriptor, rule: PortVlan, limit: FrameLimit) -> bool
+    ensures { IsTrue result → IsWhole limit rule descriptor.word (length frame.now) }
 {
     let len = descriptor.length() as usize;
     if len < 18 || len > usize::from(limit.get()) || len > frame.bytes().len() {
         return false;
     }
-    if matches!(rule, PortVlan::Always(_)) || descriptor.tag(rule).is_some() {
-        return false;
-    }
-    let at = descriptor.buffer;
-    frame.fill_from(&MemoryRange { memory, at, len }, len);
-    true
+    !matches!(rule, PortVlan::Always(_)) && descriptor.tag(rule).is_none()
+}
+
+// Makes the lent frame the bytes of a descriptor, straight from the memory.
+#[inline]
+#[tactic(auto, unfolding(crate::specs::Transmit::joined, crate::specs::Transmit::ended))]
+fn take_whole<D: Dma>(
+    memory: &mut D,
+    trace: &mut Trace,
+    frame: &mut FrameBuf,
+    descriptor: TxDescriptor,
+    rule: PortVlan,
+    limit: FrameLimit,
+)
+    requires stands { Stands (D.seen memory.old) descriptor }
+    requires whole { IsWhole limit rule descriptor.word (length frame.old) }
+    ensures whole { ended limit rule descriptor.word
+        (joined limit (Gathered []) (data_of (D.seen memory.new) descriptor)) ≡ Frame frame.new }
+    ensures reads { ReadsApart D.shared descriptor.at
+        trace.old.accesses trace.new.accesses (D.seen memory.old) (D.seen memory.new) }
+{
+    let len = descriptor.length() as usize;
+    read_data(memory, trace, descriptor, frame.cut(len));
 }
 
 /// Takes the one descriptor at the head of the ring, if there is one, and answers what came of it and whether the

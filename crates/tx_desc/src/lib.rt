@@ -5,19 +5,23 @@
 //! rule and the limit on frames (82599 datasheet, transmit descriptors). All of it is one definition, `fetch` in `specs/`;
 //! [`fetch_in`] is the same with the frame in the answer, and [`fetch`] that of a memory of any kind behind one reference.
 //!
+//! [`fetch_within`] takes it from a memory that others may write meanwhile. It does what `fetch` says of the memory that it met:
+//! the one that was, with all bytes written into it that were read from it. No byte is read twice, so that memory is one and the
+//! same for all that is done. Bytes of a frame that lie in the descriptor itself are those that were read with it.
+//!
 //! The bytes of a frame go straight from the guest's memory into [`Pending`], or into the lent frame where one descriptor is all
 //! of it. Nothing is asked of the descriptor: whatever the guest wrote there, the call returns. No call takes memory but
 //! [`Pending::new`].
 //!
-//! The crate stands on `rings`, `guest_memory` and `wire_frame`.
+//! The crate stands on `rings`, `guest_memory`, `live_memory`, `wire_frame` and `byteorder`.
 #![tactic(auto)]
 
 pub mod any_memory;
 mod descriptor;
 pub mod fetching;
-mod memory_range;
 pub mod outcome;
 pub mod pending;
+mod reading;
 
 pub use any_memory::fetch;
 pub use fetching::{fetch_in, fetch_into, fetch_within};

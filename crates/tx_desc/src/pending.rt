@@ -1,11 +1,14 @@
 //! The frame that is being sent, as far as it is gathered.
-ghost use Rattle.std.specs.Prelude.{◌≡◌, ◌↔◌, IsTrue, ℕ, ◌+◌, ◌-◌, ◌≤◌, ◌++◌, [], length, replicate, slice_range, vec_capacity, IfOk, if◌then◌else◌};
-ghost use Rattle.tx_desc.specs.Transmit.{Gathering, Gathered, Overlong, joined, ended, refuses};
+ghost use Rattle.std.specs.Prelude.{◌≡◌, ◌↔◌, IsTrue, ℕ, ◌+◌, ◌-◌, ◌≤◌, ◌++◌, [], length, take, replicate, slice_range, vec_capacity, IfOk, if◌then◌else◌};
+ghost use Rattle.tx_desc.specs.Transmit.{Gathering, Gathered, Overlong, joined, ended, refuses, length_of};
+ghost use Rattle.tx_desc.specs.Fetches.{Stands, ReadsApart, data_of};
 ghost use Rattle.tx_desc.specs.Lent.{lent_after};
 ghost use Rattle.tx_desc.specs.declared.outcome.Fetched.TheVariants.{Frame, Dropped};
 
 use crate::descriptor::TxDescriptor;
-use guest_memory::{GuestMem, read_bytes};
+use crate::reading::read_data;
+use guest_memory::GuestMem;
+use live_memory::{Dma, Trace};
 use std::alloc::{AllocError, Global};
 use std::marker::Model;
 use wire_frame::{FrameBuf, FrameLimit, PortVlan, is_tagged};
@@ -65,28 +68,34 @@ impl Pending {
         self.len == 0 && !self.is_overlong
     }
 
-    // Joins the `size` bytes of the memory from `at` on, unless there are more than `limit` then.
+    // Joins the bytes of a descriptor, unless there are more than `limit` then. If they are too many, none is read.
     #[inline]
-    #[tactic(auto, unfolding(crate::specs::Transmit::joined))]
-    pub(crate) fn join<M: GuestMem>(&mut self, memory: &M, at: u64, size: usize, limit: FrameLimit)
-        requires { at + size ≤ length (M.bytes memory.now) }
-        ensures { self.new
-            ≡ joined limit self.old (slice_range (M.bytes memory.now) at (at + size)) }
+    #[tactic(auto, using(crate::proofs::Unread::reads_none), unfolding(crate::specs::Transmit::joined))]
+    pub(crate) fn join<D: Dma>(
+        &mut self,
+        memory: &mut D,
+        trace: &mut Trace,
+        descriptor: TxDescriptor,
+        limit: FrameLimit,
+    )
+        requires { Stands (D.seen memory.old) descriptor }
+        ensures joined { self.new
+            ≡ joined limit self.old (data_of (D.seen memory.new) descriptor) }
+        ensures reads { ReadsApart D.shared descriptor.at
+            trace.old.accesses trace.new.accesses (D.seen memory.old) (D.seen memory.new) }
     {
         let most = usize::from(limit.get());
+        let size = descriptor.length() as usize;
         if self.is_overlong || size > most || self.len > most - size {
             self.is_overlong = true;
             return;
         }
         let end = self.len + size;
-        if end > self.cells.len() {
-            reach(&mut self.cells, end);
-        }
-        read_bytes(memory, at, &mut self.cells[self.len..end]);
+        read_behind(memory, trace, descriptor, &mut self.cells, self.len, end);
         self.len = end;
     }
 
-    // Joins bytes as `join` does, of a memory of any kind.
+    // Joins the `size` bytes from `at` on as `join` does, of a memory of any kind.
     #[tactic(auto, unfolding(crate::specs::Transmit::joined))]
     pub(crate) fn join_any(
         &mut self,
@@ -137,6 +146,33 @@ impl Pending {
             Some(tag) => frame.refill_tagged(tag, bytes, limit),
         }
     }
+}
+
+// Reads the bytes of a descriptor into the cells from `start` up to `end`. There is room, so nothing is allocated.
+#[inline]
+fn read_behind<D: Dma>(
+    memory: &mut D,
+    trace: &mut Trace,
+    descriptor: TxDescriptor,
+    cells: &mut Vec<u8>,
+    start: usize,
+    end: usize,
+)
+    requires stands { Stands (D.seen memory.old) descriptor }
+    requires start { start ≤ length cells.old.items }
+    requires end { end ≡ start + length_of descriptor.word }
+    requires room { end ≤ vec_capacity cells.old }
+    ensures len { end ≤ length cells.new.items }
+    ensures capacity { vec_capacity cells.old ≤ vec_capacity cells.new }
+    ensures cells { take end cells.new.items
+        ≡ take start cells.old.items ++ data_of (D.seen memory.new) descriptor }
+    ensures reads { ReadsApart D.shared descriptor.at
+        trace.old.accesses trace.new.accesses (D.seen memory.old) (D.seen memory.new) }
+{
+    if end > cells.len() {
+        reach(cells, end);
+    }
+    read_data(memory, trace, descriptor, &mut cells[start..end]);
 }
 
 // Makes the cells that long, by zeros behind those that there are. There is room, so nothing is allocated.

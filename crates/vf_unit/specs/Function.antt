@@ -2,6 +2,7 @@
 use Rattle.std.specs.Prelude.{ℕ, ◌+◌, ◌*◌, ◌%◌, ◌^◌, ◌≤◌, Bool, true, false, List, [], length, IsTrue}
 use Rattle.wire_frame.specs.Bits.{field}
 use Rattle.wire_frame.specs.declared.vlan.PortVlan.{PortVlan}
+use Rattle.live_memory.specs.Trace.{Access, met}
 use Rattle.rings.specs.Ring.{no_ring, LiesInside}
 use Rattle.tx_desc.specs.Transmit.{Gathered, Fetching, fetch}
 use Rattle.rx_desc.specs.declared.placing.Placed.{Placed}
@@ -85,6 +86,12 @@ with_transmit s Q1 queue = record s { transmit_1 = queue }
 -- a change of the causes
 abbrev pub with_change : State → Change CauseState → Change State
 with_change s c = record { state = record s { causes = c.state }; messages = c.messages }
+
+-- ---- what the memory answered
+
+-- the function with all that was read from its memory meanwhile written into it
+abbrev pub told : List Access → List Access → State → State
+told before now s = record s { memory = met before now s.memory }
 
 -- ---- a frame that comes
 

@@ -1,12 +1,13 @@
 -- A virtual function, closed or open: what each call does to it and answers.
 use Rattle.std.specs.Prelude.{ℕ, ◌+◌, ◌%◌, ◌^◌, Bool, true, false, nat_le, List, length, replicate, slice_range, Option, Some, None, if◌then◌else◌}
 use Rattle.guest_memory.specs.Memory.{overwrite}
+use Rattle.live_memory.specs.Trace.{Access}
 use Rattle.wire_frame.specs.declared.vlan.PortVlan.{PortVlan}
 use Rattle.tx_desc.specs.declared.outcome.Fetched.{Fetched}
 use Rattle.tx_desc.specs.Lent.{lent_after}
 use Rattle.irq_causes.specs.Causes.{Change, silent}
 use Rattle.vf_unit.specs.declared.registers.Queue.{Queue}
-use Rattle.vf_unit.specs.Function.{State, initial, delivered, after_fetching, fetched_from}
+use Rattle.vf_unit.specs.Function.{State, initial, told, delivered, after_fetching, fetched_from}
 use Rattle.vf_unit.specs.Access.{word_at_offset, after_read_at, written_at}
 
 -- closed, with a memory of that size, or open
@@ -21,6 +22,11 @@ size_of (Open s) = length s.memory
 abbrev pub is_open : Function → Bool
 is_open (Closed size) = false
 is_open (Open s) = true
+
+-- with all that was read from its memory meanwhile written into it
+unfoldable pub told_of : List Access → List Access → Function → Function
+told_of before now (Closed size) = Closed size
+told_of before now (Open s) = Open (told before now s)
 
 -- ---- opening, ending, reset
 

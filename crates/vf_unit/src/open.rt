@@ -2,9 +2,10 @@
 ghost use Rattle.std.specs.Prelude.{◌≡◌, ℕ, ◌+◌, ◌≤◌, ◌<◌, ◌^◌, ◌%◌, length, slice_range, replicate, IfOk};
 ghost use Rattle.wire_frame.specs.Bits.{field};
 ghost use Rattle.guest_memory.specs.Memory.{overwrite};
+ghost use Rattle.live_memory.specs.Trace.{IsTraced};
 ghost use Rattle.rings.specs.Ring.{ring_written};
 ghost use Rattle.tx_desc.specs.Lent.{fetched_in, lent_after};
-ghost use Rattle.vf_unit.specs.Function.{State, initial, receive_of, transmit_of, with_receive, with_transmit, with_fetching, fetched_from, after_fetching, delivered};
+ghost use Rattle.vf_unit.specs.Function.{State, initial, receive_of, transmit_of, with_receive, with_transmit, with_fetching, fetched_from, after_fetching, delivered, told};
 ghost use Rattle.vf_unit.specs.Access.{word, after_read, buffers_written, receive_switched, transmit_switched, register_written, word_at_offset, after_read_at, written_at};
 
 use crate::offsets::{
@@ -13,8 +14,9 @@ use crate::offsets::{
 };
 use crate::queues::{ReceiveQueue, TransmitQueue};
 use crate::registers::{Queue, Register, register_of};
-use guest_memory::{GuestMem, read_bytes, write_bytes};
+use guest_memory::{GuestMem, read_bytes};
 use irq_causes::{Causes, Vectors};
+use live_memory::{Dma, Step, Trace};
 use rings::RingRegister;
 use rx_desc::{Placed, RxConfig, place_within};
 use std::alloc::{AllocError, Global};
@@ -36,9 +38,9 @@ pub struct Service {
 
 /// A virtual function that is open, over its memory.
 #[derive(Drop)]
-pub struct OpenVf<M: GuestMem> {
+pub struct OpenVf<D: Dma> {
     // what a frame that comes concerns stands side by side
-    memory: M,
+    memory: D,
     memory_size: u64,
     receive_0: ReceiveQueue,
     causes: Causes,
@@ -51,14 +53,14 @@ pub struct OpenVf<M: GuestMem> {
     transmit_1: TransmitQueue,
 }
 
-impl<M: GuestMem> Model for OpenVf<M> {
+impl<D: Dma> Model for OpenVf<D> {
     ghost use Rattle.std.specs.Prelude.{◌≡◌, length};
     ghost use Rattle.vf_unit.specs.Function.{State, IsTied};
 
     ghost Value = { State };
 
     ghost view = { λ f. record {
-      memory = M.bytes f.memory;
+      memory = D.seen f.memory;
       receive_0 = f.receive_0;
       receive_1 = f.receive_1;
       transmit_0 = f.transmit_0;
@@ -70,10 +72,10 @@ impl<M: GuestMem> Model for OpenVf<M> {
       frames_sent = f.frames_sent;
     } };
 
-    ghost invariant = { λ f. (f.memory_size ≡ length (M.bytes f.memory))
+    ghost invariant = { λ f. (f.memory_size ≡ length (D.seen f.memory))
         × IsTied
         (record {
-          memory = M.bytes f.memory;
+          memory = D.seen f.memory;
           receive_0 = f.receive_0;
           receive_1 = f.receive_1;
           transmit_0 = f.transmit_0;
@@ -86,12 +88,12 @@ impl<M: GuestMem> Model for OpenVf<M> {
         }) };
 }
 
-impl<M: GuestMem> OpenVf<M> {
+impl<D: Dma> OpenVf<D> {
     /// A function over this memory, with every register initial.
-    pub fn new(alloc: Global, memory: M) -> Result<OpenVf<M>, AllocError>
-        ensures { IfOk result (λ f. f ≡ initial (M.bytes memory)) }
+    pub fn new(alloc: Global, memory: D) -> Result<OpenVf<D>, AllocError>
+        ensures { IfOk result (λ f. f ≡ initial (D.seen memory)) }
     {
-        let memory_size = memory.size();
+        let memory_size = memory.extent();
         let transmit_0 = TransmitQueue::new(alloc)?;
         let transmit_1 = TransmitQueue::new(alloc)?;
         Ok(OpenVf {
@@ -131,7 +133,7 @@ impl<M: GuestMem> OpenVf<M> {
         ensures size { length self.new.memory ≡ length self.old.memory }
     {
         self.reset();
-        self.memory.clear();
+        self.memory.erase();
     }
 
     /// Reads the register at an offset.
@@ -290,10 +292,16 @@ impl<M: GuestMem> OpenVf<M> {
     /// Places a frame in receive queue 0; the messages that this issues. `loopback` says that another pool sent it.
     #[inline]
     #[tactic(auto, unfolding(crate::specs::Function::delivered))]
-    pub fn deliver(&mut self, frame: &FrameBuf, loopback: bool) -> Vectors
-        ensures state { self.new ≡ (delivered loopback frame.now self.old).state }
-        ensures messages { result ≡ (delivered loopback frame.now self.old).messages }
+    pub fn deliver(&mut self, trace: &mut Trace, frame: &FrameBuf, loopback: bool) -> Vectors
+        ensures state { self.new
+            ≡ (delivered loopback frame.now
+            (told trace.old.accesses trace.new.accesses self.old)).state }
+        ensures messages { result
+            ≡ (delivered loopback frame.now
+            (told trace.old.accesses trace.new.accesses self.old)).messages }
         ensures size { length self.new.memory ≡ length self.old.memory }
+        ensures traced { IsTraced D.shared
+            (length self.old.memory) trace.old.accesses trace.new.accesses }
     {
         let config = RxConfig {
             buffer_size: 1024 * (self.receive_0.buffers % BUFFER_SIZES) as usize,
@@ -301,6 +309,7 @@ impl<M: GuestMem> OpenVf<M> {
         };
         let placed = place_within(
             &mut self.memory,
+            trace,
             self.memory_size,
             &mut self.receive_0.ring,
             &config,
@@ -320,20 +329,30 @@ impl<M: GuestMem> OpenVf<M> {
     #[tactic(auto, unfolding(crate::specs::Function::after_fetching))]
     pub fn serve(
         &mut self,
+        trace: &mut Trace,
         queue: Queue,
         frame: &mut FrameBuf,
         rule: PortVlan,
         limit: FrameLimit,
     ) -> Service
-        ensures state { self.new ≡ (after_fetching limit rule self.old queue).state }
-        ensures messages { result.messages ≡ (after_fetching limit rule self.old queue).messages }
+        ensures state { self.new
+            ≡ (after_fetching limit rule
+            (told trace.old.accesses trace.new.accesses self.old) queue).state }
+        ensures messages { result.messages
+            ≡ (after_fetching limit rule
+            (told trace.old.accesses trace.new.accesses self.old) queue).messages }
         ensures outcome { fetched_in result.outcome frame.new
-            ≡ (fetched_from limit rule self.old queue).outcome }
+            ≡ (fetched_from limit rule
+            (told trace.old.accesses trace.new.accesses self.old) queue).outcome }
         ensures frame { frame.new
-            ≡ lent_after (fetched_from limit rule self.old queue).outcome frame.old }
+            ≡ lent_after
+            (fetched_from limit rule
+            (told trace.old.accesses trace.new.accesses self.old) queue).outcome frame.old }
         ensures size { length self.new.memory ≡ length self.old.memory }
+        ensures traced { IsTraced D.shared
+            (length self.old.memory) trace.old.accesses trace.new.accesses }
     {
-        let served = self.fetch_from(queue, frame, rule, limit);
+        let served = self.fetch_from(trace, queue, frame, rule, limit);
         let messages = if served.reported {
             let vector = match queue {
                 Queue::Q0 => vector_at(self.queue_vectors, TRANSMIT_VECTOR_0),
@@ -352,22 +371,35 @@ impl<M: GuestMem> OpenVf<M> {
     // Takes the descriptor at the head of a transmit queue, and raises nothing.
     fn fetch_from(
         &mut self,
+        trace: &mut Trace,
         queue: Queue,
         frame: &mut FrameBuf,
         rule: PortVlan,
         limit: FrameLimit,
     ) -> Served
-        ensures state { self.new ≡ with_fetching self.old queue (fetched_from limit rule self.old queue) }
-        ensures reported { result.reported ≡ (fetched_from limit rule self.old queue).reported }
+        ensures state { self.new
+            ≡ with_fetching
+            (told trace.old.accesses trace.new.accesses self.old) queue
+            (fetched_from limit rule
+            (told trace.old.accesses trace.new.accesses self.old) queue) }
+        ensures reported { result.reported
+            ≡ (fetched_from limit rule
+            (told trace.old.accesses trace.new.accesses self.old) queue).reported }
         ensures outcome { fetched_in result.outcome frame.new
-            ≡ (fetched_from limit rule self.old queue).outcome }
+            ≡ (fetched_from limit rule
+            (told trace.old.accesses trace.new.accesses self.old) queue).outcome }
         ensures frame { frame.new
-            ≡ lent_after (fetched_from limit rule self.old queue).outcome frame.old }
+            ≡ lent_after
+            (fetched_from limit rule
+            (told trace.old.accesses trace.new.accesses self.old) queue).outcome frame.old }
         ensures size { length self.new.memory ≡ length self.old.memory }
+        ensures traced { IsTraced D.shared
+            (length self.old.memory) trace.old.accesses trace.new.accesses }
     {
         match queue {
             Queue::Q0 => fetch_within(
                 &mut self.memory,
+                trace,
                 self.memory_size,
                 &mut self.transmit_0.ring,
                 &mut self.transmit_0.pending,
@@ -377,6 +409,7 @@ impl<M: GuestMem> OpenVf<M> {
             ),
             Queue::Q1 => fetch_within(
                 &mut self.memory,
+                trace,
                 self.memory_size,
                 &mut self.transmit_1.ring,
                 &mut self.transmit_1.pending,
@@ -404,12 +437,15 @@ impl<M: GuestMem> OpenVf<M> {
         self.memory_size
     }
 
-    /// Copies bytes of the memory.
-    pub fn mem_read(&self, at: u64, out: &mut [u8])
-        requires { at + length out.old ≤ length self.now.memory }
-        ensures { out.new ≡ slice_range self.now.memory at (at + length out.old) }
+    /// Reads bytes of the memory.
+    pub fn mem_load(&mut self, trace: &mut Trace, at: u64, out: &mut [u8])
+        requires { at + length out.old ≤ length self.old.memory }
+        ensures state { self.new ≡ told trace.old.accesses trace.new.accesses self.old }
+        ensures bytes { out.new ≡ slice_range self.new.memory at (at + length out.old) }
+        ensures traced { IsTraced D.shared
+            (length self.old.memory) trace.old.accesses trace.new.accesses }
     {
-        read_bytes(&self.memory, at, out);
+        self.memory.load(trace, at, out);
     }
 
     /// Writes bytes of the memory.
@@ -419,7 +455,17 @@ impl<M: GuestMem> OpenVf<M> {
             ≡ record self.old { memory = overwrite at source.now self.old.memory } }
         ensures size { length self.new.memory ≡ length self.old.memory }
     {
-        write_bytes(&mut self.memory, at, source);
+        self.memory.store(&mut Step::Begin.trace(), at, source);
+    }
+}
+
+impl<M: GuestMem> OpenVf<M> {
+    /// Copies bytes of the memory.
+    pub fn mem_read(&self, at: u64, out: &mut [u8])
+        requires { at + length out.old ≤ length self.now.memory }
+        ensures { out.new ≡ slice_range self.now.memory at (at + length out.old) }
+    {
+        read_bytes(&self.memory, at, out);
     }
 }
 

@@ -1,25 +1,27 @@
 //! A virtual function, closed or open.
 ghost use Rattle.std.specs.Prelude.{◌≡◌, ℕ, length, Some, None, IfOk, if◌then◌else◌};
 ghost use Rattle.std.specs.Option.{option_map};
+ghost use Rattle.live_memory.specs.Trace.{IsTraced};
 ghost use Rattle.tx_desc.specs.Lent.{fetched_in};
-ghost use Rattle.vf_unit.specs.Unit.{Function, Closed, Open, size_of, is_open, opened, ended, reset, read_of, after_read_of, written, given, serviced, service_outcome, lent_to, one_more_sent, has_range, bytes_at, memory_written};
+ghost use Rattle.vf_unit.specs.Unit.{Function, Closed, Open, size_of, is_open, opened, ended, reset, read_of, after_read_of, written, given, serviced, service_outcome, lent_to, one_more_sent, has_range, bytes_at, memory_written, told_of};
 
 use crate::open::{OpenVf, Service};
 use crate::registers::Queue;
 use guest_memory::GuestMem;
 use irq_causes::Vectors;
+use live_memory::{Dma, Step, Trace};
 use std::alloc::{AllocError, Global};
 use std::marker::Model;
 use wire_frame::{FrameBuf, FrameLimit, PortVlan};
 
 /// A virtual function, closed or open. Each call says what it does to one that is open; a closed one stays as it is.
 #[derive(Drop)]
-pub struct VfUnit<M: GuestMem> {
+pub struct VfUnit<D: Dma> {
     is_open: bool,
-    inner: OpenVf<M>,
+    inner: OpenVf<D>,
 }
 
-impl<M: GuestMem> Model for VfUnit<M> {
+impl<D: Dma> Model for VfUnit<D> {
     ghost use Rattle.std.specs.Prelude.{length, if◌then◌else◌};
     ghost use Rattle.vf_unit.specs.Unit.{Function, Closed, Open};
 
@@ -28,10 +30,10 @@ impl<M: GuestMem> Model for VfUnit<M> {
     ghost view = { λ u. if u.is_open then Open u.inner else Closed (length u.inner.memory) };
 }
 
-impl<M: GuestMem> VfUnit<M> {
+impl<D: Dma> VfUnit<D> {
     /// A closed function over this memory, with the room that its frames are gathered in.
-    pub fn new(alloc: Global, memory: M) -> Result<VfUnit<M>, AllocError>
-        ensures { IfOk result (λ u. u ≡ Closed (length (M.bytes memory))) }
+    pub fn new(alloc: Global, memory: D) -> Result<VfUnit<D>, AllocError>
+        ensures { IfOk result (λ u. u ≡ Closed (length (D.seen memory))) }
     {
         let inner = OpenVf::new(alloc, memory)?;
         Ok(VfUnit {
@@ -111,40 +113,61 @@ impl<M: GuestMem> VfUnit<M> {
         }
     }
 
-    /// Places a frame in receive queue 0; the messages that this issues. `loopback` says that another pool sent it.
+    /// Places a frame in receive queue 0; the messages that this issues. `loopback` says that another pool sent it. What the
+    /// memory answers meanwhile is kept in the trace, where others write it.
     #[inline]
-    pub fn deliver(&mut self, frame: &FrameBuf, loopback: bool) -> Vectors
-        ensures function { self.new ≡ (given loopback frame.now self.old).state }
-        ensures messages { result ≡ (given loopback frame.now self.old).messages }
+    #[tactic(auto, unfolding(crate::specs::Unit::told_of))]
+    pub fn deliver_live(&mut self, trace: &mut Trace, frame: &FrameBuf, loopback: bool) -> Vectors
+        ensures function { self.new
+            ≡ (given loopback frame.now
+            (told_of trace.old.accesses trace.new.accesses self.old)).state }
+        ensures messages { result
+            ≡ (given loopback frame.now
+            (told_of trace.old.accesses trace.new.accesses self.old)).messages }
         ensures size { size_of self.new ≡ size_of self.old }
+        ensures traced { IsTraced D.shared
+            (size_of self.old) trace.old.accesses trace.new.accesses }
     {
         if self.is_open {
-            self.inner.deliver(frame, loopback)
+            self.inner.deliver(trace, frame, loopback)
         } else {
             Vectors::none()
         }
     }
 
     /// Takes the descriptor at the head of a transmit queue, under the port's VLAN rule and the limit on frames. A frame
-    /// that ends with it is left in `frame`, which else stays as it was.
-    pub fn serve(
+    /// that ends with it is left in `frame`, which else stays as it was. What the memory answers meanwhile is kept in the
+    /// trace, where others write it.
+    #[tactic(auto, unfolding(crate::specs::Unit::told_of))]
+    pub fn serve_live(
         &mut self,
+        trace: &mut Trace,
         queue: Queue,
         frame: &mut FrameBuf,
         rule: PortVlan,
         limit: FrameLimit,
     ) -> Option<Service>
-        ensures function { self.new ≡ (serviced limit rule self.old queue).state }
+        ensures function { self.new
+            ≡ (serviced limit rule
+            (told_of trace.old.accesses trace.new.accesses self.old) queue).state }
         ensures outcome { option_map (λ s. fetched_in s.outcome frame.new) result
-            ≡ service_outcome limit rule self.old queue }
-        ensures frame { frame.new ≡ lent_to (service_outcome limit rule self.old queue) frame.old }
+            ≡ service_outcome limit rule
+            (told_of trace.old.accesses trace.new.accesses self.old) queue }
+        ensures frame { frame.new
+            ≡ lent_to
+            (service_outcome limit rule
+            (told_of trace.old.accesses trace.new.accesses self.old) queue) frame.old }
         ensures messages { option_map (λ s. s.messages) result
-            ≡ (if is_open self.old then Some (serviced limit rule self.old queue).messages
+            ≡ (if is_open self.old then Some
+            (serviced limit rule
+            (told_of trace.old.accesses trace.new.accesses self.old) queue).messages
             else None) }
         ensures size { size_of self.new ≡ size_of self.old }
+        ensures traced { IsTraced D.shared
+            (size_of self.old) trace.old.accesses trace.new.accesses }
     {
         if self.is_open {
-            Some(self.inner.serve(queue, frame, rule, limit))
+            Some(self.inner.serve(trace, queue, frame, rule, limit))
         } else {
             None
         }
@@ -160,18 +183,22 @@ impl<M: GuestMem> VfUnit<M> {
         }
     }
 
-    /// Copies bytes of the memory into `out`, where it is open and they lie inside; tells whether it did.
-    #[tactic(auto, unfolding(crate::specs::Unit::bytes_at))]
-    pub fn mem_read(&self, at: u64, out: &mut [u8]) -> bool
-        ensures done { result ≡ has_range self.now at (length out.old) }
-        ensures bytes { out.new ≡ bytes_at self.now at out.old }
+    /// Reads bytes of the memory into `out`, where it is open and they lie inside; tells whether it did. What the memory
+    /// answers is kept in the trace, where others write it.
+    #[tactic(auto, unfolding(crate::specs::Unit::bytes_at, crate::specs::Unit::told_of), using(crate::proofs::Told::told_still))]
+    pub fn mem_load(&mut self, trace: &mut Trace, at: u64, out: &mut [u8]) -> bool
+        ensures done { result ≡ has_range self.old at (length out.old) }
+        ensures function { self.new ≡ told_of trace.old.accesses trace.new.accesses self.old }
+        ensures bytes { out.new ≡ bytes_at self.new at out.old }
+        ensures traced { IsTraced D.shared
+            (size_of self.old) trace.old.accesses trace.new.accesses }
     {
         let len = out.len() as u64;
         let size = self.inner.memory_size();
         if !self.is_open || len > size || at > size - len {
             return false;
         }
-        self.inner.mem_read(at, out);
+        self.inner.mem_load(trace, at, out);
         true
     }
 
@@ -188,6 +215,56 @@ impl<M: GuestMem> VfUnit<M> {
             return false;
         }
         self.inner.mem_write(at, source);
+        true
+    }
+}
+
+impl<M: GuestMem> VfUnit<M> {
+    /// Places a frame in receive queue 0; the messages that this issues. `loopback` says that another pool sent it.
+    #[inline]
+    #[tactic(auto, using(crate::proofs::Told::told_alone))]
+    pub fn deliver(&mut self, frame: &FrameBuf, loopback: bool) -> Vectors
+        ensures function { self.new ≡ (given loopback frame.now self.old).state }
+        ensures messages { result ≡ (given loopback frame.now self.old).messages }
+        ensures size { size_of self.new ≡ size_of self.old }
+    {
+        self.deliver_live(&mut Step::Begin.trace(), frame, loopback)
+    }
+
+    /// Takes the descriptor at the head of a transmit queue, under the port's VLAN rule and the limit on frames. A frame
+    /// that ends with it is left in `frame`, which else stays as it was.
+    #[tactic(auto, using(crate::proofs::Told::told_alone))]
+    pub fn serve(
+        &mut self,
+        queue: Queue,
+        frame: &mut FrameBuf,
+        rule: PortVlan,
+        limit: FrameLimit,
+    ) -> Option<Service>
+        ensures function { self.new ≡ (serviced limit rule self.old queue).state }
+        ensures outcome { option_map (λ s. fetched_in s.outcome frame.new) result
+            ≡ service_outcome limit rule self.old queue }
+        ensures frame { frame.new ≡ lent_to (service_outcome limit rule self.old queue) frame.old }
+        ensures messages { option_map (λ s. s.messages) result
+            ≡ (if is_open self.old then Some (serviced limit rule self.old queue).messages
+            else None) }
+        ensures size { size_of self.new ≡ size_of self.old }
+    {
+        self.serve_live(&mut Step::Begin.trace(), queue, frame, rule, limit)
+    }
+
+    /// Copies bytes of the memory into `out`, where it is open and they lie inside; tells whether it did.
+    #[tactic(auto, unfolding(crate::specs::Unit::bytes_at))]
+    pub fn mem_read(&self, at: u64, out: &mut [u8]) -> bool
+        ensures done { result ≡ has_range self.now at (length out.old) }
+        ensures bytes { out.new ≡ bytes_at self.now at out.old }
+    {
+        let len = out.len() as u64;
+        let size = self.inner.memory_size();
+        if !self.is_open || len > size || at > size - len {
+            return false;
+        }
+        self.inner.mem_read(at, out);
         true
     }
 }

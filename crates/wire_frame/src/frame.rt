@@ -69,16 +69,6 @@ impl Default for FrameLimit {
     }
 }
 
-/// Bytes that stand somewhere and can be copied from there.
-pub trait ByteSource {
-    ghost bytes: { Self → List ℕ };
-
-    /// Copies them all.
-    fn copy_to(&self, out: &mut [u8])
-        requires { length out.old ≡ length (bytes self.now) }
-        ensures { out.new ≡ bytes self.now };
-}
-
 /// A frame without FCS, of 14 to 9018 bytes; one with a VLAN tag has at least 18 (IEEE 802.3 and 802.1Q).
 #[derive(Debug, Drop)]
 pub struct FrameBuf {
@@ -115,6 +105,9 @@ impl Eq for FrameBuf {
 }
 
 impl FrameBuf {
+    ghost use Rattle.std.specs.Borrow.{sem};
+    ghost use Rattle.wire_frame.specs.Lent.{lends_first};
+
     /// The frame of these bytes. They are refused as [`Fault::BadFrame`] exactly where they are no frame.
     pub fn from_bytes(bytes: &[u8]) -> Result<FrameBuf, Fault>
         ensures variant { is_ok result ≡ is_frame 9018 bytes.now }
@@ -231,17 +224,18 @@ impl FrameBuf {
         true
     }
 
-    /// Makes this frame the bytes of a source, of which there are `len`: at least 18, which are a frame whatever they are, and
-    /// no more than this frame has. They are copied once, from where they stand.
+    /// Cuts the frame to its first `len` bytes, at least 18 and no more than it has, and lends them to be written over. So many
+    /// bytes are a frame whatever they are.
     #[inline]
-    pub fn fill_from<S: ByteSource>(&mut self, source: &S, len: usize)
-        requires all { length (S.bytes source.now) ≡ len }
+    pub fn cut(&mut self, len: usize) -> &mut [u8]
         requires least { 18 ≤ len }
         requires most { len ≤ length self.old }
-        ensures { self.new ≡ S.bytes source.now }
+        ensures* writes_back { sem 𝓛 (lends_first self.entry len result) }
+        ensures value { result.now ≡ take len self.old }
+        ensures len { length result.now ≡ len }
     {
         self.kept.truncate(len);
-        source.copy_to(self.kept.as_mut_slice());
+        self.kept.as_mut_slice()
     }
 
     /// Makes this frame the bytes with a tag after the two addresses, where that is a frame no longer than `limit`, and

@@ -19,7 +19,7 @@ pub mod vlan;
 pub use address::{AddressKind, Mac};
 pub use bits::{field, has_bit, pool_words};
 pub use fault::Fault;
-pub use frame::{ByteSource, FrameBuf, FrameBytes, FrameLimit, is_frame, is_tagged};
+pub use frame::{FrameBuf, FrameBytes, FrameLimit, is_frame, is_tagged};
 pub use pool::PoolId;
 pub use pool_set::{PoolSet, Pools};
 pub use row::{Row, read_one, read_word, write_one, write_word};

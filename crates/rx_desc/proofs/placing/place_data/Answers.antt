@@ -1,27 +1,26 @@
 -- Placing is the definition's where there are too few descriptors, and where the bytes are one piece.
-use Rattle.std.proofs.Common.{◌≡◌, ℕ, ◌+◌, ◌-◌, ◌/◌, List, sym, ap, ◌∙◌, arith}
-use Rattle.rx_desc.specs.Receive.{Delivery, deliver_pieces}
+use Rattle.std.proofs.Common.{◌≡◌, ℕ, ◌+◌, ◌-◌, ◌/◌, List, sym, ap, subst, arith}
+use Rattle.live_memory.specs.Trace.{met}
+use Rattle.live_memory.proofs.Accesses.{traced_none}
+use Rattle.rx_desc.specs.Receive.{Delivers, deliver_pieces, pieces}
 use Rattle.rx_desc.specs.Parts.{text_of}
+use Rattle.rx_desc.proofs.Delivered.{on_still}
 use Rattle.rx_desc.proofs.Pieces.{deliver-no_room, pieces-one}
 use Rattle.rx_desc.proofs.placing.place_data.Goals as goal
 
 counted : (b : ℕ) {l k : ℕ} → l ≡ k → (l + b - 1) / b ≡ (k + b - 1) / b
 counted b e = ap (λ (n : ℕ). (n + b - 1) / b) e
 
-pub returns-then-count-available-clause-placed : goal.returns-then-count-available-clause-placed
-returns-then-count-available-clause-placed g c = ap (λ (d : Delivery). d.placed) (sym (deliver-no_room _ _ _ _ _ _ _ (counted c.args.size c.len-2.ensures) (omega arith)))
+pub returns-then-count-available-clause-done : goal.returns-then-count-available-clause-done
+returns-then-count-available-clause-done g c =
+    on_still (λ (k : List ℕ). deliver_pieces c.args.loopback c.args.tag (pieces c.args.size (text_of c.args.source)) k c.args.ring.now) _ _ _ _
+    (deliver-no_room _ _ _ _ _ _ _ (counted c.args.size c.len-2.ensures) (omega arith))
 
-pub returns-then-count-available-clause-written : goal.returns-then-count-available-clause-written
-returns-then-count-available-clause-written g c = ap (λ (d : Delivery). d.memory) (sym (deliver-no_room _ _ _ _ _ _ _ (counted c.args.size c.len-2.ensures) (omega arith)))
+pub returns-then-count-available-clause-traced : goal.returns-then-count-available-clause-traced
+returns-then-count-available-clause-traced g c = traced_none _ _ _
 
-pub returns-then-count-available-clause-ring : goal.returns-then-count-available-clause-ring
-returns-then-count-available-clause-ring g c = ap (λ (d : Delivery). d.ring) (sym (deliver-no_room _ _ _ _ _ _ _ (counted c.args.size c.len-2.ensures) (omega arith)))
-
-pub returns-then-len-size-clause-placed : goal.returns-then-len-size-clause-placed
-returns-then-len-size-clause-placed g c = c.place_one.ensures.placed ∙ ap (λ (ps : List (List ℕ)). (deliver_pieces c.args.loopback c.args.tag ps (g.M.GuestMem.bytes c.args.memory.now) c.args.ring.now).placed) (sym (pieces-one c.args.size (text_of c.args.source) c.requires.some (omega arith)))
-
-pub returns-then-len-size-clause-written : goal.returns-then-len-size-clause-written
-returns-then-len-size-clause-written g c = c.place_one.ensures.written ∙ ap (λ (ps : List (List ℕ)). (deliver_pieces c.args.loopback c.args.tag ps (g.M.GuestMem.bytes c.args.memory.now) c.args.ring.now).memory) (sym (pieces-one c.args.size (text_of c.args.source) c.requires.some (omega arith)))
-
-pub returns-then-len-size-clause-ring : goal.returns-then-len-size-clause-ring
-returns-then-len-size-clause-ring g c = c.place_one.ensures.ring ∙ ap (λ (ps : List (List ℕ)). (deliver_pieces c.args.loopback c.args.tag ps (g.M.GuestMem.bytes c.args.memory.now) c.args.ring.now).ring) (sym (pieces-one c.args.size (text_of c.args.source) c.requires.some (omega arith)))
+pub returns-then-len-size-clause-done : goal.returns-then-len-size-clause-done
+returns-then-len-size-clause-done g c =
+    let there = met c.args.trace.now.accesses c.place_one.new.trace.accesses (g.D.Dma.seen c.args.memory.now) in
+    subst (λ (ps : List (List ℕ)). Delivers (deliver_pieces c.args.loopback c.args.tag ps there c.args.ring.now) c.place_one.result (g.D.Dma.seen c.place_one.new.memory) c.place_one.new.ring)
+    (sym (pieces-one c.args.size (text_of c.args.source) c.requires.some (omega arith))) c.place_one.ensures.done

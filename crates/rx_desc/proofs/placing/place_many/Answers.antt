@@ -1,31 +1,23 @@
--- Each end of placing pieces is the definition's: a piece past the memory's end, or all writes in order.
-use Rattle.std.proofs.Common.{List, sym, ap, ◌∙◌, arith}
-use Rattle.rx_desc.specs.Receive.{Delivery, slots, cut, back_writes}
-use Rattle.rx_desc.specs.Parts.{text_of}
-use Rattle.guest_memory.specs.Memory.{Write, write_all}
-use Rattle.rx_desc.proofs.Pieces.{deliver-faulted, deliver-put}
+-- Each end of placing pieces is the definition's, on the memory with the words that were read: a piece past the memory's end, or all writes in order.
+use Rattle.std.proofs.Common.{length, sym, ◌∙◌}
+use Rattle.rx_desc.proofs.Accessed.{MetAndWrote, met_and_wrote, writes_then, writes_sized}
+use Rattle.rx_desc.proofs.Delivered.{pieces_past, pieces_written}
+use Rattle.rx_desc.proofs.placing.place_many.Given as given
 use Rattle.rx_desc.proofs.placing.place_many.Goals as goal
 
-pub returns-in_default-clause-placed : goal.returns-in_default-clause-placed
-returns-in_default-clause-placed g c = ap (λ (d : Delivery). d.placed) (sym (deliver-faulted _ _ _ _ _ _ _ (omega arith) (sym c.in_default.ensures.variant)))
+pub returns-in_default-clause-done : goal.returns-in_default-clause-done
+returns-in_default-clause-done g c = pieces_past _ _ _ _ _ _ _ _ _ (sym c.in_default.ensures.met) c.disable.ensures c.requires.room (sym c.in_default.ensures.variant)
 
-pub returns-in_default-clause-written : goal.returns-in_default-clause-written
-returns-in_default-clause-written g c = ap (λ (d : Delivery). d.memory) (sym (deliver-faulted _ _ _ _ _ _ _ (omega arith) (sym c.in_default.ensures.variant)))
+-- words were read, and all else was writing
+accessed : (g : given.Over) (c : goal.After-advance g) → MetAndWrote g.D.Dma.shared (length (g.D.Dma.seen c.args.memory.now)) c.args.trace.now.accesses c.write_back.new.trace.accesses (g.D.Dma.seen c.args.memory.now) (g.D.Dma.seen c.buffers.new.memory)
+accessed g c =
+    let n = length (g.D.Dma.seen c.args.memory.now) in
+    let size = c.in-Some.ensures.size in
+    met_and_wrote _ n _ _ _ _ _ c.in-Some.ensures.met c.in-Some.ensures.traced
+    (writes_then _ n _ _ _ (writes_sized _ _ n _ _ size c.write_pieces.ensures.writes) (writes_sized _ _ n _ _ (c.write_pieces.ensures.size ∙ size) c.write_back.ensures.writes))
 
-pub returns-in_default-clause-ring : goal.returns-in_default-clause-ring
-returns-in_default-clause-ring g c = c.disable.ensures ∙ ap (λ (d : Delivery). d.ring) (sym (deliver-faulted _ _ _ _ _ _ _ (omega arith) (sym c.in_default.ensures.variant)))
+pub returns-clause-done : goal.returns-clause-done
+returns-clause-done g c = pieces_written _ _ _ _ _ _ _ _ _ _ _ _ (accessed g c).met_is c.in-Some.ensures.value c.write_pieces.ensures.written c.write_back.ensures.written c.advance.ensures c.requires.room (sym c.in-Some.ensures.variant)
 
-pub returns-clause-placed : goal.returns-clause-placed
-returns-clause-placed g c = ap (λ (d : Delivery). d.placed) (sym (deliver-put _ _ _ _ _ _ _ (omega arith) (sym c.in-Some.ensures.variant)))
-
-pub returns-clause-written : goal.returns-clause-written
-returns-clause-written g c =
-    let backs = back_writes c.args.loopback c.args.tag (slots c.args.ring.now) (cut c.args.size c.args.count (text_of c.args.source)) in
-    let first = g.M.GuestMem.bytes c.args.memory.now in
-    c.write_back.ensures.written
-    ∙ ap (write_all backs) c.write_pieces.ensures.written
-    ∙ ap (λ (ws : List Write). write_all backs (write_all ws first)) c.in-Some.ensures.value
-    ∙ ap (λ (d : Delivery). d.memory) (sym (deliver-put _ _ _ _ _ _ _ (omega arith) (sym c.in-Some.ensures.variant)))
-
-pub returns-clause-ring : goal.returns-clause-ring
-returns-clause-ring g c = c.advance.ensures ∙ ap (λ (d : Delivery). d.ring) (sym (deliver-put _ _ _ _ _ _ _ (omega arith) (sym c.in-Some.ensures.variant)))
+pub returns-clause-traced : goal.returns-clause-traced
+returns-clause-traced g c = (accessed g c).traced

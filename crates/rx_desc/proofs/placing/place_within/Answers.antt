@@ -1,26 +1,22 @@
 -- A frame that keeps its tag and fits one buffer is placed as one piece.
-use Rattle.std.proofs.Common.{◌≡◌, ◌≤◌, length, sym, ap, ◌∙◌, true, arith}
-use Rattle.rx_desc.specs.Receive.{Delivery}
+use Rattle.std.proofs.Common.{◌≡◌, ◌≤◌, length, sym, true, arith, subst, ◌∙◌}
+use Rattle.live_memory.specs.Trace.{met}
+use Rattle.rx_desc.specs.Receive.{Delivery, Delivers}
+use Rattle.live_memory.proofs.Accesses.{traced_none}
+use Rattle.rx_desc.proofs.Delivered.{off_still}
 use Rattle.rx_desc.proofs.Pieces.{deliver-whole}
 use Rattle.rx_desc.proofs.placing.place_within.Goals as goal
 
-pub returns-clause-placed : goal.returns-clause-placed
-returns-clause-placed g c =
+pub returns-clause-done : goal.returns-clause-done
+returns-clause-done g c =
     let on : c.args.ring.now.enabled ≡ true = sym c.is_enabled.ensures.value ∙ c.if-not-is_enabled.false in
     let some : 1 ≤ length c.args.frame.now = omega (arith, c.bytes-bytes.ensures.frame) in
     let fits : length c.bytes-bytes.result.now ≤ c.args.config.now.buffer_size = omega (arith, c.if-bytes-size.false) in
-    c.place_one.ensures.placed ∙ ap (λ (d : Delivery). d.placed) (sym (deliver-whole c.args.config.now c.args.loopback c.args.frame.now _ (g.M.GuestMem.bytes c.args.memory.now) c.args.ring.now on c.if-config.false some fits c.bytes-bytes.ensures.value))
+    let whole = deliver-whole c.args.config.now c.args.loopback c.args.frame.now _ (met c.args.trace.now.accesses c.place_one.new.trace.accesses (g.D.Dma.seen c.args.memory.now)) c.args.ring.now on c.if-config.false some fits c.bytes-bytes.ensures.value in
+    subst (λ (due : Delivery). Delivers due c.place_one.result (g.D.Dma.seen c.place_one.new.memory) c.place_one.new.ring) (sym whole) c.place_one.ensures.done
 
-pub returns-clause-written : goal.returns-clause-written
-returns-clause-written g c =
-    let on : c.args.ring.now.enabled ≡ true = sym c.is_enabled.ensures.value ∙ c.if-not-is_enabled.false in
-    let some : 1 ≤ length c.args.frame.now = omega (arith, c.bytes-bytes.ensures.frame) in
-    let fits : length c.bytes-bytes.result.now ≤ c.args.config.now.buffer_size = omega (arith, c.if-bytes-size.false) in
-    c.place_one.ensures.written ∙ ap (λ (d : Delivery). d.memory) (sym (deliver-whole c.args.config.now c.args.loopback c.args.frame.now _ (g.M.GuestMem.bytes c.args.memory.now) c.args.ring.now on c.if-config.false some fits c.bytes-bytes.ensures.value))
+pub returns-then-not-is_enabled-clause-done : goal.returns-then-not-is_enabled-clause-done
+returns-then-not-is_enabled-clause-done g c = off_still _ _ _ _ _ _ (sym c.is_enabled.ensures.value ∙ c.if-not-is_enabled.true)
 
-pub returns-clause-ring : goal.returns-clause-ring
-returns-clause-ring g c =
-    let on : c.args.ring.now.enabled ≡ true = sym c.is_enabled.ensures.value ∙ c.if-not-is_enabled.false in
-    let some : 1 ≤ length c.args.frame.now = omega (arith, c.bytes-bytes.ensures.frame) in
-    let fits : length c.bytes-bytes.result.now ≤ c.args.config.now.buffer_size = omega (arith, c.if-bytes-size.false) in
-    c.place_one.ensures.ring ∙ ap (λ (d : Delivery). d.ring) (sym (deliver-whole c.args.config.now c.args.loopback c.args.frame.now _ (g.M.GuestMem.bytes c.args.memory.now) c.args.ring.now on c.if-config.false some fits c.bytes-bytes.ensures.value))
+pub returns-then-not-is_enabled-clause-traced : goal.returns-then-not-is_enabled-clause-traced
+returns-then-not-is_enabled-clause-traced g c = traced_none _ _ _

@@ -1,0 +1,87 @@
+-- A read of a function's memory by what the memory answers then.
+use Rattle.std.proofs.Common.{◌≡◌, ◌≤◌, ◌<◌, ◌+◌, ℕ, true, false, nat_le, nat_lt, arith, List, [], ◌∷◌, ◌++◌, Option, Some, None, length, take, replicate, refl, sym, ap, ◌∙◌}
+use Rattle.std.proofs.lemmas.List.{length-replicate, take_at, get_or-set_same}
+use Rattle.std.specs.Prelude.{slice_set}
+use Rattle.irq_causes.specs.Messages.{no_messages}
+use Rattle.wire_frame.specs.declared.fault.Fault.TheVariants.{NoSuchVf}
+use Rattle.wire_frame.specs.Fault.{number_of}
+use Rattle.wire_frame.specs.declared.fault.Fault.{Fault}
+use Rattle.live_memory.specs.Trace.{Access, since, ReadOnce}
+use Rattle.live_memory.specs.Traces.{Touches}
+use Rattle.vf_unit.specs.Unit.{Function, Closed, Open, size_of, has_range, bytes_at, told_of}
+use Rattle.vf_unit.proofs.Told.{told_nothing, open_told, size_told}
+use Rattle.device.specs.Events.{Event}
+use Rattle.device.specs.declared.event.Event.TheVariants.{MemRead}
+use Rattle.device.specs.declared.event.Reply.TheVariants.{Done, Value, Bytes, Idle, More, Sent, Dropped, Faulted, Refused}
+use Rattle.device.specs.declared.span.Span.{Span}
+use Rattle.device.specs.Act.{Acted, quietly, refusal, act}
+use Rattle.device.specs.Outcome.{Outcome, IsOf, bytes_in, reply_of, reply_in, Holds, HoldsIn}
+use Rattle.device.specs.World.{World, function_of, with_function, own_step, acted, refused, silently}
+use Rattle.device.specs.Live.{told_world}
+use Rattle.device.proofs.Arrivals.{raised_nothing}
+use Rattle.device.proofs.Inside.{read_over_zeros, reply_in_of}
+use Rattle.device.proofs.LiveSteps.{own_step_told}
+
+refusal_told : (before now : List Access) (f : Function) (e : Event) → ReadOnce (size_of f) (since before now) → refusal (told_of before now f) e ≡ refusal f e
+unfolding refusal
+refusal_told before now f e once = rw (open_told before now f) (rw (size_told before now f once) refl)
+
+range_told : (before now : List Access) (f : Function) (at n : ℕ) → ReadOnce (size_of f) (since before now) → has_range (told_of before now f) at n ≡ has_range f at n
+unfolding told_of
+range_told before now (Closed size) at n once = refl
+range_told before now (Open s) at n once = ap (nat_le (at + n)) (size_told before now (Open s) once)
+
+-- it is refused
+pub refused_read : (trace : List Access) (f : Function) (p at count : ℕ) (fault : Fault) → refusal f (MemRead p at count) ≡ Some fault → act (told_of trace trace f) (MemRead p at count) ≡ quietly f (Refused (number_of fault))
+unfolding act
+refused_read trace f p at count fault is = rw (told_nothing trace f) (rw is refl)
+
+-- it is done, and the function is as the read left it
+pub done_read : (before now : List Access) (f after : Function) (p at count : ℕ) → after ≡ told_of before now f → ReadOnce (size_of f) (since before now) → refusal f (MemRead p at count) ≡ None
+    → act (told_of before now f) (MemRead p at count) ≡ quietly after (Bytes (bytes_at after at (replicate count 0)))
+unfolding act
+done_read before now f after p at count is once allowed = rw (refusal_told before now f (MemRead p at count) once ∙ allowed) (ap (λ (g : Function). quietly g (Bytes (bytes_at g at (replicate count 0)))) (sym is))
+
+-- the bytes of a span, by its numbers
+pub in_span : (f : Function) (span : Span) (at count : ℕ) → span.at ≡ at → span.count ≡ count → bytes_at f at (replicate count 0) ≡ bytes_in f span
+in_span f span at count is_at is_count = λ i. bytes_at f (sym is_at i) (replicate (sym is_count i) 0)
+
+-- what was read stands in the first cells
+pub held : (before now : List Access) (f after : Function) (span : Span) (at count : ℕ) (read had rest : List ℕ) → span.at ≡ at → span.count ≡ count → after ≡ told_of before now f → ReadOnce (size_of f) (since before now) → has_range f at count ≡ true
+    → length had ≡ count → length read ≡ count → read ≡ bytes_at after at had → take span.count (read ++ rest) ≡ bytes_in after span
+held before now f after span at count read had rest is_at is_count is once within few as_many stands =
+    take_at read rest span.count (as_many ∙ sym is_count) ∙ stands
+    ∙ read_over_zeros after at had (ap (has_range after at) few ∙ ap (λ (g : Function). has_range g at count) is ∙ range_told before now f at count once ∙ within)
+    ∙ ap (λ (n : ℕ). bytes_at after at (replicate n 0)) few
+    ∙ in_span after span at count is_at is_count
+
+-- ---- of a device
+
+pub absent_step : (w : World) (p : ℕ) (e : Event) → length w.functions ≤ p → own_step w p e ≡ refused w NoSuchVf
+absent_step w p e past = let gone : nat_lt p (length w.functions) ≡ false = grind (arith, past) in rw gone refl
+
+pub there_step : (before now : Touches) (w : World) (p : ℕ) (e : Event) (trace mine : List Access) → p < length w.functions → trace ≡ [] → now ≡ before ++ (p, mine) ∷ [] → own_step (told_world before now w) p e ≡ acted w p (act (told_of trace mine (function_of p w)) e)
+there_step before now w p e trace mine below begun became =
+    let there : nat_lt p (length w.functions) ≡ true = grind (arith, below) in
+    own_step_told before now w p e trace mine begun became ∙ rw there refl
+
+function_in : (w : World) (p : ℕ) (f : Function) → p < length w.functions → function_of p (with_function w p f) ≡ f
+function_in w p f below = get_or-set_same w.functions p f (Closed 0) below
+
+-- the answer is that of the function
+pub answer_is : (w : World) (p : ℕ) (f : Function) (o : Outcome) (a : Acted) → p < length w.functions → IsOf p o → a.reply ≡ reply_of f o → a.messages ≡ 0 → silently (reply_in (with_function w p f) o) ≡ (acted w p a).answer
+answer_is w p f o a below mine reply silent = λ i. record {
+  reply = (reply_in_of (with_function w p f) p o mine ∙ ap (λ (g : Function). reply_of g o) (function_in w p f below) ∙ sym reply) i;
+  raised = (sym (raised_nothing p) ∙ ap (slice_set no_messages p) (sym silent)) i;
+}
+
+pub holds_in : (cells : List ℕ) (w : World) (p : ℕ) (f : Function) (o : Outcome) → p < length w.functions → IsOf p o → Holds cells f o → HoldsIn cells (with_function w p f) o
+holds_in cells w p f (Bytes span) below mine held = held ∙ ap (λ (g : Function). bytes_in g span) (sym (ap (λ (k : ℕ). function_of k (with_function w p f)) mine ∙ function_in w p f below))
+holds_in cells w p f Done below mine held = tt
+holds_in cells w p f (Value x) below mine held = tt
+holds_in cells w p f Idle below mine held = tt
+holds_in cells w p f More below mine held = tt
+holds_in cells w p f Sent below mine held = tt
+holds_in cells w p f Dropped below mine held = tt
+holds_in cells w p f Faulted below mine held = tt
+holds_in cells w p f (Refused fault) below mine held = tt

@@ -1,0 +1,47 @@
+-- What was read is what the memory answered, and the first cells hold it.
+use Rattle.std.proofs.Common.{rules, ◌≡◌, ◌≤◌, ℕ, true, ◌++◌, length, take, sym, ap, ◌∙◌}
+use Rattle.std.proofs.lemmas.List.{length-take-le}
+use Rattle.live_memory.proofs.Accesses.{traced_none}
+use Rattle.vf_unit.specs.Unit.{size_of, has_range}
+use Rattle.vf_unit.proofs.Told.{size_told}
+use Rattle.device.specs.declared.event.Event.TheVariants.{MemRead}
+use Rattle.device.specs.declared.event.Reply.TheVariants.{Bytes}
+use Rattle.device.specs.Act.{Acted, refusal}
+use Rattle.device.proofs.Loads.{refused_read, done_read, in_span, held}
+use Rattle.device.proofs.act.load.Goals as goal
+
+pub returns-in-Some-clause-function : goal.returns-in-Some-clause-function
+returns-in-Some-clause-function g c =
+    let why = ap (λ (k : ℕ). refusal c.args.unit.now (MemRead c.args.pool c.args.at k)) (sym c.from.ensures) ∙ c.in-Some.ensures.refusal c.args.pool in
+    sym (ap (λ (a : Acted). a.function) (refused_read c.args.trace.now.accesses c.args.unit.now c.args.pool c.args.at c.args.count c.in-Some.fault why))
+
+pub returns-in-Some-clause-reply : goal.returns-in-Some-clause-reply
+returns-in-Some-clause-reply g c =
+    let why = ap (λ (k : ℕ). refusal c.args.unit.now (MemRead c.args.pool c.args.at k)) (sym c.from.ensures) ∙ c.in-Some.ensures.refusal c.args.pool in
+    ap (λ (a : Acted). a.reply) (refused_read c.args.trace.now.accesses c.args.unit.now c.args.pool c.args.at c.args.count c.in-Some.fault why)
+
+pub returns-in-Some-clause-traced : goal.returns-in-Some-clause-traced
+returns-in-Some-clause-traced g c = traced_none _ _ _
+
+pub returns-in-None-clause-function : goal.returns-in-None-clause-function
+returns-in-None-clause-function g c =
+    let why = ap (λ (k : ℕ). refusal c.args.unit.now (MemRead c.args.pool c.args.at k)) (sym c.from.ensures) ∙ c.in-None.ensures.refusal c.args.pool in
+    sym (ap (λ (a : Acted). a.function) (done_read c.args.trace.now.accesses c.mem_load.new.trace.accesses c.args.unit.now c.mem_load.new.self c.args.pool c.args.at c.args.count c.mem_load.ensures.function c.mem_load.ensures.traced.once why))
+
+pub returns-in-None-clause-reply : goal.returns-in-None-clause-reply
+returns-in-None-clause-reply g c =
+    let why = ap (λ (k : ℕ). refusal c.args.unit.now (MemRead c.args.pool c.args.at k)) (sym c.from.ensures) ∙ c.in-None.ensures.refusal c.args.pool in
+    ap (λ (a : Acted). a.reply) (done_read c.args.trace.now.accesses c.mem_load.new.trace.accesses c.args.unit.now c.mem_load.new.self c.args.pool c.args.at c.args.count c.mem_load.ensures.function c.mem_load.ensures.traced.once why)
+    ∙ ap Bytes (in_span c.mem_load.new.self c.new.result c.args.at c.args.count c.new.ensures.at c.new.ensures.count)
+
+pub returns-in-None-clause-bytes : goal.returns-in-None-clause-bytes
+returns-in-None-clause-bytes g c =
+    let n = c.from-in-None.result in
+    let had = take n c.args.out.now in
+    let few : n ≤ length c.args.out.now = search rules in
+    let as_many : length had ≡ c.args.count = length-take-le n c.args.out.now few ∙ c.from-in-None.ensures in
+    let within : has_range c.args.unit.now c.args.at c.args.count ≡ true = ap (has_range c.args.unit.now c.args.at) (sym c.from.ensures) ∙ c.in-None.ensures.inside in
+    held c.args.trace.now.accesses c.mem_load.new.trace.accesses c.args.unit.now c.mem_load.new.self c.new.result c.args.at c.args.count c.mem_load.new.out had _ c.new.ensures.at c.new.ensures.count c.mem_load.ensures.function c.mem_load.ensures.traced.once within as_many (c.mem_load.auto.out ∙ as_many) c.mem_load.ensures.bytes
+
+pub returns-in-None-clause-size : goal.returns-in-None-clause-size
+returns-in-None-clause-size g c = ap size_of c.mem_load.ensures.function ∙ size_told c.args.trace.now.accesses c.mem_load.new.trace.accesses c.args.unit.now c.mem_load.ensures.traced.once

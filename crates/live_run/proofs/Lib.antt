@@ -1,0 +1,4 @@
+mod More
+mod Plain
+mod Runs
+mod Writes

@@ -1,0 +1,11 @@
+//! Runs of a device while guests write their memories.
+//!
+//! [`run_live`] gives a device events in turn, as `Device::run` does, and asks nothing of its memories: what a read gives is whatever
+//! the guest wrote by then. To each virtual function the run is as if it were alone, given its own events, its own settings, the
+//! frames that its filters accept, and what its own memory answered. [`laws`] says so of every run.
+#![tactic(auto)]
+
+pub mod laws;
+mod run;
+
+pub use run::{LiveRun, run_live};

@@ -1,0 +1,4 @@
+mod LaidLemmas
+mod MapLemmas
+mod MappedLemmas
+mod WriteLemmas

@@ -1,0 +1,4 @@
+pub mod Regions
+pub mod Mapping
+pub mod Learns
+pub mod Whole

@@ -1,0 +1,192 @@
+//! The memory, and what maps its regions.
+ghost use Rattle.std.specs.Prelude.{◌≡◌, ◌↔◌, ◌+◌, ◌≤◌, true, false, [], length, replicate, map, Some, None, IfOk, IfErr, OnOk, MatchOption};
+ghost use Rattle.std.proofs.lemmas.Bool.{true≢false};
+ghost use Rattle.guest_memory.specs.Memory.{overwrite, is_memory_size};
+ghost use Rattle.live_memory.specs.Trace.{Read, Wrote, noted};
+ghost use Rattle.mapped_memory.specs.Regions.{bytes_at, written, cleared};
+ghost use Rattle.mapped_memory.specs.Whole.{bytes_whole};
+ghost use Rattle.mapped_memory.specs.Mapping.{AreMapped, refusal, with_part, bytes_from, parts_without};
+
+use crate::known::Known;
+use crate::learn::Learn;
+use crate::map_error::{MapError, Refused};
+use crate::region::Region;
+use crate::scans::{clear_all, is_any_met, place_of, read_all, write_all};
+use guest_memory::is_memory_size;
+use live_memory::{Dma, Step, Trace};
+use std::alloc::Global;
+use std::marker::Model;
+use wire_frame::Fault;
+
+/// How many regions may be mapped.
+pub const MOST_REGIONS: usize = 64;
+
+/// A memory of 4096 to 16,777,216 bytes, a multiple of 128, of which up to 64 regions of bytes are mapped. It reads as zero where
+/// none is. No two regions have an address in common.
+///
+/// In contracts it is its regions, in the order in which they were mapped, and the bytes as a device knows them: zeros at first, and
+/// then what each access read or wrote, wherever it was. To map a region or to unmap it changes nothing of what a device knows.
+///
+/// An access looks at each region once, so it costs a few steps for each beside its bytes.
+#[derive(Drop)]
+pub struct LiveMem<'a> {
+    size: u64,
+    regions: Vec<Region<'a>>,
+    known: Known,
+}
+
+impl<'a> Model for LiveMem<'a> {
+    ghost use Rattle.std.specs.Prelude.{◌≡◌, ◌≤◌, length, vec_capacity};
+    ghost use Rattle.mapped_memory.specs.Regions.{Regions};
+
+    ghost Value = { Regions };
+
+    ghost use Rattle.mapped_memory.specs.Mapping.{AreMapped};
+
+    ghost view = { λ m. record { parts = m.regions.items; seen = m.known.bytes } };
+
+    ghost invariant = { λ m. (m.size ≡ length m.known.bytes) × (m.size ≤ 16777216)
+        × (length m.regions.items ≤ 64) × (64 ≤ vec_capacity m.regions)
+        × AreMapped m.size m.regions.items };
+}
+
+impl<'a> LiveMem<'a> {
+    /// A memory of `size` bytes with no region, and room for 64. A size outside the limits is [`Fault::BadMake`]; [`Fault::NoMemory`]
+    /// comes only where the host refused the room. No later call takes memory.
+    #[tactic(auto, unfolding(crate::specs::Mapping::AreMapped))]
+    pub fn new(alloc: Global, size: u64) -> Result<LiveMem<'a>, Fault>
+        ensures ok { IfOk result (λ m. m ≡ record { parts = []; seen = replicate size 0 }) }
+        ensures bad_make { (result ≡ Err Fault.BadMake) ↔ (is_memory_size size ≡ false) }
+        ensures no_memory { IfErr result (λ e. is_memory_size size ≡ true → e ≡ Fault.NoMemory) }
+    {
+        if !is_memory_size(size) {
+            return Err(Fault::BadMake);
+        }
+        let regions = Vec::with_capacity(alloc, MOST_REGIONS)?;
+        Ok(LiveMem {
+            size,
+            regions,
+            known: Learn::Fresh(size).known(),
+        })
+    }
+
+    /// How many regions are mapped.
+    pub fn regions(&self) -> usize
+        ensures count { result ≡ length self.now.parts }
+        ensures few { result ≤ 64 }
+        ensures mapped { AreMapped (length self.now.seen) self.now.parts }
+    {
+        self.regions.len()
+    }
+
+    /// Whether `count` bytes can be mapped from address `at` on, or the first reason why they can't.
+    pub fn can_map(&self, at: u64, count: usize) -> Result<(), MapError>
+        ensures ok { OnOk result (refusal self.now at count ≡ None) }
+        ensures err { IfErr result (λ why. refusal self.now at count ≡ Some why) }
+    {
+        if count == 0 {
+            return Err(MapError::NoBytes);
+        }
+        if at > self.size || count as u64 > self.size - at {
+            return Err(MapError::PastEnd);
+        }
+        if is_any_met(&self.regions, at as usize, count) {
+            return Err(MapError::Overlaps);
+        }
+        if self.regions.len() >= MOST_REGIONS {
+            return Err(MapError::TooMany);
+        }
+        Ok(())
+    }
+
+    /// Maps bytes from address `at` on, which keep their values. A device's writes to a read-only region are dropped. Where they can't
+    /// be mapped, as [`can_map`](LiveMem::can_map) tells, nothing changes and the error has the bytes.
+    pub fn map(
+        &mut self,
+        at: u64,
+        cells: &'a mut [u8],
+        is_read_only: bool,
+    ) -> Result<(), Refused<'a>>
+        ensures can { OnOk result (refusal self.old at (length cells.old) ≡ None) }
+        ensures mapped { OnOk result (self.new
+            ≡ with_part self.old (record { at = at; bytes = cells.old; is_read_only = is_read_only })) }
+        ensures why { IfErr result (λ refused. refusal self.old at (length cells.old) ≡ Some refused.why) }
+        ensures given_back { IfErr result (λ refused. refused.cells.now ≡ cells.old) }
+        ensures unchanged { IfErr result (λ refused. self.new ≡ self.old) }
+    {
+        if let Err(why) = self.can_map(at, cells.len()) {
+            return Err(Refused { why, cells });
+        }
+        self.regions
+            .push_reserved(Region::new(at as usize, cells, is_read_only));
+        Ok(())
+    }
+
+    /// Unmaps the region that begins at address `at`, and gives its bytes back, with what was written to them. `None`, and nothing
+    /// changes, where none begins there.
+    #[tactic(auto, using(crate::proofs::MapLemmas::bytes_found, crate::proofs::MapLemmas::others_found, crate::proofs::MapLemmas::bytes_missed, crate::proofs::MapLemmas::others_missed))]
+    pub fn unmap(&mut self, at: u64) -> Option<&'a mut [u8]>
+        ensures bytes { MatchOption result (bytes_from at self.old.parts ≡ None)
+            (λ cells. bytes_from at self.old.parts ≡ Some cells.now) }
+        ensures others { self.new ≡ record self.old { parts = parts_without at self.old.parts } }
+    {
+        let Some(place) = place_of(&self.regions, at) else {
+            return None;
+        };
+        Some(self.regions.remove(place).into_cells())
+    }
+}
+
+// What it answers is what the regions have. The contracts say of each access what it leaves in the regions, beside what the interface
+// says.
+impl Dma for LiveMem<'_> {
+    ghost shared = { true };
+
+    ghost seen = { λ m. m.seen };
+
+    ghost answer = { λ m at count. bytes_at m.parts at count };
+
+    ghost whole = { λ m at count fits. bytes_whole m.parts at count };
+
+    ghost steady = { λ m at count not. absurd (true≢false not) };
+
+    fn extent(&self) -> u64 {
+        self.size
+    }
+
+    fn load(&mut self, trace: &mut Trace, addr: u64, out: &mut [u8])
+        requires { addr + length out.old ≤ length self.old.seen }
+        ensures out { out.new ≡ bytes_at self.old.parts addr (length out.old) }
+        ensures seen { self.new.seen
+            ≡ overwrite addr (bytes_at self.old.parts addr (length out.old)) self.old.seen }
+        ensures size { length self.new.seen ≡ length self.old.seen }
+        ensures traced { trace.new.accesses
+            ≡ noted true trace.old.accesses (Read addr (bytes_at self.old.parts addr (length out.old))) }
+        ensures parts { self.new.parts ≡ self.old.parts }
+    {
+        read_all(&self.regions, addr as usize, out);
+        self.known = Learn::Over(&self.known, addr, out).known();
+        *trace = Step::Reads(trace, addr, out).trace();
+    }
+
+    fn store(&mut self, trace: &mut Trace, addr: u64, source: &[u8])
+        requires { addr + length source.now ≤ length self.old.seen }
+        ensures seen { self.new.seen ≡ overwrite addr source.now self.old.seen }
+        ensures size { length self.new.seen ≡ length self.old.seen }
+        ensures traced { trace.new.accesses ≡ noted true trace.old.accesses (Wrote addr source.now) }
+        ensures parts { self.new.parts ≡ map (written addr source.now) self.old.parts }
+    {
+        write_all(&mut self.regions, addr as usize, source);
+        self.known = Learn::Over(&self.known, addr, source).known();
+        *trace = Step::Writes(trace, addr, source).trace();
+    }
+
+    fn erase(&mut self)
+        ensures seen { self.new.seen ≡ replicate (length self.old.seen) 0 }
+        ensures size { length self.new.seen ≡ length self.old.seen }
+        ensures parts { self.new.parts ≡ map cleared self.old.parts }
+    {
+        clear_all(&mut self.regions);
+        self.known = Learn::Fresh(self.size).known();
+    }
+}

@@ -1,2 +1,0 @@
-mod Done
-pub mod Kept

@@ -1,3 +1,0 @@
-pub mod Calm
-pub mod Steps
-pub mod Stored

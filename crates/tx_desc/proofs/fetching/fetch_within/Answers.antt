@@ -1,0 +1,93 @@
+-- The descriptor that was read is the one that stands there in the memory that was met.
+use Rattle.std.proofs.Common.{ℕ, ◌+◌, ◌≤◌, length, refl, sym, ap, ◌∙◌, arith}
+use Rattle.live_memory.proofs.Accesses.{traced_none}
+use Rattle.tx_desc.specs.declared.outcome.Progress.{Progress}
+use Rattle.tx_desc.specs.Lent.{fetched_in}
+use Rattle.tx_desc.proofs.Taking.{fetches_as, due_on, due_none, at_place, met_after, traced_after}
+use Rattle.tx_desc.proofs.fetching.fetch_within.Goals as goal
+
+pub returns-in_default-clause-fetches : goal.returns-in_default-clause-fetches
+returns-in_default-clause-fetches g c =
+    fetches_as _ _ _ _ _ _ _ _ (due_none c.args.limit c.args.rule c.args.trace.now.accesses _ c.args.ring.now c.args.pending.now c.in_default.ensures.value) (record {
+      outcome = ap (λ (p : Progress). fetched_in p c.args.frame.now) c.unreported.ensures.outcome;
+      frame = refl;
+      reported = c.unreported.ensures.reported;
+      memory = refl;
+      ring = refl;
+      pending = refl;
+    })
+
+pub returns-in_default-clause-traced : goal.returns-in_default-clause-traced
+returns-in_default-clause-traced g c = traced_none _ _ _
+
+place_there : (at n base : ℕ) → at + 16 ≤ base → base ≤ n → at + 16 ≤ n
+place_there at n base within inside = omega (arith, within, inside)
+
+pub take_data-requires-clause-stands : goal.take_data-requires-clause-stands
+take_data-requires-clause-stands g c =
+    let r = c.read_descriptor-descriptor in
+    let place = place_there c.in-Some.at (length (g.D.Dma.seen c.args.memory.now)) _ c.in-Some.ensures.inside (c.requires.inside c.in-Some.ensures.on) in
+    let head = r.ensures.head in
+    let bytes = c.in-Data.ensures.inside refl in
+    record {
+      holds = r.ensures.holds;
+      place = omega (arith, place, head.size, r.ensures.at);
+      inside = omega (arith, bytes, c.requires.known, head.size);
+      small = omega (arith, c.ranges.memory_size.fits, c.requires.known, head.size);
+    }
+
+pub returns-in-Context-clause-fetches : goal.returns-in-Context-clause-fetches
+returns-in-Context-clause-fetches g c =
+    let r = c.read_descriptor-descriptor in
+    let place = place_there c.in-Some.at (length (g.D.Dma.seen c.args.memory.now)) _ c.in-Some.ensures.inside (c.requires.inside c.in-Some.ensures.on) in
+    let head = r.ensures.head in
+    fetches_as _ _ _ _ _ _ _ _ (due_on c.args.limit c.args.rule _ _ c.args.ring.now c.args.pending.now c.in-Some.at c.args.memory_size r.result _ (sym head.met) c.in-Some.ensures.value r.ensures.at r.ensures.holds r.ensures.buffer r.ensures.word (omega (arith, place, head.size, r.ensures.at)) (head.size ∙ sym c.requires.known) c.in-Context.ensures.value) (record {
+      outcome = ap (λ (p : Progress). fetched_in p c.args.frame.now) c.unreported-in-Context.ensures.outcome;
+      frame = refl;
+      reported = c.unreported-in-Context.ensures.reported;
+      memory = refl;
+      ring = c.advance.ensures;
+      pending = refl;
+    })
+
+pub returns-in-Unusable-clause-fetches : goal.returns-in-Unusable-clause-fetches
+returns-in-Unusable-clause-fetches g c =
+    let r = c.read_descriptor-descriptor in
+    let place = place_there c.in-Some.at (length (g.D.Dma.seen c.args.memory.now)) _ c.in-Some.ensures.inside (c.requires.inside c.in-Some.ensures.on) in
+    let head = r.ensures.head in
+    fetches_as _ _ _ _ _ _ _ _ (due_on c.args.limit c.args.rule _ _ c.args.ring.now c.args.pending.now c.in-Some.at c.args.memory_size r.result _ (sym head.met) c.in-Some.ensures.value r.ensures.at r.ensures.holds r.ensures.buffer r.ensures.word (omega (arith, place, head.size, r.ensures.at)) (head.size ∙ sym c.requires.known) c.in-Unusable.ensures.value) (record {
+      outcome = ap (λ (p : Progress). fetched_in p c.args.frame.now) c.unreported-in-Unusable.ensures.outcome;
+      frame = refl;
+      reported = c.unreported-in-Unusable.ensures.reported;
+      memory = refl;
+      ring = c.disable.ensures;
+      pending = c.clear.ensures;
+    })
+
+pub returns-in-Data-clause-fetches : goal.returns-in-Data-clause-fetches
+returns-in-Data-clause-fetches g c =
+    let r = c.read_descriptor-descriptor in
+    let place = place_there c.in-Some.at (length (g.D.Dma.seen c.args.memory.now)) _ c.in-Some.ensures.inside (c.requires.inside c.in-Some.ensures.on) in
+    let head = r.ensures.head in
+    let apart = at_place _ _ _ _ _ _ r.ensures.at c.take_data.ensures.apart in
+    fetches_as _ _ _ _ _ _ _ _ (due_on c.args.limit c.args.rule _ _ c.args.ring.now c.args.pending.now c.in-Some.at c.args.memory_size r.result _ (met_after _ _ _ _ _ _ _ head apart) c.in-Some.ensures.value r.ensures.at (r.ensures.holds ∙ sym c.take_data.ensures.apart.kept) r.ensures.buffer r.ensures.word (omega (arith, place, head.size, r.ensures.at, apart.size)) (apart.size ∙ head.size ∙ sym c.requires.known) c.in-Data.ensures.value) c.take_data.ensures.fetches
+
+pub returns-in-Context-clause-traced : goal.returns-in-Context-clause-traced
+returns-in-Context-clause-traced g c = c.read_descriptor-descriptor.ensures.head.traced
+
+pub returns-in-Context-clause-size : goal.returns-in-Context-clause-size
+returns-in-Context-clause-size g c = c.read_descriptor-descriptor.ensures.head.size
+
+pub returns-in-Unusable-clause-traced : goal.returns-in-Unusable-clause-traced
+returns-in-Unusable-clause-traced g c = c.read_descriptor-descriptor.ensures.head.traced
+
+pub returns-in-Unusable-clause-size : goal.returns-in-Unusable-clause-size
+returns-in-Unusable-clause-size g c = c.read_descriptor-descriptor.ensures.head.size
+
+pub returns-in-Data-clause-traced : goal.returns-in-Data-clause-traced
+returns-in-Data-clause-traced g c =
+    let r = c.read_descriptor-descriptor in
+    traced_after _ _ _ _ _ _ _ r.ensures.head (at_place _ _ _ _ _ _ r.ensures.at c.take_data.ensures.apart)
+
+pub returns-in-Data-clause-size : goal.returns-in-Data-clause-size
+returns-in-Data-clause-size g c = c.take_data.ensures.size ∙ c.read_descriptor-descriptor.ensures.head.size

@@ -1,5 +1,5 @@
 -- What came of an event, in few words: bytes that were read stand in the memory still, and the outcome says where.
-use Rattle.std.specs.Prelude.{◌≡◌, ℕ, Bool, true, false, List, replicate, take, Result, Ok, Err, Option, Some, None, if◌then◌else◌}
+use Rattle.std.specs.Prelude.{◌≡◌, ℕ, Bool, nat_le, true, false, List, replicate, take, Result, Ok, Err, Option, Some, None, if◌then◌else◌}
 use Rattle.wire_frame.specs.Fault.{number_of}
 use Rattle.wire_frame.specs.declared.fault.Fault.{Fault}
 use Rattle.vf_unit.specs.Unit.{Function, bytes_at}
@@ -58,6 +58,21 @@ Holds cells f _ = Unit
 abbrev pub HoldsIn : List ℕ → World → Outcome → Type 0
 HoldsIn cells w (Bytes span) = take span.count cells ≡ bytes_in (function_of span.pool w) span
 HoldsIn cells w _ = Unit
+
+-- how many bytes an event reads at most: one that asks for more than 2048 is refused, and reads none
+abbrev pub bytes_asked : Event → ℕ
+bytes_asked (MemRead p at count) = if nat_le count 2048 then count else 0
+bytes_asked _ = 0
+
+-- how many bytes were read
+abbrev pub bytes_told : Outcome → ℕ
+bytes_told (Bytes span) = span.count
+bytes_told _ = 0
+
+-- bytes that it names are so many
+abbrev pub HasCount : ℕ → Outcome → Type 0
+HasCount count (Bytes span) = span.count ≡ count
+HasCount count _ = Unit
 
 -- where the event is a read, the first of these cells hold the bytes that were read
 abbrev pub HoldsRead : List ℕ → Event → World → Outcome → Type 0

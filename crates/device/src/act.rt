@@ -2,12 +2,12 @@
 //!
 //! Each refusal is decided here, but for a function that is not there. The first that fits of a function that is closed, one
 //! that is open already, a bad offset, an access that is too long and one past the end of the memory is told.
-ghost use Rattle.std.specs.Prelude.{◌≡◌, ◌+◌, ◌≤◌, ℕ, length, replicate, nat_lt, true, IfNone, OnErr, if◌then◌else◌};
+ghost use Rattle.std.specs.Prelude.{◌≡◌, ◌+◌, ◌≤◌, ℕ, drop, length, replicate, nat_lt, true, IfNone, OnErr, if◌then◌else◌};
 ghost use Rattle.live_memory.specs.Trace.{IsTraced};
 ghost use Rattle.vf_unit.specs.Unit.{size_of, is_open, has_range, bytes_at, told_of};
 ghost use Rattle.device.specs.declared.event.Event.{Event};
 ghost use Rattle.device.specs.Act.{is_bad_offset, refusal, act};
-ghost use Rattle.device.specs.Outcome.{IsOf, Holds, issued, reply_of, done_or_refused, value_or_refused, bytes_or_refused};
+ghost use Rattle.device.specs.Outcome.{IsOf, Holds, bytes_asked, bytes_told, HasCount, issued, reply_of, done_or_refused, value_or_refused, bytes_or_refused};
 ghost use Rattle.device.specs.Request.{event_of};
 
 use crate::bytes::{MOST_BYTES, MemSlice};
@@ -35,7 +35,7 @@ pub fn is_bad_offset(space: u32, offset: u32) -> bool
 
 // Why an event is refused for this fault: the fault itself, where the function is open.
 #[inline]
-fn unless_closed<D: Dma>(unit: &VfUnit<D>, fault: Fault) -> Fault
+fn unless_closed<D: Dma<K>, K>(unit: &VfUnit<D, K>, fault: Fault) -> Fault
     ensures { result ≡ (if is_open unit.now then fault else Fault.NotOpen) }
 {
     if unit.is_open() {
@@ -47,7 +47,7 @@ fn unless_closed<D: Dma>(unit: &VfUnit<D>, fault: Fault) -> Fault
 
 // Opens a function.
 #[tactic(auto, unfolding(crate::specs::Act::act, crate::specs::Act::refusal))]
-pub(crate) fn open<D: Dma>(unit: &mut VfUnit<D>) -> Result<(), Fault>
+pub(crate) fn open<D: Dma<K>, K>(unit: &mut VfUnit<D, K>) -> Result<(), Fault>
     ensures function { (p : ℕ) → unit.new ≡ (act unit.old (Event.Open p)).function }
     ensures reply { (p : ℕ) → (act unit.old (Event.Open p)).reply ≡ done_or_refused result }
     ensures silent { (p : ℕ) → (act unit.old (Event.Open p)).messages ≡ 0 }
@@ -62,7 +62,7 @@ pub(crate) fn open<D: Dma>(unit: &mut VfUnit<D>) -> Result<(), Fault>
 
 // Closes a function.
 #[tactic(auto, unfolding(crate::specs::Act::act, crate::specs::Act::refusal))]
-pub(crate) fn end<D: Dma>(unit: &mut VfUnit<D>) -> Result<(), Fault>
+pub(crate) fn end<D: Dma<K>, K>(unit: &mut VfUnit<D, K>) -> Result<(), Fault>
     ensures function { (p : ℕ) → unit.new ≡ (act unit.old (Event.End p)).function }
     ensures reply { (p : ℕ) → (act unit.old (Event.End p)).reply ≡ done_or_refused result }
     ensures silent { (p : ℕ) → (act unit.old (Event.End p)).messages ≡ 0 }
@@ -77,7 +77,7 @@ pub(crate) fn end<D: Dma>(unit: &mut VfUnit<D>) -> Result<(), Fault>
 
 // Resets a function: a function-level reset (SR-IOV 1.1, section 2.2.2).
 #[tactic(auto, unfolding(crate::specs::Act::act, crate::specs::Act::refusal))]
-pub(crate) fn flr<D: Dma>(unit: &mut VfUnit<D>) -> Result<(), Fault>
+pub(crate) fn flr<D: Dma<K>, K>(unit: &mut VfUnit<D, K>) -> Result<(), Fault>
     ensures function { (p : ℕ) → unit.new ≡ (act unit.old (Event.Flr p)).function }
     ensures reply { (p : ℕ) → (act unit.old (Event.Flr p)).reply ≡ done_or_refused result }
     ensures silent { (p : ℕ) → (act unit.old (Event.Flr p)).messages ≡ 0 }
@@ -93,7 +93,7 @@ pub(crate) fn flr<D: Dma>(unit: &mut VfUnit<D>) -> Result<(), Fault>
 // Reads a register.
 #[inline]
 #[tactic(auto, unfolding(crate::specs::Act::act, crate::specs::Act::refusal, vf_unit::specs::Unit::read_of, vf_unit::specs::Unit::after_read_of))]
-pub(crate) fn vf_read<D: Dma>(unit: &mut VfUnit<D>, offset: u32) -> Result<u32, Fault>
+pub(crate) fn vf_read<D: Dma<K>, K>(unit: &mut VfUnit<D, K>, offset: u32) -> Result<u32, Fault>
     ensures function { (p : ℕ) → unit.new ≡ (act unit.old (Event.VfRead p offset)).function }
     ensures reply { (p : ℕ)
         → (act unit.old (Event.VfRead p offset)).reply ≡ value_or_refused result }
@@ -112,8 +112,8 @@ pub(crate) fn vf_read<D: Dma>(unit: &mut VfUnit<D>, offset: u32) -> Result<u32, 
 // Writes a register; the vectors whose messages this issues.
 #[inline]
 #[tactic(auto, unfolding(crate::specs::Act::act, crate::specs::Act::refusal))]
-pub(crate) fn vf_write<D: Dma>(
-    unit: &mut VfUnit<D>,
+pub(crate) fn vf_write<D: Dma<K>, K>(
+    unit: &mut VfUnit<D, K>,
     offset: u32,
     value: u32,
 ) -> Result<Vectors, Fault>
@@ -136,7 +136,7 @@ pub(crate) fn vf_write<D: Dma>(
 // Why so many bytes of the memory from an address on are not read, if they are not.
 #[inline]
 #[tactic(auto, unfolding(crate::specs::Act::refusal))]
-fn read_refusal<D: Dma>(unit: &VfUnit<D>, at: u64, count: usize) -> Option<Fault>
+fn read_refusal<D: Dma<K>, K>(unit: &VfUnit<D, K>, at: u64, count: usize) -> Option<Fault>
     ensures refusal { (p : ℕ) → refusal unit.now (Event.MemRead p at count) ≡ result }
     ensures short { IfNone result (count ≤ 2048) }
     ensures inside { IfNone result (has_range unit.now at count ≡ true) }
@@ -163,7 +163,7 @@ fn passes_end(size: u64, at: u64, count: u64) -> bool
 // Finds the bytes of the memory that an event reads.
 #[inline]
 #[tactic(auto, unfolding(crate::specs::Act::act))]
-pub(crate) fn find<D: Dma>(unit: &VfUnit<D>, pool: u8, at: u64, count: u16) -> Outcome
+pub(crate) fn find<D: Dma<K>, K>(unit: &VfUnit<D, K>, pool: u8, at: u64, count: u16) -> Outcome
     ensures function { (act unit.now (Event.MemRead pool at count)).function ≡ unit.now }
     ensures reply { (act unit.now (Event.MemRead pool at count)).reply ≡ reply_of unit.now result }
     ensures silent { (act unit.now (Event.MemRead pool at count)).messages ≡ 0 }
@@ -199,14 +199,15 @@ pub(crate) fn mem_read<M: GuestMem>(unit: &VfUnit<M>, at: u64, out: &mut [u8]) -
 // Reads bytes of the memory into the first cells of `out`, as many as the event asks for.
 #[inline]
 #[tactic(auto, unfolding(crate::specs::Act::act, vf_unit::specs::Unit::told_of))]
-pub(crate) fn load<D: Dma>(
-    unit: &mut VfUnit<D>,
+pub(crate) fn load<D: Dma<K>, K>(
+    unit: &mut VfUnit<D, K>,
     trace: &mut Trace,
     pool: u8,
     at: u64,
     count: u16,
-    out: &mut [u8; MOST_BYTES],
+    out: &mut [u8],
 ) -> Outcome
+    requires { bytes_asked (Event.MemRead pool at count) ≤ length out.old }
     ensures function { unit.new
         ≡ (act (told_of trace.old.accesses trace.new.accesses unit.old)
         (Event.MemRead pool at count)).function }
@@ -215,7 +216,9 @@ pub(crate) fn load<D: Dma>(
     ensures silent { (act (told_of trace.old.accesses trace.new.accesses unit.old)
         (Event.MemRead pool at count)).messages ≡ 0 }
     ensures own { IsOf pool result }
+    ensures count { HasCount count result }
     ensures bytes { Holds out.new unit.new result }
+    ensures rest { drop (bytes_told result) out.new ≡ drop (bytes_told result) out.old }
     ensures size { size_of unit.new ≡ size_of unit.old }
     ensures traced { IsTraced D.shared
         (size_of unit.old) trace.old.accesses trace.new.accesses }
@@ -232,8 +235,8 @@ pub(crate) fn load<D: Dma>(
 // Writes bytes of the memory.
 #[inline]
 #[tactic(auto, unfolding(crate::specs::Act::act, crate::specs::Act::refusal, vf_unit::specs::Unit::memory_written))]
-pub(crate) fn mem_write<D: Dma>(
-    unit: &mut VfUnit<D>,
+pub(crate) fn mem_write<D: Dma<K>, K>(
+    unit: &mut VfUnit<D, K>,
     at: u64,
     written: MemSlice<'_>,
 ) -> Result<(), Fault>
@@ -267,7 +270,7 @@ pub fn read_or_zero<M: GuestMem>(unit: &VfUnit<M>, at: u64, out: &mut [u8])
 
 /// What an event of its own, but for a service, does to a function. Any other event does nothing to it.
 #[tactic(auto, unfolding(crate::specs::Act::act, crate::specs::Act::refusal))]
-pub fn act<D: Dma>(unit: &mut VfUnit<D>, request: Request<'_>) -> Acted
+pub fn act<D: Dma<K>, K>(unit: &mut VfUnit<D, K>, request: Request<'_>) -> Acted
     ensures function { unit.new ≡ (act unit.old (event_of request.entry)).function }
     ensures reply { reply_of unit.new result.outcome
         ≡ (act unit.old (event_of request.entry)).reply }

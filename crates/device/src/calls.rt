@@ -1,5 +1,5 @@
 //! The calls by name, one for each kind of event, for who embeds a device.
-ghost use Rattle.std.specs.Prelude.{◌≡◌, ◌<◌, ℕ, List, length, replicate, slice_set, Some, None, OnErr, ◌≢◌, if◌then◌else◌};
+ghost use Rattle.std.specs.Prelude.{◌≡◌, ◌<◌, ◌≤◌, ℕ, List, drop, length, replicate, slice_set, Some, None, OnErr, ◌≢◌, if◌then◌else◌};
 ghost use Rattle.irq_causes.specs.Messages.{no_messages};
 ghost use Rattle.live_memory.specs.Traces.{trace_of};
 ghost use Rattle.vf_unit.specs.Unit.{bytes_at};
@@ -10,11 +10,11 @@ ghost use Rattle.device.specs.World.{silently, function_of, with_function, step,
 ghost use Rattle.device.specs.Live.{told_world, told_service, TakesLive, AreTraced};
 ghost use Rattle.device.specs.Replies.{is_sent};
 ghost use Rattle.device.specs.Takes.{Takes};
-ghost use Rattle.device.specs.Outcome.{reply_by, done_or_refused, value_or_refused, bytes_or_refused, messages_or_refused, reply_in, HoldsIn};
+ghost use Rattle.device.specs.Outcome.{reply_by, done_or_refused, value_or_refused, bytes_or_refused, messages_or_refused, reply_in, bytes_asked, bytes_told, HasCount, HoldsIn};
 
 use crate::act;
 use crate::act::{PF_SPACE, is_bad_offset};
-use crate::bytes::{MOST_BYTES, MemSlice};
+use crate::bytes::MemSlice;
 use crate::device::Device;
 use crate::outcome::{Acted, Outcome};
 use crate::resets::{clear_resets, read_resets};
@@ -31,7 +31,7 @@ use vf_unit::Queue;
 use wire_frame::{Fault, FrameBuf, PoolId};
 
 #[tactic(auto, using(crate::proofs::Arrivals::raised_nothing, crate::proofs::SizesStay::size_set))]
-impl<D: Dma> Device<D> {
+impl<D: Dma<K>, K> Device<D, K> {
     /// Opens a virtual function: its registers become initial, and its memory zero, whatever it was.
     ///
     /// [`Fault::NoSuchVf`], then [`Fault::AlreadyOpen`].
@@ -159,23 +159,49 @@ impl<D: Dma> Device<D> {
         act::find(&self.units[index], pool, at, count)
     }
 
-    // Reads bytes of a guest's memory into the first cells of `out`, as many as are asked for.
+    /// Reads bytes of a guest's memory once, into the first cells of `out`, where others may write it meanwhile: what it answers is
+    /// kept in the traces. The other cells stay, and all of them where it is refused. More than 2048 bytes are refused, and else
+    /// `out` has as many cells.
     #[inline]
-    pub(crate) fn load(
+    pub fn mem_read_live<'f>(
         &mut self,
         traces: &mut Traces,
         pool: u8,
         at: u64,
         count: u16,
-        out: &mut [u8; MOST_BYTES],
+        out: &mut [u8],
+    ) -> Response<'f>
+        requires { bytes_asked (Event.MemRead pool at count) ≤ length out.old }
+        ensures takes { TakesLive D.shared traces.old.touches traces.new.touches
+            self.old (Event.MemRead pool at count) self.new result }
+        ensures count { HasCount count result.outcome }
+        ensures bytes { HoldsIn out.new self.new result.outcome }
+        ensures rest { drop (bytes_told result.outcome) out.new
+            ≡ drop (bytes_told result.outcome) out.old }
+    {
+        Response::silent(self.load(traces, pool, at, count, out))
+    }
+
+    // The same, told as an outcome.
+    #[inline]
+    fn load(
+        &mut self,
+        traces: &mut Traces,
+        pool: u8,
+        at: u64,
+        count: u16,
+        out: &mut [u8],
     ) -> Outcome
+        requires { bytes_asked (Event.MemRead pool at count) ≤ length out.old }
         ensures world { self.new
             ≡ (step (told_world traces.old.touches traces.new.touches self.old)
             (Event.MemRead pool at count)).world }
         ensures answer { silently (reply_in self.new result)
             ≡ (step (told_world traces.old.touches traces.new.touches self.old)
             (Event.MemRead pool at count)).answer }
+        ensures count { HasCount count result }
         ensures bytes { HoldsIn out.new self.new result }
+        ensures rest { drop (bytes_told result) out.new ≡ drop (bytes_told result) out.old }
         ensures traced { AreTraced D.shared traces.old.touches traces.new.touches self.old }
         ensures sizes { sizes_of self.new ≡ sizes_of self.old }
     {

@@ -7,7 +7,7 @@ ghost use Rattle.device.specs.World.{fresh, is_frame_limit, is_makeable, functio
 use crate::span::Span;
 use crate::wire_out::WireOut;
 use guest_memory::is_memory_size;
-use live_memory::Dma;
+use live_memory::{Alone, Dma};
 use pool_filter::Tables;
 use std::alloc::{AllocError, Global};
 use std::marker::Model;
@@ -16,17 +16,17 @@ use wire_frame::{Fault, FrameBuf, FrameLimit, PoolId};
 
 /// A device over the memories of its guests.
 #[derive(Drop)]
-pub struct Device<D: Dma> {
+pub struct Device<D: Dma<K>, K = Alone> {
     pub(crate) limit: FrameLimit,
     // in a box, so that a device is a few words, and moved in few steps over a small stack
     pub(crate) tables: Box<Tables>,
     // bit p where function p was reset
     pub(crate) resets: u64,
-    pub(crate) units: Vec<VfUnit<D>>,
+    pub(crate) units: Vec<VfUnit<D, K>>,
     pub(crate) wire: WireOut,
 }
 
-impl<D: Dma> Model for Device<D> {
+impl<D: Dma<K>, K> Model for Device<D, K> {
     ghost use Rattle.std.specs.Prelude.{length, ◌≤◌};
     ghost use Rattle.device.specs.World.{World};
 
@@ -43,7 +43,7 @@ impl<D: Dma> Model for Device<D> {
     ghost invariant = { λ d. length d.units.items ≤ 64 };
 }
 
-impl<D: Dma> Device<D> {
+impl<D: Dma<K>, K> Device<D, K> {
     /// A device with a virtual function over each of the memories, all closed, that takes frames of up to 1518 bytes.
     /// [`Fault::BadMake`] comes exactly where there are no memories or more than 64, or one has a size outside the limits;
     /// [`Fault::NoMemory`] only where the host refused the room.
@@ -56,7 +56,7 @@ impl<D: Dma> Device<D> {
     /// assert!(rt; device.open(1) == Ok(()));
     /// assert!(rt; device.open(2) == Err(Fault::NoSuchVf));
     /// ```
-    pub fn new(alloc: Global, memories: Vec<D>) -> Result<Device<D>, Fault>
+    pub fn new(alloc: Global, memories: Vec<D>) -> Result<Device<D, K>, Fault>
         ensures ok { IfOk result
             (λ d. d ≡ fresh 1518 (map (λ m. length (D.seen m)) memories.items)) }
         ensures bad_make { is_makeable (map (λ m. length (D.seen m)) memories.items) ≡ false
@@ -70,7 +70,7 @@ impl<D: Dma> Device<D> {
 
     /// The same, that takes frames of up to `limit` bytes. [`Fault::BadMake`] comes also where that is not 1518 to 9018.
     #[inline(never)]
-    pub fn with_limit(alloc: Global, memories: Vec<D>, limit: u16) -> Result<Device<D>, Fault>
+    pub fn with_limit(alloc: Global, memories: Vec<D>, limit: u16) -> Result<Device<D, K>, Fault>
         ensures ok { IfOk result
             (λ d. d ≡ fresh limit (map (λ m. length (D.seen m)) memories.items)) }
         ensures bad_make { (is_frame_limit limit && is_makeable
@@ -88,7 +88,7 @@ impl<D: Dma> Device<D> {
 
     // A device that takes frames up to the limit.
     #[inline(never)]
-    fn make(alloc: Global, memories: Vec<D>, limit: FrameLimit) -> Result<Device<D>, Fault>
+    fn make(alloc: Global, memories: Vec<D>, limit: FrameLimit) -> Result<Device<D, K>, Fault>
         ensures ok { IfOk result
             (λ d. d ≡ fresh limit (map (λ m. length (D.seen m)) memories.items)) }
         ensures bad_make { is_makeable (map (λ m. length (D.seen m)) memories.items) ≡ false
@@ -159,7 +159,7 @@ impl<D: Dma> Device<D> {
 
 // Whether a device can be made of these memories.
 #[tactic(auto, unfolding(crate::specs::World::is_makeable))]
-fn is_makeable<D: Dma>(memories: &[D]) -> bool
+fn is_makeable<D: Dma<K>, K>(memories: &[D]) -> bool
     ensures makeable { result ≡ is_makeable (map (λ m. length (D.seen m)) memories.now) }
     ensures few { result ≡ true → length memories.now ≤ 64 }
 {
@@ -184,7 +184,7 @@ fn first_tables(alloc: Global) -> Result<Box<Tables>, Fault>
 }
 
 // A closed function over each of the memories. The error comes only where the host refused the room.
-fn close_all<D: Dma>(alloc: Global, memories: Vec<D>) -> Result<Vec<VfUnit<D>>, AllocError>
+fn close_all<D: Dma<K>, K>(alloc: Global, memories: Vec<D>) -> Result<Vec<VfUnit<D, K>>, AllocError>
     ensures { IfOk result
         (λ units. units.items ≡ map (λ m. Closed (length (D.seen m))) memories.items) }
 {

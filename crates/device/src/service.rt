@@ -41,10 +41,10 @@ pub fn serve_queue<R: SenderRules, M: GuestMem>(
 /// datasheet, transmit descriptors). A frame that is sent is left in `frame`, up to `limit` bytes of it. What the memory answers
 /// meanwhile is kept in the trace, where others write it.
 #[tactic(auto, unfolding(crate::specs::Act::serve), using(vf_unit::proofs::Told::told_nothing, vf_unit::proofs::Told::open_told))]
-pub(crate) fn serve_queue_live<R: SenderRules, D: Dma>(
+pub(crate) fn serve_queue_live<R: SenderRules, D: Dma<K>, K>(
     rules: &R,
     limit: FrameLimit,
-    unit: &mut VfUnit<D>,
+    unit: &mut VfUnit<D, K>,
     trace: &mut Trace,
     queue: Queue,
     frame: &mut FrameBuf,

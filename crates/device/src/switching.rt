@@ -30,8 +30,8 @@ fn is_looped(from: &Source) -> bool
 }
 
 // Delivers a frame to each function in a set of pools; the messages that each pool got.
-fn deliver_to_all<D: Dma>(
-    units: &mut [VfUnit<D>],
+fn deliver_to_all<D: Dma<K>, K>(
+    units: &mut [VfUnit<D, K>],
     traces: &mut Traces,
     pools: PoolSet,
     loopback: bool,
@@ -82,7 +82,7 @@ fn note(raised: &mut Messages, pool: PoolId, vectors: Vectors)
 }
 
 // Closes every function.
-pub fn end_all<D: Dma>(units: &mut [VfUnit<D>])
+pub fn end_all<D: Dma<K>, K>(units: &mut [VfUnit<D, K>])
     ensures ended { units.new ≡ map ended units.old }
     ensures sizes { map size_of units.new ≡ map size_of units.old }
 {
@@ -91,7 +91,7 @@ pub fn end_all<D: Dma>(units: &mut [VfUnit<D>])
     }
 }
 
-impl<D: Dma> Device<D> {
+impl<D: Dma<K>, K> Device<D, K> {
     // Switches a frame.
     pub(crate) fn switch(&mut self, traces: &mut Traces, from: Source, frame: &FrameBuf) -> Switched
         ensures world { self.new

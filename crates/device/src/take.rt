@@ -1,10 +1,10 @@
 //! The events that a device takes, one at a time and in a list.
-ghost use Rattle.std.specs.Prelude.{◌≡◌, ℕ, List, false, ◌+◌, ◌<◌, [], ◌∷◌, ◌++◌, length, vec_len, vec_capacity, IfOk, IfErr, OnOk, OnErr};
+ghost use Rattle.std.specs.Prelude.{◌≡◌, ℕ, List, false, ◌+◌, ◌<◌, [], ◌∷◌, ◌++◌, drop, length, vec_len, vec_capacity, IfOk, IfErr, OnOk, OnErr};
 ghost use Rattle.device.specs.declared.event.Event.{Event};
 ghost use Rattle.device.specs.declared.span.Span.{Span};
 ghost use Rattle.device.specs.World.{step, sent_by, answers, world_after};
 ghost use Rattle.device.specs.Lone.{SeesAsAlone, EndsAsAlone};
-ghost use Rattle.device.specs.Outcome.{reads, reply_by, answer_in, HoldsRead};
+ghost use Rattle.device.specs.Outcome.{reads, reply_by, answer_in, bytes_told, HoldsRead};
 ghost use Rattle.device.specs.Takes.{Takes};
 ghost use Rattle.device.specs.Live.{TakesLive};
 ghost use Rattle.device.specs.Request.{event_of};
@@ -21,7 +21,7 @@ use live_memory::{Dma, Touch, Traces};
 use std::alloc::Global;
 use wire_frame::{Fault, FrameBuf, PoolId};
 
-impl<D: Dma> Device<D> {
+impl<D: Dma<K>, K> Device<D, K> {
     /// Takes the event that a request stands for, where others may write the memories of the functions meanwhile: what they
     /// answer is kept in the traces. It means what [`take`](Device::take) does in the world in which each function's memory
     /// holds what was read from it: as if its guest had written just that, right before the event.
@@ -38,11 +38,11 @@ impl<D: Dma> Device<D> {
         ensures takes { TakesLive D.shared traces.old.touches traces.new.touches
             self.old (event_of request.entry) self.new result }
         ensures bytes { HoldsRead bytes.new (event_of request.entry) self.new result.outcome }
+        ensures rest { drop (bytes_told result.outcome) bytes.new
+            ≡ drop (bytes_told result.outcome) bytes.old }
     {
         match request {
-            Request::MemRead(pool, at, count) => {
-                Response::silent(self.load(traces, pool, at, count, bytes))
-            }
+            Request::MemRead(pool, at, count) => self.mem_read_live(traces, pool, at, count, bytes),
             _ => self.take_any(traces, request, frame),
         }
     }

@@ -3,12 +3,12 @@ ghost use Rattle.std.specs.Prelude.{◌≡◌, ◌≢◌, ℕ, ◌≤◌, ◌^�
 ghost use Rattle.std.specs.List.{sum_by};
 ghost use Rattle.device.specs.Request.{event_of};
 ghost use Rattle.device.specs.World.{World, step, sent_by, world_after, answers};
-ghost use Rattle.device.specs.Outcome.{left_by};
+ghost use Rattle.device.specs.Outcome.{left_by, bytes_asked, bytes_told};
 ghost use Rattle.history.specs.Entries.{Entry, events, given};
 ghost use Rattle.device_lock.specs.Answers.{MayAnswer};
 ghost use Rattle.recorder.specs.Callers.{may};
 ghost use Rattle.recorder.specs.Held.{having_asked, count_of};
-ghost use Rattle.recorder.specs.Read.{bytes_asked, bytes_told, answer_with};
+ghost use Rattle.recorder.specs.Read.{answer_with};
 
 use device::{Answer, Device, Event, Request, Response};
 use guest_memory::GuestMem;

@@ -6,6 +6,14 @@ ghost use Rattle.live_memory.specs.Trace.{Read, Wrote, noted};
 use crate::trace::Trace;
 use crate::words::{bytes_of, bytes_of_two, word_of, words_of};
 
+/// The kind of a memory that nobody writes while a device works on it, as every [`GuestMem`](guest_memory::GuestMem) is.
+#[derive(Drop)]
+pub struct Alone;
+
+/// The kind of a memory that others may write while a device works on it, as a guest's processors do.
+#[derive(Drop)]
+pub struct Shared;
+
 /// A guest's memory, by a device's accesses to it. An access lies inside the memory, and no call takes memory of the host. The
 /// number of bytes never changes.
 ///
@@ -14,9 +22,11 @@ use crate::words::{bytes_of, bytes_of_two, word_of, words_of};
 /// is the memory as the device knows it: each access puts its bytes there, a read those that it was answered. Where the memory
 /// is shared, each access is also kept in the trace that the caller lends.
 ///
+/// `K` is the kind of the memory, [`Alone`] or [`Shared`], so that a type of either kind has one implementation.
+///
 /// The accesses of words have bodies here, over those of bytes, which may be written anew for a memory that has a shorter way to
 /// a word.
-pub trait Dma: Drop {
+pub trait Dma<K>: Drop {
     ghost shared: { Bool };
 
     ghost seen: { Self → List ℕ };

@@ -20,7 +20,7 @@ pub mod trace;
 pub mod traces;
 mod words;
 
-pub use dma::Dma;
+pub use dma::{Alone, Dma, Shared};
 pub use step::Step;
 pub use touch::Touch;
 pub use trace::Trace;

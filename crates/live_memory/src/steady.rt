@@ -5,12 +5,12 @@ ghost use Rattle.guest_memory.specs.Memory.{overwrite, word_at, word_bytes, two_
 ghost use Rattle.live_memory.specs.Trace.{Read, Wrote, noted};
 ghost use Rattle.live_memory.specs.Ranges.{range_whole};
 
-use crate::dma::Dma;
+use crate::dma::{Alone, Dma};
 use crate::trace::Trace;
 use guest_memory::GuestMem;
 
 // What a memory that events alone touch answers is what stands there, and no access to it is kept.
-impl<M: GuestMem> Dma for M {
+impl<M: GuestMem> Dma<Alone> for M {
     ghost shared = { false };
 
     ghost seen = { λ m. M.bytes m };

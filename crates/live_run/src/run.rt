@@ -28,8 +28,8 @@ pub struct LiveRun {
 ///
 /// To each virtual function the run is as if it were alone, given its own events, its own settings, the frames that its filters
 /// accept, and what its own memory answered.
-pub fn run_live<D: Dma>(
-    device: &mut Device<D>,
+pub fn run_live<D: Dma<K>, K>(
+    device: &mut Device<D, K>,
     alloc: Global,
     events: &[Event],
 ) -> Result<LiveRun, Fault>
@@ -68,8 +68,8 @@ pub fn run_live<D: Dma>(
 }
 
 // Takes one event, and answers it.
-fn take<D: Dma>(
-    device: &mut Device<D>,
+fn take<D: Dma<K>, K>(
+    device: &mut Device<D, K>,
     traces: &mut Traces,
     event: &Event,
     frame: &mut FrameBuf,

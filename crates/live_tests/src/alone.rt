@@ -7,7 +7,7 @@ use std::process::Abort;
 use std::test::Fail;
 
 // Each kind of access to a memory of 4096 bytes.
-fn reads_back<D: Dma>(memory: &mut D) -> Option<([u8; 2], u64, (u64, u64), u64)> {
+fn reads_back<D: Dma<K>, K>(memory: &mut D) -> Option<([u8; 2], u64, (u64, u64), u64)> {
     if memory.extent() != 4096 {
         return None;
     }

@@ -9,7 +9,12 @@ use std::test::Fail;
 use wire_frame::Fault;
 
 // Writes eight bytes from an address on, and gives the eight from another on; `None` where they pass the end of the memory.
-fn write_and_read<D: Dma>(memory: &mut D, to: u64, bytes: [u8; 8], from: u64) -> Option<[u8; 8]> {
+fn write_and_read<D: Dma<K>, K>(
+    memory: &mut D,
+    to: u64,
+    bytes: [u8; 8],
+    from: u64,
+) -> Option<[u8; 8]> {
     let last = memory.extent().checked_sub(8)?;
     if to > last || from > last {
         return None;
@@ -156,7 +161,10 @@ fn a_size_outside_the_limits_is_refused(rt: HostRuntime) {
 }
 
 // A descriptor, as two words, then its first word anew, and what is left when all is cleared. `None` where it passes the end.
-fn write_descriptor<D: Dma>(memory: &mut D, at: u64) -> Option<((u64, u64), u64, (u64, u64))> {
+fn write_descriptor<D: Dma<K>, K>(
+    memory: &mut D,
+    at: u64,
+) -> Option<((u64, u64), u64, (u64, u64))> {
     if at > memory.extent().checked_sub(16)? {
         return None;
     }

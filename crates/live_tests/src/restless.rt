@@ -6,7 +6,7 @@ ghost use Rattle.guest_memory.specs.Memory.{word_bytes, two_words};
 ghost use Rattle.live_memory.specs.Trace.{Access, Read, Wrote, noted};
 
 use crate::compare::assert_equal;
-use live_memory::{Dma, Step, Trace};
+use live_memory::{Dma, Shared, Step, Trace};
 use std::process::Abort;
 
 // All 64 bytes are one more at every read, whatever is written.
@@ -16,7 +16,7 @@ struct Restless {
     known: [u8; 64],
 }
 
-impl Dma for Restless {
+impl Dma<Shared> for Restless {
     ghost shared = { true };
 
     ghost seen = { λ m. m.known };
@@ -53,7 +53,7 @@ impl Dma for Restless {
 }
 
 // What one of each call gives, of whatever memory, and its accesses.
-fn each_call<D: Dma>(memory: &mut D, trace: &mut Trace) -> ([u8; 2], u64, (u64, u64))
+fn each_call<D: Dma<K>, K>(memory: &mut D, trace: &mut Trace) -> ([u8; 2], u64, (u64, u64))
     requires { 64 ≤ length (D.seen memory.old) }
     ensures size { length (D.seen memory.new) ≡ length (D.seen memory.old) }
 {

@@ -5,7 +5,7 @@ ghost use Rattle.live_tests.specs.Turned.{turned, length_turned};
 
 use crate::compare::assert_equal;
 use device::{Device, Event, Queue};
-use live_memory::{Dma, Step, Trace};
+use live_memory::{Dma, Shared, Step, Trace};
 use live_run::run_live;
 use script_support::registers::{ENABLE, PFVFTE, TDBAL0, TDLEN0, TDT0, TXDCTL0};
 use std::alloc::Global;
@@ -22,7 +22,7 @@ struct Turning {
     ghost later: { length then ≡ 64 },
 }
 
-impl Dma for Turning {
+impl Dma<Shared> for Turning {
     ghost shared = { true };
 
     ghost seen = { λ m. m.known };
@@ -97,7 +97,12 @@ fn descriptor_bytes() -> [u8; 64]
 
 // A device over such a memory sends the frame of one descriptor, which is `due`. It takes a memory of whatever kind, and knows
 // nothing of it.
-fn sends_one<R: Abort, D: Dma>(rt: &R, alloc: Global, memory: D, due: &[u8]) -> Result<(), Fail> {
+fn sends_one<R: Abort, D: Dma<K>, K>(
+    rt: &R,
+    alloc: Global,
+    memory: D,
+    due: &[u8],
+) -> Result<(), Fail> {
     let mut memories = Vec::new(alloc);
     memories.push(memory)?;
     let mut device = Device::new(alloc, memories)?;

@@ -13,7 +13,7 @@ use crate::map_error::{MapError, Refused};
 use crate::region::Region;
 use crate::scans::{clear_all, is_any_met, place_of, read_all, write_all};
 use guest_memory::is_memory_size;
-use live_memory::{Dma, Step, Trace};
+use live_memory::{Dma, Shared, Step, Trace};
 use std::alloc::Global;
 use std::marker::Model;
 use wire_frame::Fault;
@@ -139,7 +139,7 @@ impl<'a> LiveMem<'a> {
 
 // What it answers is what the regions have. The contracts say of each access what it leaves in the regions, beside what the interface
 // says.
-impl Dma for LiveMem<'_> {
+impl Dma<Shared> for LiveMem<'_> {
     ghost shared = { true };
 
     ghost seen = { λ m. m.seen };

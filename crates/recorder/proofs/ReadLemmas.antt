@@ -18,11 +18,10 @@ use Rattle.device.specs.declared.event.Event.TheVariants.{Open, End, VfRead, VfW
 use Rattle.device.specs.Replies.{Reply, is_done}
 use Rattle.device.specs.declared.event.Reply.TheVariants.{Done, Value, Bytes, Idle, More, Sent, Dropped, Faulted, Refused}
 use Rattle.device.specs.declared.event.Answer.{Answer}
-use Rattle.device.specs.Outcome.{Outcome, reply_in, answer_in}
+use Rattle.device.specs.Outcome.{Outcome, reply_in, answer_in, bytes_asked, bytes_told}
 use Rattle.device.specs.declared.response.Response.{Response}
 use Rattle.device.specs.Act.{Service, act, performed, unless_refused, refusal, serve, unserved, concluded, is_bad_offset, opens, passes_end}
 use Rattle.device.specs.World.{World, Stepped, step, own_step, function_of, served, service, flagged, refused}
-use Rattle.recorder.specs.Read.{bytes_asked, bytes_told}
 
 -- how many bytes are replied
 count_of : Reply → ℕ

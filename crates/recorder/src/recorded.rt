@@ -2,7 +2,7 @@
 ghost use Rattle.std.specs.Prelude.{◌≡◌, ◌≢◌, ℕ, ◌+◌, ◌<◌, ◌≤◌, ◌^◌, [], true, false, IsTrue, ◌↔◌, IfOk, IfErr, OnOk, OnErr, IfSome, IfNone, Err, length, take, drop, slice_index, sum, ◌⊎◌};
 ghost use Rattle.std.specs.List.{sum_by};
 ghost use Rattle.device.specs.World.{step, world_after, answers, fresh, sizes_of};
-ghost use Rattle.device.specs.Outcome.{answer_in, reply_by, reply_in};
+ghost use Rattle.device.specs.Outcome.{answer_in, reply_by, reply_in, bytes_asked, bytes_told};
 ghost use Rattle.device.specs.Lone.{keep, lone_of, lone_seen, lone_after, seen_by};
 ghost use Rattle.device.specs.Request.{event_of};
 ghost use Rattle.irq_line.specs.Line.{raised};
@@ -11,7 +11,7 @@ ghost use Rattle.recorder.specs.Callers.{may};
 ghost use Rattle.recorder.specs.Legal.{Legal, calls_of, kept_raises};
 ghost use Rattle.recorder.specs.Held.{having_asked, count_of, Keeps, Records, Rebased, folded, folded_raises};
 ghost use Rattle.recorder.specs.Made.{IsFresh, SameMake, AreUnused, begun};
-ghost use Rattle.recorder.specs.Read.{bytes_asked, bytes_told, answer_with};
+ghost use Rattle.recorder.specs.Read.{answer_with};
 
 use crate::journal::Journal;
 use crate::makes::is_same_make;

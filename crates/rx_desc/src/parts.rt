@@ -54,7 +54,7 @@ impl<'a> Parts<'a> {
 
 // Writes the bytes over those of the memory from `at` on.
 #[inline(always)]
-pub(crate) fn write_parts<D: Dma>(memory: &mut D, trace: &mut Trace, at: u64, source: Parts)
+pub(crate) fn write_parts<D: Dma<K>, K>(memory: &mut D, trace: &mut Trace, at: u64, source: Parts)
     requires inside { at + length (text_of source) ≤ length (D.seen memory.old) }
     requires fits { at + length (text_of source) < 2 ^ 64 }
     ensures written { D.seen memory.new
@@ -72,7 +72,7 @@ pub(crate) fn write_parts<D: Dma>(memory: &mut D, trace: &mut Trace, at: u64, so
 
 // Writes both parts, one behind the other. It isn't inlined, so that bytes in one part are written in few instructions.
 #[inline(never)]
-fn write_both<D: Dma>(memory: &mut D, trace: &mut Trace, at: u64, source: Parts)
+fn write_both<D: Dma<K>, K>(memory: &mut D, trace: &mut Trace, at: u64, source: Parts)
     requires inside { at + length (text_of source) ≤ length (D.seen memory.old) }
     requires fits { at + length (text_of source) < 2 ^ 64 }
     ensures written { D.seen memory.new

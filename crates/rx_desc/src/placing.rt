@@ -92,7 +92,7 @@ pub fn place_in<M: GuestMem>(
 /// read after it was read or written in this call. Where the memory is shared, `trace` grows by each access.
 #[inline]
 #[tactic(auto, unfolding(crate::specs::Receive::deliver))]
-pub fn place_within<D: Dma>(
+pub fn place_within<D: Dma<K>, K>(
     memory: &mut D,
     trace: &mut Trace,
     memory_size: u64,
@@ -142,7 +142,7 @@ pub fn place_within<D: Dma>(
 // Places a frame, without its tag where tags are stripped. It isn't inlined, so that a whole frame in one buffer is placed in few
 // instructions.
 #[inline(never)]
-fn place_frame<D: Dma>(
+fn place_frame<D: Dma<K>, K>(
     memory: &mut D,
     trace: &mut Trace,
     memory_size: u64,
@@ -208,7 +208,7 @@ pub(crate) fn without_tag(strip_tag: bool, frame: &FrameBuf) -> (Parts<'_>, Opti
 
 // Places `source` in the buffers of the ring's next descriptors; `tag` was taken off it.
 #[inline]
-fn place_data<D: Dma>(
+fn place_data<D: Dma<K>, K>(
     memory: &mut D,
     trace: &mut Trace,
     memory_size: u64,
@@ -258,7 +258,7 @@ fn place_data<D: Dma>(
 // Places `source` in one buffer. Nothing is kept beside the word of its descriptor. It is inlined, and calls the memory itself: a
 // call through a table is followed by a test for each inlined function around it.
 #[inline(always)]
-fn place_one<D: Dma>(
+fn place_one<D: Dma<K>, K>(
     memory: &mut D,
     trace: &mut Trace,
     memory_size: u64,
@@ -298,7 +298,7 @@ fn place_one<D: Dma>(
 
 // Places `source` in the buffers of as many descriptors as it has pieces, which are owned.
 #[inline(never)]
-fn place_many<D: Dma>(
+fn place_many<D: Dma<K>, K>(
     memory: &mut D,
     trace: &mut Trace,
     memory_size: u64,
@@ -336,7 +336,7 @@ fn place_many<D: Dma>(
 }
 
 // The addresses of the buffers of the first descriptors; none where some piece would pass the memory's end.
-fn buffers<D: Dma>(
+fn buffers<D: Dma<K>, K>(
     memory: &mut D,
     trace: &mut Trace,
     memory_size: u64,
@@ -382,7 +382,7 @@ fn buffers<D: Dma>(
 }
 
 // Writes each piece at its address.
-fn write_pieces<D: Dma>(
+fn write_pieces<D: Dma<K>, K>(
     memory: &mut D,
     trace: &mut Trace,
     addresses: &[u64; MOST_PIECES],
@@ -410,7 +410,7 @@ fn write_pieces<D: Dma>(
 }
 
 // Writes back the first descriptors.
-fn write_back<D: Dma>(
+fn write_back<D: Dma<K>, K>(
     memory: &mut D,
     trace: &mut Trace,
     ring: &Ring,

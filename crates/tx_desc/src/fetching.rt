@@ -65,7 +65,7 @@ pub fn fetch_into<M: GuestMem>(
 /// It does what is due on the memory that it met: the one that was, with all bytes written into it that were read from it. No
 /// byte is read twice, so there is one such memory whatever others write, and whenever.
 #[inline]
-pub fn fetch_within<D: Dma>(
+pub fn fetch_within<D: Dma<K>, K>(
     memory: &mut D,
     trace: &mut Trace,
     memory_size: u64,
@@ -105,7 +105,7 @@ pub fn fetch_within<D: Dma>(
 }
 
 // Takes a descriptor that has bytes.
-fn take_data<D: Dma>(
+fn take_data<D: Dma<K>, K>(
     memory: &mut D,
     trace: &mut Trace,
     ring: &mut Ring,
@@ -135,7 +135,7 @@ fn take_data<D: Dma>(
 
 // Writes a descriptor back where its driver asks for it, and tells whether it was.
 #[inline]
-fn report<D: Dma>(memory: &mut D, trace: &mut Trace, descriptor: TxDescriptor) -> bool
+fn report<D: Dma<K>, K>(memory: &mut D, trace: &mut Trace, descriptor: TxDescriptor) -> bool
     requires place { descriptor.at + 16 ≤ length (D.seen memory.old) }
     requires fits { descriptor.at + 16 < 2 ^ 64 }
     ensures value { result ≡ wants_report descriptor.word }
@@ -157,7 +157,7 @@ fn report<D: Dma>(memory: &mut D, trace: &mut Trace, descriptor: TxDescriptor) -
 
 // Gathers the bytes of a descriptor, and ends the frame where it is the last one.
 #[inline]
-fn gather<D: Dma>(
+fn gather<D: Dma<K>, K>(
     memory: &mut D,
     trace: &mut Trace,
     pending: &mut Pending,
@@ -212,7 +212,7 @@ fn is_whole(frame: &FrameBuf, descriptor: TxDescriptor, rule: PortVlan, limit: F
 // Makes the lent frame the bytes of a descriptor, straight from the memory.
 #[inline]
 #[tactic(auto, unfolding(crate::specs::Transmit::joined, crate::specs::Transmit::ended))]
-fn take_whole<D: Dma>(
+fn take_whole<D: Dma<K>, K>(
     memory: &mut D,
     trace: &mut Trace,
     frame: &mut FrameBuf,

@@ -71,7 +71,7 @@ impl Pending {
     // Joins the bytes of a descriptor, unless there are more than `limit` then. If they are too many, none is read.
     #[inline]
     #[tactic(auto, using(crate::proofs::Unread::reads_none), unfolding(crate::specs::Transmit::joined))]
-    pub(crate) fn join<D: Dma>(
+    pub(crate) fn join<D: Dma<K>, K>(
         &mut self,
         memory: &mut D,
         trace: &mut Trace,
@@ -150,7 +150,7 @@ impl Pending {
 
 // Reads the bytes of a descriptor into the cells from `start` up to `end`. There is room, so nothing is allocated.
 #[inline]
-fn read_behind<D: Dma>(
+fn read_behind<D: Dma<K>, K>(
     memory: &mut D,
     trace: &mut Trace,
     descriptor: TxDescriptor,

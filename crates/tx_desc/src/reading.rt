@@ -11,7 +11,11 @@ use live_memory::{Dma, Trace};
 
 // Reads the descriptor that stands at an address, by one access.
 #[inline]
-pub(crate) fn read_descriptor<D: Dma>(memory: &mut D, trace: &mut Trace, at: u64) -> TxDescriptor
+pub(crate) fn read_descriptor<D: Dma<K>, K>(
+    memory: &mut D,
+    trace: &mut Trace,
+    at: u64,
+) -> TxDescriptor
     requires { at + 16 ≤ length (D.seen memory.old) }
     ensures at { result.at ≡ at }
     ensures buffer { result.buffer < 2 ^ 64 }
@@ -27,7 +31,7 @@ pub(crate) fn read_descriptor<D: Dma>(memory: &mut D, trace: &mut Trace, at: u64
 // Reads the bytes of a descriptor into `out`, which has as many. Those that lie in the descriptor itself were read with it, and
 // aren't read again.
 #[inline]
-pub(crate) fn read_data<D: Dma>(
+pub(crate) fn read_data<D: Dma<K>, K>(
     memory: &mut D,
     trace: &mut Trace,
     descriptor: TxDescriptor,
@@ -49,7 +53,12 @@ pub(crate) fn read_data<D: Dma>(
 // Reads the bytes before the descriptor and those behind it, and takes those between from its words.
 #[cold]
 #[inline(never)]
-fn read_around<D: Dma>(memory: &mut D, trace: &mut Trace, descriptor: TxDescriptor, out: &mut [u8])
+fn read_around<D: Dma<K>, K>(
+    memory: &mut D,
+    trace: &mut Trace,
+    descriptor: TxDescriptor,
+    out: &mut [u8],
+)
     requires stands { Stands (D.seen memory.old) descriptor }
     requires all { length out.old ≡ length_of descriptor.word }
     requires over { descriptor.at < descriptor.buffer + length_of descriptor.word }
@@ -76,7 +85,7 @@ fn gap(to: u64, from: u64) -> usize
 }
 
 // Reads bytes by one access, or by none where there are none.
-fn read_part<D: Dma>(memory: &mut D, trace: &mut Trace, at: u64, out: &mut [u8])
+fn read_part<D: Dma<K>, K>(memory: &mut D, trace: &mut Trace, at: u64, out: &mut [u8])
     requires { at + length out.old ≤ length (D.seen memory.old) }
     ensures out { out.new ≡ D.answer memory.old at (length out.old) }
     ensures seen { D.seen memory.new ≡ overwrite at (D.answer memory.old at (length out.old)) (D.seen memory.old) }

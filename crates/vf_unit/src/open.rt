@@ -16,11 +16,11 @@ use crate::queues::{ReceiveQueue, TransmitQueue};
 use crate::registers::{Queue, Register, register_of};
 use guest_memory::{GuestMem, read_bytes};
 use irq_causes::{Causes, Vectors};
-use live_memory::{Dma, Step, Trace};
+use live_memory::{Alone, Dma, Step, Trace};
 use rings::RingRegister;
 use rx_desc::{Placed, RxConfig, place_within};
 use std::alloc::{AllocError, Global};
-use std::marker::Model;
+use std::marker::{Model, PhantomData};
 use tx_desc::{Progress, Served, fetch_within};
 use wire_frame::{FrameBuf, FrameLimit, PortVlan, field, has_bit};
 
@@ -38,10 +38,11 @@ pub struct Service {
 
 /// A virtual function that is open, over its memory.
 #[derive(Drop)]
-pub struct OpenVf<D: Dma> {
+pub struct OpenVf<D: Dma<K>, K = Alone> {
     // what a frame that comes concerns stands side by side
     memory: D,
     memory_size: u64,
+    kind: PhantomData<K>,
     receive_0: ReceiveQueue,
     causes: Causes,
     queue_vectors: u32,
@@ -53,7 +54,7 @@ pub struct OpenVf<D: Dma> {
     transmit_1: TransmitQueue,
 }
 
-impl<D: Dma> Model for OpenVf<D> {
+impl<D: Dma<K>, K> Model for OpenVf<D, K> {
     ghost use Rattle.std.specs.Prelude.{◌≡◌, length};
     ghost use Rattle.vf_unit.specs.Function.{State, IsTied};
 
@@ -88,9 +89,9 @@ impl<D: Dma> Model for OpenVf<D> {
         }) };
 }
 
-impl<D: Dma> OpenVf<D> {
+impl<D: Dma<K>, K> OpenVf<D, K> {
     /// A function over this memory, with every register initial.
-    pub fn new(alloc: Global, memory: D) -> Result<OpenVf<D>, AllocError>
+    pub fn new(alloc: Global, memory: D) -> Result<OpenVf<D, K>, AllocError>
         ensures { IfOk result (λ f. f ≡ initial (D.seen memory)) }
     {
         let memory_size = memory.extent();
@@ -99,6 +100,7 @@ impl<D: Dma> OpenVf<D> {
         Ok(OpenVf {
             memory,
             memory_size,
+            kind: PhantomData,
             receive_0: ReceiveQueue::new(),
             receive_1: ReceiveQueue::new(),
             transmit_0,

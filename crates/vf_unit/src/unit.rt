@@ -9,19 +9,19 @@ use crate::open::{OpenVf, Service};
 use crate::registers::Queue;
 use guest_memory::GuestMem;
 use irq_causes::Vectors;
-use live_memory::{Dma, Step, Trace};
+use live_memory::{Alone, Dma, Step, Trace};
 use std::alloc::{AllocError, Global};
 use std::marker::Model;
 use wire_frame::{FrameBuf, FrameLimit, PortVlan};
 
 /// A virtual function, closed or open. Each call says what it does to one that is open; a closed one stays as it is.
 #[derive(Drop)]
-pub struct VfUnit<D: Dma> {
+pub struct VfUnit<D: Dma<K>, K = Alone> {
     is_open: bool,
-    inner: OpenVf<D>,
+    inner: OpenVf<D, K>,
 }
 
-impl<D: Dma> Model for VfUnit<D> {
+impl<D: Dma<K>, K> Model for VfUnit<D, K> {
     ghost use Rattle.std.specs.Prelude.{length, if◌then◌else◌};
     ghost use Rattle.vf_unit.specs.Unit.{Function, Closed, Open};
 
@@ -30,9 +30,9 @@ impl<D: Dma> Model for VfUnit<D> {
     ghost view = { λ u. if u.is_open then Open u.inner else Closed (length u.inner.memory) };
 }
 
-impl<D: Dma> VfUnit<D> {
+impl<D: Dma<K>, K> VfUnit<D, K> {
     /// A closed function over this memory, with the room that its frames are gathered in.
-    pub fn new(alloc: Global, memory: D) -> Result<VfUnit<D>, AllocError>
+    pub fn new(alloc: Global, memory: D) -> Result<VfUnit<D, K>, AllocError>
         ensures { IfOk result (λ u. u ≡ Closed (length (D.seen memory))) }
     {
         let inner = OpenVf::new(alloc, memory)?;

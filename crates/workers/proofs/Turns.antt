@@ -10,9 +10,9 @@ use Rattle.device.specs.declared.event.Event.TheVariants.{Open, End, VfRead, VfW
 use Rattle.history.specs.declared.caller.Caller.{Caller}
 use Rattle.history.specs.declared.caller.Caller.TheVariants.{Port, Driver, Pump, Service}
 use Rattle.recorder.specs.Callers.{may}
-use Rattle.recorder.specs.Read.{bytes_asked}
 use Rattle.workers.specs.Callers.{caller_before, caller_of, is_port, is_same, port_or_service}
 use Rattle.device.specs.Replies.{Reply}
+use Rattle.device.specs.Outcome.{bytes_asked}
 use Rattle.guest_port.specs.Calls.{CallingPort, HasCalled}
 use Rattle.guest_port.specs.Port.{closed, Port as GuestsPort}
 use Rattle.workers.specs.Calls.{HasClosed, HasDone, HasDoneAll, HasMade, IsPortEvent}

@@ -1,10 +1,9 @@
 //! One event by a share.
 ghost use Rattle.std.specs.Prelude.{◌≡◌, ◌≤◌, true, length, take, drop, IfOk, IfErr, OnErr};
 ghost use Rattle.device.specs.Request.{event_of};
-ghost use Rattle.device.specs.Outcome.{reply_by};
+ghost use Rattle.device.specs.Outcome.{reply_by, bytes_asked, bytes_told};
 ghost use Rattle.wire_frame.specs.declared.fault.Fault.{Fault};
 ghost use Rattle.recorder.specs.Callers.{may};
-ghost use Rattle.recorder.specs.Read.{bytes_asked, bytes_told};
 ghost use Rattle.workers.specs.Asked.{HasTold};
 
 use device::{Outcome, Request};

@@ -3,9 +3,8 @@ ghost use Rattle.std.specs.Prelude.{◌≡◌, ℕ, ◌<◌, ◌≤◌, ◌⊎�
 ghost use Rattle.wire_frame.specs.declared.fault.Fault.{Fault};
 ghost use Rattle.device.specs.declared.span.Span.{Span};
 ghost use Rattle.device.specs.Request.{event_of};
-ghost use Rattle.device.specs.Outcome.{reply_by};
+ghost use Rattle.device.specs.Outcome.{reply_by, bytes_told};
 ghost use Rattle.history.specs.declared.caller.Caller.TheVariants.{Driver, Service};
-ghost use Rattle.recorder.specs.Read.{bytes_told};
 ghost use Rattle.workers.specs.Callers.{caller_before};
 ghost use Rattle.workers.specs.Counts.{HasRecorded, HaveKept, HaveRecorded};
 ghost use Rattle.workers.specs.Plans.{events_before};

@@ -1,5 +1,6 @@
 -- What was read is what the memory answered, and the first cells hold it.
-use Rattle.std.proofs.Common.{rules, ◌≡◌, ◌≤◌, ℕ, true, ◌++◌, length, take, sym, ap, ◌∙◌}
+use lib.Seq.{drop_at}
+use Rattle.std.proofs.Common.{rules, ◌≡◌, ◌≤◌, ℕ, true, ◌++◌, length, take, drop, sym, ap, ◌∙◌}
 use Rattle.std.proofs.lemmas.List.{length-take-le}
 use Rattle.live_memory.proofs.Accesses.{traced_none}
 use Rattle.vf_unit.specs.Unit.{size_of, has_range}
@@ -45,3 +46,9 @@ returns-in-None-clause-bytes g c =
 
 pub returns-in-None-clause-size : goal.returns-in-None-clause-size
 returns-in-None-clause-size g c = ap size_of c.mem_load.ensures.function ∙ size_told c.args.trace.now.accesses c.mem_load.new.trace.accesses c.args.unit.now c.mem_load.ensures.traced.once
+
+pub returns-in-None-clause-rest : goal.returns-in-None-clause-rest
+returns-in-None-clause-rest g c =
+    let n = c.from-in-None.result in
+    drop_at c.mem_load.new.out (drop n c.args.out.now) c.new.result.count (c.mem_load.auto.out ∙ length-take-le n c.args.out.now (search rules) ∙ c.from-in-None.ensures ∙ sym c.new.ensures.count)
+    ∙ ap (λ (k : ℕ). drop k c.args.out.now) (c.from-in-None.ensures ∙ sym c.new.ensures.count)

@@ -1,8 +1,7 @@
 -- One more event is recorded, and what it leaves open is noted.
 use Rattle.std.proofs.Common.{rules, ◌<◌, ℕ, List, take}
-use Rattle.device.specs.Outcome.{reply_by}
+use Rattle.device.specs.Outcome.{reply_by, bytes_told}
 use Rattle.device.specs.Request.{event_of}
-use Rattle.recorder.specs.Read.{bytes_told}
 use Rattle.script.proofs.RecordLemmas.{on_err}
 use Rattle.workers.specs.Counts.{HaveRecorded}
 use Rattle.workers.proofs.First.{left_next, left_none, recorded_still}

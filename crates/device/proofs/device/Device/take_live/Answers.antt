@@ -12,16 +12,7 @@ use Rattle.device.proofs.device.Device.take_live.Goals as goal
 
 pub returns-in-MemRead-clause-takes : goal.returns-in-MemRead-clause-takes
 returns-in-MemRead-clause-takes g c =
-    subst (λ (r : Request). TakesLive g.D.Dma.shared c.args.traces.now.touches c.load.new.traces.touches c.args.self.now (event_of r) c.load.new.self c.silent.result) (sym c.in-MemRead.is) (record {
-      takes = record {
-        world = c.load.ensures.world;
-        answer = (λ i. record { reply = reply_in c.load.new.self (c.silent.ensures.outcome i); raised = c.silent.ensures.messages i }) ∙ c.load.ensures.answer;
-        sent = ap option_copied c.silent.ensures.sent;
-        left = ap option_copied c.silent.ensures.left;
-        sizes = c.load.ensures.sizes ∙ sym (sizes_told g.D.Dma.shared c.args.traces.now.touches c.load.new.traces.touches c.args.self.now c.load.ensures.traced);
-      };
-      traced = c.load.ensures.traced;
-    })
+    subst (λ (r : Request). TakesLive g.D.Dma.shared c.args.traces.now.touches c.mem_read_live.new.traces.touches c.args.self.now (event_of r) c.mem_read_live.new.self c.mem_read_live.result) (sym c.in-MemRead.is) c.mem_read_live.ensures.takes
 
 -- no other event reads bytes
 no_other : (cells : List ℕ) (w : World) (o : Outcome) (r : Request) → ((p at count : ℕ) → r ≡ MemRead p at count → ⊥) → HoldsRead cells (event_of r) w o
@@ -39,4 +30,4 @@ no_other cells w o PfReset not = tt
 no_other cells w o (Wire frame) not = tt
 
 pub returns-in_default : goal.returns-in_default
-returns-in_default g c = record { takes = c.take_any.ensures; bytes = no_other c.args.bytes.now c.take_any.new.self c.take_any.result.outcome c.args.request c.in_default.not-MemRead }
+returns-in_default g c = record { takes = c.take_any.ensures; bytes = no_other c.args.bytes.now c.take_any.new.self c.take_any.result.outcome c.args.request c.in_default.not-MemRead; rest = refl }

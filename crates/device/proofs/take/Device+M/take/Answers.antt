@@ -5,7 +5,7 @@ use Rattle.device.specs.Lone.{seen_by, lone_of}
 use Rattle.device.specs.Request.{event_of}
 use Rattle.device.proofs.LiveLemmas.{takes_alone}
 use Rattle.device.proofs.Unwinding.{isolated_sight, isolated_state}
-use Rattle.device.proofs.device.Device.take.Goals as goal
+use Rattle.device.proofs.take.Device+M.take.Goals as goal
 
 pub returns-clause-takes : goal.returns-clause-takes
 returns-clause-takes g c = takes_alone false c.traces.result.touches c.take_any.new.traces.touches c.args.self.now (event_of c.args.request) c.take_any.new.self c.take_any.result refl c.take_any.ensures

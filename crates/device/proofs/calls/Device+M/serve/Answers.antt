@@ -2,7 +2,7 @@
 use Rattle.std.proofs.Common.{false, refl}
 use Rattle.device.specs.declared.event.Event.TheVariants.{Serve}
 use Rattle.device.proofs.LiveLemmas.{takes_alone}
-use Rattle.device.proofs.device.Device.serve.Goals as goal
+use Rattle.device.proofs.calls.Device+M.serve.Goals as goal
 
 pub returns : goal.returns
 returns g c = takes_alone false c.traces.result.touches c.serve_live.new.traces.touches c.args.self.now (Serve c.args.pool c.args.queue) c.serve_live.new.self c.serve_live.result refl c.serve_live.ensures

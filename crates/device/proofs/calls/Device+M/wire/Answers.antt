@@ -4,7 +4,7 @@ use Rattle.device.specs.declared.event.Event.TheVariants.{Wire}
 use Rattle.device.specs.World.{World, step}
 use Rattle.device.specs.Live.{told_world}
 use Rattle.device.proofs.LiveLemmas.{told_world_still}
-use Rattle.device.proofs.device.Device.wire.Goals as goal
+use Rattle.device.proofs.calls.Device+M.wire.Goals as goal
 
 pub returns-clause-world : goal.returns-clause-world
 returns-clause-world g c = c.wire_live.ensures.world ∙ ap (λ (w : World). (step w (Wire c.args.frame.now)).world) (told_world_still false c.traces.result.touches c.wire_live.new.traces.touches c.args.self.now refl c.wire_live.ensures.traced)

@@ -2,7 +2,7 @@
 use Rattle.std.proofs.Common.{arith}
 use Rattle.std.proofs.lemmas.Grind.{common_steps}
 use Rattle.mapped_memory.proofs.MappedLemmas.{mapped_written}
-use Rattle.mapped_memory.proofs.live_mem.LiveMemDma.store.Goals as goal
+use Rattle.mapped_memory.proofs.live_mem.LiveMemDmaShared.store.Goals as goal
 
 pub invariant_of-self : goal.invariant_of-self
 invariant_of-self c =

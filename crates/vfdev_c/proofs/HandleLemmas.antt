@@ -1,11 +1,9 @@
 -- What a call leaves, and when a device can be made.
-use Rattle.std.proofs.Common.{◌≡◌, ℕ, zero, suc, Bool, true, false, ◌&&◌, nat_le, List, [], ◌∷◌, replicate, length, map, refl, sym, ap, subst, ◌∙◌, true≢false}
+use Rattle.std.proofs.Common.{◌≡◌, ℕ, zero, suc, Bool, true, false, ◌&&◌, nat_le, List, [], ◌∷◌, replicate, length, refl, sym, ap, subst, ◌∙◌, true≢false}
 use Rattle.std.specs.List.{list_all}
 use Rattle.guest_memory.specs.Memory.{is_memory_size}
 use Rattle.device.specs.Events.{Event}
 use Rattle.device.specs.World.{World, step, is_frame_limit, is_makeable}
-use Rattle.vfdev_c.specs.Memory.{bytes_of}
-use Rattle.vfdev_c.specs.declared.memory.HostMem.{HostMem}
 use Rattle.vfdev_c.specs.Handle.{IsolatedStep, can_make}
 
 -- the law holds of the world that a step leaves, by whatever name
@@ -15,14 +13,6 @@ isolated_at w new e same law = subst (λ v. IsolatedStep w e v) (sym same) (law 
 -- and of one that was lent
 pub isolated_of : (w lent new : World) (e : Event) → lent ≡ w → new ≡ (step w e).world → ((e : Event) → IsolatedStep lent e (step lent e).world) → IsolatedStep w e new
 isolated_of w lent new e same there law = isolated_at w new e there (subst (λ v. (e : Event) → IsolatedStep v e (step v e).world) same law)
-
--- the sizes of memories, by their bytes
-pub sizes_of_bytes : (memories : List HostMem) (blocks : List (List ℕ)) → map bytes_of memories ≡ blocks → map (λ m. length (bytes_of m)) memories ≡ map length blocks
-sizes_of_bytes memories blocks same = fused memories ∙ ap (map length) same
-  where
-    fused : (ms : List HostMem) → map (λ m. length (bytes_of m)) ms ≡ map length (map bytes_of ms)
-    fused [] = refl
-    fused (m ∷ ms) = ap (λ xs. length (bytes_of m) ∷ xs) (fused ms)
 
 -- a device has a function
 pub none_makeable : (b : Bool) → (b && is_makeable []) ≡ true → ⊥

@@ -1,4 +1,5 @@
 mod HandleLemmas
+mod LentLemmas
 mod RecordedLemmas
 mod Silence
 pub mod Values

@@ -19,11 +19,14 @@ use Rattle.history.specs.Entries.{Entry, is_cap, events, given}
 use Rattle.history.specs.Recording.{made_like}
 use Rattle.vfdev_c.specs.declared.reply.VfdevReply.{VfdevReply}
 use Rattle.vfdev_c.specs.declared.handle_state.HandleState.{HandleState}
-use Rattle.vfdev_c.specs.declared.handle_state.HandleState.TheVariants.{Lending, Made, Kept}
+use Rattle.vfdev_c.specs.declared.handle_state.HandleState.TheVariants.{Lending, Made, Kept, Lent}
+use Rattle.vfdev_c.specs.declared.lending.Span.{Span}
+use Rattle.vfdev_c.specs.LentWorld.{LentWorld, lent_world, met_by, taken_by, AreOnce}
 use Rattle.vfdev_c.specs.Recorded.{is_full, taking}
-use Rattle.vfdev_c.specs.Spans.{Lent, none_lent, span, overlaps_one}
+use Rattle.vfdev_c.specs.Spans.{span, overlaps_one}
 
--- what a handle leads to: nothing, memories that were lent for a device, a device, or a device whose calls are kept
+-- what a handle leads to: nothing, blocks that were lent for a device, a device over memories of its own, one whose calls are kept,
+-- or a device over lent blocks
 abbrev pub Held : Type 0
 Held = Option HandleState
 
@@ -93,23 +96,32 @@ serve_asked function queue out = serve_at function (queue_of queue) out
 
 -- ---- what a call does, by what it asks
 
+-- what a call met that asks this and leaves that: where guests write the memories, the device after each guest wrote what the call read
+-- of its memory, and else what the handle led to
+abbrev pub met : Held → Requested → Held → Held
+met (Some (Lent old)) (Ok e) (Some (Lent new)) = Some (Lent (met_by old new))
+met held asked new = held
+
 -- what the handle leads to after it: an event is given to the device, where there is one, and the call is kept
 -- where calls are
 abbrev pub after : Held → Requested → Held
 after (Some (Made w)) (Ok e) = Some (Made (step w e).world)
 after (Some (Kept r)) (Ok e) = Some (Kept (taking r e))
+after (Some (Lent l)) (Ok e) = Some (Lent (taken_by l e))
 after held asked = held
 
 abbrev pub reply_to : Held → Requested → VfdevReply
 reply_to held (Err reply) = reply
 reply_to (Some (Made w)) (Ok e) = shown (step w e).answer.reply
 reply_to (Some (Kept r)) (Ok e) = if is_full r then history_full else shown (step r.live e).answer.reply
+reply_to (Some (Lent l)) (Ok e) = shown (step l.world e).answer.reply
 reply_to held (Ok e) = no_device
 
 -- the messages that it issued, for each pool
 abbrev pub raised_by : Held → Requested → List ℕ
 raised_by (Some (Made w)) (Ok e) = (step w e).answer.raised
 raised_by (Some (Kept r)) (Ok e) = if is_full r then no_messages else (step r.live e).answer.raised
+raised_by (Some (Lent l)) (Ok e) = (step l.world e).answer.raised
 raised_by held asked = no_messages
 
 -- the messages stand in the first 64 bytes, where there is room; no other byte changes
@@ -120,6 +132,7 @@ messages_in raised old = if has_room old then raised ++ drop 64 old else old
 abbrev pub left_of : Held → Requested → Option (List ℕ)
 left_of (Some (Made w)) (Ok e) = left_by w e
 left_of (Some (Kept r)) (Ok e) = if is_full r then None else left_by r.live e
+left_of (Some (Lent l)) (Ok e) = left_by l.world e
 left_of held asked = None
 
 -- it stands in the first bytes, and no other byte changes
@@ -139,6 +152,7 @@ bytes_shown reply out = out
 abbrev pub bytes_in : Held → Event → List ℕ → List ℕ
 bytes_in (Some (Made w)) e out = bytes_shown (step w e).answer.reply out
 bytes_in (Some (Kept r)) e out = if is_full r then out else bytes_shown (step r.live e).answer.reply out
+bytes_in (Some (Lent l)) e out = bytes_shown (step l.world e).answer.reply out
 bytes_in held e out = out
 
 -- it issues no messages, whatever the device is
@@ -159,7 +173,34 @@ IsolatedStep w e new = (p : ℕ) → p < length w.functions →
 abbrev pub Isolated : Held → Requested → Held → Type 0
 Isolated (Some (Made w)) (Ok e) (Some (Made new)) = IsolatedStep w e new
 Isolated (Some (Kept r)) (Ok e) (Some (Kept new)) = is_full r ≡ false → IsolatedStep r.live e new.live
+Isolated (Some (Lent l)) (Ok e) (Some (Lent new)) = IsolatedStep l.world e new.world
 Isolated held asked new = Unit
+
+-- no byte of a function's memory was read after it was read or written in the call
+abbrev pub ReadsOnce : Held → Requested → Held → Type 0
+ReadsOnce (Some (Lent old)) (Ok e) (Some (Lent new)) = AreOnce old new
+ReadsOnce old asked new = Unit
+
+-- ---- a call
+
+-- what a handle leads to after a call, and what is replied, of what the call met; to each function the call is as if it were alone
+pub record Calls (old : Held) (asked : Requested) (new : Held) (reply : VfdevReply) : Type 0 where
+  pub held : new ≡ after (met old asked new) asked
+  pub replied : reply ≡ reply_to (met old asked new) asked
+  pub isolated : Isolated (met old asked new) asked new
+  pub once : ReadsOnce old asked new
+
+-- the messages of a call
+abbrev pub raised_on : Held → Requested → Held → List ℕ
+raised_on old asked new = raised_by (met old asked new) asked
+
+-- the frame that left in a call
+abbrev pub left_on : Held → Requested → Held → Option (List ℕ)
+left_on old asked new = left_of (met old asked new) asked
+
+-- the bytes that were read in a call, and else what was there
+abbrev pub bytes_on : Held → Event → Held → List ℕ → List ℕ
+bytes_on old e new out = bytes_in (met old (Ok e) new) e out
 
 -- ---- makers
 
@@ -175,28 +216,29 @@ abbrev pub is_lending : Held → Bool
 is_lending (Some (Lending all)) = true
 is_lending held = false
 
--- the memories that were lent for a device
-abbrev pub lent_in : Held → Lent
+-- the blocks that were lent for a device
+abbrev pub lent_in : Held → List Span
 lent_in (Some (Lending all)) = all
-lent_in held = none_lent
+lent_in held = []
 
--- a block of these bytes can be lent: they are a memory, and there are fewer than 64 yet
-abbrev pub can_lend : Held → List ℕ → Bool
-can_lend held bytes = is_memory_size (length bytes) && nat_lt (length (lent_in held).blocks) 64
+-- a block of so many bytes can be lent: they are a memory, and there are fewer than 64 yet
+abbrev pub can_lend : Held → ℕ → Bool
+can_lend held len = is_memory_size len && nat_lt (length (lent_in held)) 64
 
--- a block of these bytes, which begins at the address, overlaps one that was lent
-abbrev pub is_lent_twice : Held → ℕ → List ℕ → Bool
-is_lent_twice held address bytes = overlaps_one (span address (length bytes)) (lent_in held).spans
+-- a block of so many bytes, which begins at the address, overlaps one that was lent
+abbrev pub is_lent_twice : Held → ℕ → ℕ → Bool
+is_lent_twice held address len = overlaps_one (span address len) (lent_in held)
 
 -- a device is there
 abbrev pub is_made : Held → Bool
 is_made (Some (Made w)) = true
 is_made (Some (Kept r)) = true
+is_made (Some (Lent l)) = true
 is_made held = false
 
 -- ---- kept calls
 
--- a device is there whose calls are kept, or one whose calls are not
+-- a device is there whose calls are kept, or one over memories of its own whose calls are not
 abbrev pub is_recorded : Held → Bool
 is_recorded (Some (Kept r)) = true
 is_recorded held = false

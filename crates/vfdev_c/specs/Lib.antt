@@ -1,5 +1,5 @@
 pub mod Handle
-pub mod Memory
+pub mod LentWorld
 pub mod Ownership
 pub mod Recorded
 pub mod Spans

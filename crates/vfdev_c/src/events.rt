@@ -1,7 +1,7 @@
 //! The events, but for a service: each call gives one to the device.
 ghost use Rattle.std.specs.Prelude.{◌≡◌, length, Ok};
 ghost use Rattle.device.specs.declared.event.Event.{Event};
-ghost use Rattle.vfdev_c.specs.Handle.{after, reply_to, raised_by, messages_in, bytes_in, where_room, wire_asked, write_asked, Isolated};
+ghost use Rattle.vfdev_c.specs.Handle.{Calls, raised_on, messages_in, bytes_on, where_room, wire_asked, write_asked};
 
 use crate::handle::Vfdev;
 use crate::handle_state::MOST_FRAME;
@@ -17,10 +17,7 @@ pub const POOLS: usize = 64;
 /// Opens a virtual function: its registers become initial, and its memory zero, whatever it was.
 #[unsafe(no_mangle)]
 pub extern "C" fn vfdev_open(alloc: Global, handle: &mut Vfdev, function: u8) -> VfdevReply
-    ensures held { handle.new.owner.held ≡ after handle.old.owner.held (Ok (Event.Open function)) }
-    ensures reply { result ≡ reply_to handle.old.owner.held (Ok (Event.Open function)) }
-    ensures isolated { Isolated handle.old.owner.held
-        (Ok (Event.Open function)) handle.new.owner.held }
+    ensures { Calls handle.old.owner.held (Ok (Event.Open function)) handle.new.owner.held result }
 {
     handle.give(alloc, Request::Open(function)).0
 }
@@ -28,10 +25,7 @@ pub extern "C" fn vfdev_open(alloc: Global, handle: &mut Vfdev, function: u8) ->
 /// Closes a virtual function.
 #[unsafe(no_mangle)]
 pub extern "C" fn vfdev_end(alloc: Global, handle: &mut Vfdev, function: u8) -> VfdevReply
-    ensures held { handle.new.owner.held ≡ after handle.old.owner.held (Ok (Event.End function)) }
-    ensures reply { result ≡ reply_to handle.old.owner.held (Ok (Event.End function)) }
-    ensures isolated { Isolated handle.old.owner.held
-        (Ok (Event.End function)) handle.new.owner.held }
+    ensures { Calls handle.old.owner.held (Ok (Event.End function)) handle.new.owner.held result }
 {
     handle.give(alloc, Request::End(function)).0
 }
@@ -39,10 +33,7 @@ pub extern "C" fn vfdev_end(alloc: Global, handle: &mut Vfdev, function: u8) -> 
 /// Resets a virtual function (SR-IOV 1.1, function-level reset).
 #[unsafe(no_mangle)]
 pub extern "C" fn vfdev_flr(alloc: Global, handle: &mut Vfdev, function: u8) -> VfdevReply
-    ensures held { handle.new.owner.held ≡ after handle.old.owner.held (Ok (Event.Flr function)) }
-    ensures reply { result ≡ reply_to handle.old.owner.held (Ok (Event.Flr function)) }
-    ensures isolated { Isolated handle.old.owner.held
-        (Ok (Event.Flr function)) handle.new.owner.held }
+    ensures { Calls handle.old.owner.held (Ok (Event.Flr function)) handle.new.owner.held result }
 {
     handle.give(alloc, Request::Flr(function)).0
 }
@@ -55,11 +46,7 @@ pub extern "C" fn vfdev_vf_read(
     function: u8,
     offset: u32,
 ) -> VfdevReply
-    ensures held { handle.new.owner.held
-        ≡ after handle.old.owner.held (Ok (Event.VfRead function offset)) }
-    ensures reply { result ≡ reply_to handle.old.owner.held (Ok (Event.VfRead function offset)) }
-    ensures isolated { Isolated handle.old.owner.held
-        (Ok (Event.VfRead function offset)) handle.new.owner.held }
+    ensures { Calls handle.old.owner.held (Ok (Event.VfRead function offset)) handle.new.owner.held result }
 {
     handle.give(alloc, Request::VfRead(function, offset)).0
 }
@@ -75,17 +62,9 @@ pub extern "C" fn vfdev_vf_write(
     value: u32,
     messages: &mut [u8],
 ) -> VfdevReply
-    ensures held { handle.new.owner.held
-        ≡ after handle.old.owner.held
-        (where_room messages.old (Ok (Event.VfWrite function offset value))) }
-    ensures reply { result
-        ≡ reply_to handle.old.owner.held
-        (where_room messages.old (Ok (Event.VfWrite function offset value))) }
+    ensures called { Calls handle.old.owner.held (where_room messages.old (Ok (Event.VfWrite function offset value))) handle.new.owner.held result }
     ensures messages { messages.new
-        ≡ messages_in
-        (raised_by handle.old.owner.held (Ok (Event.VfWrite function offset value))) messages.old }
-    ensures isolated { Isolated handle.old.owner.held
-        (where_room messages.old (Ok (Event.VfWrite function offset value))) handle.new.owner.held }
+        ≡ messages_in (raised_on handle.old.owner.held (where_room messages.old (Ok (Event.VfWrite function offset value))) handle.new.owner.held) messages.old }
 {
     if messages.len() < POOLS {
         return VfdevReply::no_room();
@@ -104,14 +83,8 @@ pub extern "C" fn vfdev_mem_read(
     at: u64,
     out: &mut [u8],
 ) -> VfdevReply
-    ensures held { handle.new.owner.held
-        ≡ after handle.old.owner.held (Ok (Event.MemRead function at (length out.old))) }
-    ensures reply { result
-        ≡ reply_to handle.old.owner.held (Ok (Event.MemRead function at (length out.old))) }
-    ensures bytes { out.new
-        ≡ bytes_in handle.old.owner.held (Event.MemRead function at (length out.old)) out.old }
-    ensures isolated { Isolated handle.old.owner.held
-        (Ok (Event.MemRead function at (length out.old))) handle.new.owner.held }
+    ensures called { Calls handle.old.owner.held (Ok (Event.MemRead function at (length out.old))) handle.new.owner.held result }
+    ensures bytes { out.new ≡ bytes_on handle.old.owner.held (Event.MemRead function at (length out.old)) handle.new.owner.held out.old }
 {
     handle.mem_read(alloc, function, at, out)
 }
@@ -125,11 +98,7 @@ pub extern "C" fn vfdev_mem_write(
     at: u64,
     bytes: &[u8],
 ) -> VfdevReply
-    ensures held { handle.new.owner.held
-        ≡ after handle.old.owner.held (write_asked function at bytes.now) }
-    ensures reply { result ≡ reply_to handle.old.owner.held (write_asked function at bytes.now) }
-    ensures isolated { Isolated handle.old.owner.held
-        (write_asked function at bytes.now) handle.new.owner.held }
+    ensures { Calls handle.old.owner.held (write_asked function at bytes.now) handle.new.owner.held result }
 {
     match MemSlice::new(bytes) {
         Ok(written) => handle
@@ -142,10 +111,7 @@ pub extern "C" fn vfdev_mem_write(
 /// Reads the register of the physical function at an offset in bytes.
 #[unsafe(no_mangle)]
 pub extern "C" fn vfdev_pf_read(alloc: Global, handle: &mut Vfdev, offset: u32) -> VfdevReply
-    ensures held { handle.new.owner.held ≡ after handle.old.owner.held (Ok (Event.PfRead offset)) }
-    ensures reply { result ≡ reply_to handle.old.owner.held (Ok (Event.PfRead offset)) }
-    ensures isolated { Isolated handle.old.owner.held
-        (Ok (Event.PfRead offset)) handle.new.owner.held }
+    ensures { Calls handle.old.owner.held (Ok (Event.PfRead offset)) handle.new.owner.held result }
 {
     handle.give(alloc, Request::PfRead(offset)).0
 }
@@ -158,11 +124,7 @@ pub extern "C" fn vfdev_pf_write(
     offset: u32,
     value: u32,
 ) -> VfdevReply
-    ensures held { handle.new.owner.held
-        ≡ after handle.old.owner.held (Ok (Event.PfWrite offset value)) }
-    ensures reply { result ≡ reply_to handle.old.owner.held (Ok (Event.PfWrite offset value)) }
-    ensures isolated { Isolated handle.old.owner.held
-        (Ok (Event.PfWrite offset value)) handle.new.owner.held }
+    ensures { Calls handle.old.owner.held (Ok (Event.PfWrite offset value)) handle.new.owner.held result }
 {
     handle.give(alloc, Request::PfWrite(offset, value)).0
 }
@@ -170,9 +132,7 @@ pub extern "C" fn vfdev_pf_write(
 /// Resets the device: every virtual function is closed and every setting initial.
 #[unsafe(no_mangle)]
 pub extern "C" fn vfdev_pf_reset(alloc: Global, handle: &mut Vfdev) -> VfdevReply
-    ensures held { handle.new.owner.held ≡ after handle.old.owner.held (Ok Event.PfReset) }
-    ensures reply { result ≡ reply_to handle.old.owner.held (Ok Event.PfReset) }
-    ensures isolated { Isolated handle.old.owner.held (Ok Event.PfReset) handle.new.owner.held }
+    ensures { Calls handle.old.owner.held (Ok Event.PfReset) handle.new.owner.held result }
 {
     handle.give(alloc, Request::PfReset).0
 }
@@ -186,14 +146,9 @@ pub extern "C" fn vfdev_wire(
     bytes: &[u8],
     messages: &mut [u8],
 ) -> VfdevReply
-    ensures held { handle.new.owner.held
-        ≡ after handle.old.owner.held (where_room messages.old (wire_asked bytes.now)) }
-    ensures reply { result
-        ≡ reply_to handle.old.owner.held (where_room messages.old (wire_asked bytes.now)) }
+    ensures called { Calls handle.old.owner.held (where_room messages.old (wire_asked bytes.now)) handle.new.owner.held result }
     ensures messages { messages.new
-        ≡ messages_in (raised_by handle.old.owner.held (wire_asked bytes.now)) messages.old }
-    ensures isolated { Isolated handle.old.owner.held
-        (where_room messages.old (wire_asked bytes.now)) handle.new.owner.held }
+        ≡ messages_in (raised_on handle.old.owner.held (where_room messages.old (wire_asked bytes.now)) handle.new.owner.held) messages.old }
 {
     if messages.len() < POOLS {
         return VfdevReply::no_room();

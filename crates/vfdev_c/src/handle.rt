@@ -3,7 +3,7 @@ ghost use Rattle.std.specs.Prelude.{◌≡◌, ◌≤◌, true, length, is_some,
 ghost use Rattle.wire_frame.specs.Frame.{is_frame};
 ghost use Rattle.device.specs.declared.event.Event.{Event};
 ghost use Rattle.device.specs.Request.{event_of};
-ghost use Rattle.vfdev_c.specs.Handle.{after, reply_to, raised_by, left_of, frame_in, length_in, bytes_in, Isolated};
+ghost use Rattle.vfdev_c.specs.Handle.{Calls, raised_on, left_on, frame_in, length_in, bytes_on};
 ghost use Rattle.vfdev_c.specs.Recorded.{kept_as};
 
 use crate::handle_state::HandleState;
@@ -15,8 +15,8 @@ use irq_causes::Messages;
 use std::alloc::Global;
 use std::mem::replace;
 
-/// What C holds of a device: it leads to nothing, to memories that were lent for a device, to a device, or to a device whose
-/// calls are kept.
+/// What C holds of a device: it leads to nothing, to blocks that were lent for a device, to a device over memories of its own, to one
+/// whose calls are kept, or to a device over lent blocks.
 #[repr(C)]
 #[derive(Drop)]
 pub struct Vfdev {
@@ -69,12 +69,10 @@ impl Vfdev {
     #[inline(always)]
     pub(crate) fn give(&mut self, alloc: Global, request: Request<'_>) -> (VfdevReply, Messages)
         requires { kept_as (event_of request) ≡ event_of request }
-        ensures held { self.new.owner.held
-            ≡ after self.old.owner.held (Ok (event_of request.entry)) }
-        ensures reply { result.0 ≡ reply_to self.old.owner.held (Ok (event_of request.entry)) }
-        ensures messages { result.1 ≡ raised_by self.old.owner.held (Ok (event_of request.entry)) }
-        ensures isolated { Isolated self.old.owner.held
-            (Ok (event_of request.entry)) self.new.owner.held }
+        ensures called { Calls self.old.owner.held
+            (Ok (event_of request.entry)) self.new.owner.held result.0 }
+        ensures messages { result.1
+            ≡ raised_on self.old.owner.held (Ok (event_of request.entry)) self.new.owner.held }
     {
         let Some(mut state) = self.take(alloc) else {
             return (VfdevReply::no_device(), Messages::none());
@@ -84,6 +82,10 @@ impl Vfdev {
             HandleState::Kept(recorder) => {
                 // apart from the other arms, whose answers so stay in registers
                 let (reply, raised) = recorder.take(request);
+                (reply, raised)
+            }
+            HandleState::Lent(device) => {
+                let (reply, raised) = device.take(request);
                 (reply, raised)
             }
             HandleState::Lending(_) => (VfdevReply::no_device(), Messages::none()),
@@ -96,11 +98,10 @@ impl Vfdev {
     #[inline]
     pub(crate) fn wire(&mut self, alloc: Global, bytes: &[u8]) -> (VfdevReply, Messages)
         requires { is_frame 9018 bytes.now ≡ true }
-        ensures held { self.new.owner.held ≡ after self.old.owner.held (Ok (Event.Wire bytes.now)) }
-        ensures reply { result.0 ≡ reply_to self.old.owner.held (Ok (Event.Wire bytes.now)) }
-        ensures messages { result.1 ≡ raised_by self.old.owner.held (Ok (Event.Wire bytes.now)) }
-        ensures isolated { Isolated self.old.owner.held
-            (Ok (Event.Wire bytes.now)) self.new.owner.held }
+        ensures called { Calls self.old.owner.held
+            (Ok (Event.Wire bytes.now)) self.new.owner.held result.0 }
+        ensures messages { result.1
+            ≡ raised_on self.old.owner.held (Ok (Event.Wire bytes.now)) self.new.owner.held }
     {
         let Some(mut state) = self.take(alloc) else {
             return (VfdevReply::no_device(), Messages::none());
@@ -109,6 +110,10 @@ impl Vfdev {
             HandleState::Made(running) => running.wire(bytes),
             HandleState::Kept(recorder) => {
                 let (reply, raised) = recorder.wire(bytes);
+                (reply, raised)
+            }
+            HandleState::Lent(device) => {
+                let (reply, raised) = device.wire(bytes);
                 (reply, raised)
             }
             HandleState::Lending(_) => (VfdevReply::no_device(), Messages::none()),
@@ -126,14 +131,11 @@ impl Vfdev {
         at: u64,
         out: &mut [u8],
     ) -> VfdevReply
-        ensures held { self.new.owner.held
-            ≡ after self.old.owner.held (Ok (Event.MemRead function at (length out.old))) }
-        ensures reply { result
-            ≡ reply_to self.old.owner.held (Ok (Event.MemRead function at (length out.old))) }
+        ensures called { Calls self.old.owner.held
+            (Ok (Event.MemRead function at (length out.old))) self.new.owner.held result }
         ensures bytes { out.new
-            ≡ bytes_in self.old.owner.held (Event.MemRead function at (length out.old)) out.old }
-        ensures isolated { Isolated self.old.owner.held
-            (Ok (Event.MemRead function at (length out.old))) self.new.owner.held }
+            ≡ bytes_on self.old.owner.held
+            (Event.MemRead function at (length out.old)) self.new.owner.held out.old }
     {
         let Some(mut state) = self.take(alloc) else {
             return VfdevReply::no_device();
@@ -141,6 +143,7 @@ impl Vfdev {
         let reply = match &mut *state {
             HandleState::Made(running) => running.mem_read(function, at, out),
             HandleState::Kept(recorder) => recorder.mem_read(function, at, out),
+            HandleState::Lent(device) => device.mem_read(function, at, out),
             HandleState::Lending(_) => VfdevReply::no_device(),
         };
         self.put(state);
@@ -158,17 +161,16 @@ impl Vfdev {
         left: &mut usize,
     ) -> (VfdevReply, Messages)
         requires { 9018 ≤ length out.old }
-        ensures held { self.new.owner.held
-            ≡ after self.old.owner.held (Ok (Event.Serve function queue)) }
-        ensures reply { result.0 ≡ reply_to self.old.owner.held (Ok (Event.Serve function queue)) }
+        ensures called { Calls self.old.owner.held
+            (Ok (Event.Serve function queue)) self.new.owner.held result.0 }
         ensures messages { result.1
-            ≡ raised_by self.old.owner.held (Ok (Event.Serve function queue)) }
+            ≡ raised_on self.old.owner.held (Ok (Event.Serve function queue)) self.new.owner.held }
         ensures frame { out.new
-            ≡ frame_in (left_of self.old.owner.held (Ok (Event.Serve function queue))) out.old }
+            ≡ frame_in
+            (left_on self.old.owner.held (Ok (Event.Serve function queue)) self.new.owner.held) out.old }
         ensures left { left.new
-            ≡ length_in (left_of self.old.owner.held (Ok (Event.Serve function queue))) }
-        ensures isolated { Isolated self.old.owner.held
-            (Ok (Event.Serve function queue)) self.new.owner.held }
+            ≡ length_in
+            (left_on self.old.owner.held (Ok (Event.Serve function queue)) self.new.owner.held) }
     {
         *left = 0;
         let Some(mut state) = self.take(alloc) else {
@@ -178,6 +180,10 @@ impl Vfdev {
             HandleState::Made(running) => running.serve(function, queue, out, left),
             HandleState::Kept(recorder) => {
                 let (reply, raised) = recorder.serve(function, queue, out, left);
+                (reply, raised)
+            }
+            HandleState::Lent(device) => {
+                let (reply, raised) = device.serve(function, queue, out, left);
                 (reply, raised)
             }
             HandleState::Lending(_) => (VfdevReply::no_device(), Messages::none()),

@@ -11,11 +11,12 @@ ghost use Rattle.history.specs.Entries.{events, given};
 ghost use Rattle.vfdev_c.specs.Handle.{shown, bytes_shown, frame_in, length_in, IsolatedStep};
 
 use crate::lending::LentBlocks;
-use crate::memory::HostMem;
+use crate::lent_device::LentDevice;
 use crate::recorder::Recorder;
 use crate::reply::VfdevReply;
 use device::laws::isolation;
 use device::{Device, Queue, Request};
+use guest_memory::FlatMem;
 use history::History;
 use irq_causes::Messages;
 use std::marker::Model;
@@ -33,12 +34,14 @@ pub enum HandleState {
     Made(Running),
     /// A device whose calls are kept.
     Kept(Recorder),
+    /// A device over blocks that guests write meanwhile.
+    Lent(LentDevice),
 }
 
 /// A device, with room for a frame that comes or goes.
 #[derive(Drop)]
 pub struct Running {
-    device: Device<HostMem<'static>>,
+    device: Device<FlatMem>,
     frame: FrameBuf,
 }
 
@@ -52,8 +55,8 @@ impl Model for Running {
 
 impl Running {
     /// The device.
-    pub fn of(device: Device<HostMem<'static>>) -> Running
-        ensures { result ≡ device.entry }
+    pub fn of(device: Device<FlatMem>) -> Running
+        ensures { result ≡ device }
     {
         Running {
             device,
@@ -175,7 +178,7 @@ impl Running {
 // To each function an event is as if it were alone.
 #[inline]
 #[tactic(auto, unfolding(crate::specs::Handle::IsolatedStep))]
-pub(crate) fn isolates(device: &Device<HostMem<'static>>)
+pub(crate) fn isolates(device: &Device<FlatMem>)
     ensures { (e : Event) → IsolatedStep device.now e (step device.now e).world }
 {
     let count = device.functions();

@@ -1,12 +1,13 @@
 //! Memories that are lent for a device, before it is made.
-ghost use Rattle.std.specs.Prelude.{◌≡◌, ◌≤◌, ◌<◌, length, map, IfOk};
-ghost use Rattle.vfdev_c.specs.Memory.{bytes_of};
-ghost use Rattle.vfdev_c.specs.Spans.{none_lent, one_more, overlap, overlaps_one, span};
+ghost use Rattle.std.specs.Prelude.{◌≡◌, ◌≤◌, ◌<◌, true, false, [], length, map, Err, IfOk, IfErr};
+ghost use Rattle.guest_memory.specs.Memory.{is_memory_size};
+ghost use Rattle.vfdev_c.specs.Spans.{IsBlock, AreBlocks, lengths, one_more, overlap, overlaps_one, span};
 
-use crate::memory::HostMem;
-use guest_memory::LentMem;
+use live_memory::Dma;
+use mapped_memory::LiveMem;
 use std::alloc::{AllocError, Global};
 use std::marker::Model;
+use wire_frame::Fault;
 
 /// How many memories there may be.
 pub const MOST_BLOCKS: usize = 64;
@@ -18,30 +19,34 @@ pub struct Span {
     pub len: u64,
 }
 
-/// Memories that were lent for a device that is not made yet, at most 64. A contract sees the bytes of each, and where it lies.
+/// Memories that were lent for a device that is not made yet, at most 64. Each has the bytes of one block, which its guest may write
+/// whenever it likes. A contract sees where each block lies.
 #[derive(Drop)]
 pub struct LentBlocks {
-    memories: Vec<HostMem<'static>>,
+    memories: Vec<LiveMem<'static>>,
     spans: Vec<Span>,
 }
 
 impl Model for LentBlocks {
-    ghost use Rattle.std.specs.Prelude.{map, length, vec_capacity, ◌≡◌, ◌≤◌};
-    ghost use Rattle.vfdev_c.specs.Memory.{bytes_of};
-    ghost use Rattle.vfdev_c.specs.Spans.{Lent, lent};
+    ghost use Rattle.std.specs.Prelude.{List, map, length, vec_capacity, ◌≡◌, ◌≤◌};
+    ghost use Rattle.vfdev_c.specs.declared.lending.Span.{Span};
+    ghost use Rattle.vfdev_c.specs.Spans.{AreBlocks, lengths};
 
-    ghost Value = { Lent };
+    ghost Value = { List Span };
 
-    ghost view = { λ l. lent (map bytes_of l.memories.items) l.spans.items };
+    ghost view = { λ l. l.spans.items };
 
-    ghost invariant = { λ l. (length l.memories.items ≤ 64) × (64 ≤ vec_capacity l.memories)
-        × (length l.spans.items ≡ length l.memories.items) × (64 ≤ vec_capacity l.spans) };
+    ghost invariant = { λ l. (length l.spans.items ≤ 64) × (64 ≤ vec_capacity l.memories)
+        × (64 ≤ vec_capacity l.spans)
+        × (map (λ m. length m.seen) l.memories.items ≡ lengths l.spans.items)
+        × AreBlocks l.memories.items };
 }
 
 impl LentBlocks {
     /// No memories, and room for all that there may be.
+    #[tactic(auto, unfolding(crate::specs::Spans::AreBlocks))]
     pub fn new(alloc: Global) -> Result<LentBlocks, AllocError>
-        ensures { IfOk result (λ l. l ≡ none_lent) }
+        ensures { IfOk result (λ l. l ≡ []) }
     {
         let memories = Vec::with_capacity(alloc, MOST_BLOCKS)?;
         let spans = Vec::with_capacity(alloc, MOST_BLOCKS)?;
@@ -50,39 +55,53 @@ impl LentBlocks {
 
     /// How many there are, at most 64.
     pub fn len(&self) -> usize
-        ensures count { result ≡ length self.now.blocks }
+        ensures count { result ≡ length self.now }
         ensures few { result ≤ 64 }
     {
-        self.memories.len()
+        self.spans.len()
     }
 
     /// Whether a block overlaps one of them.
     pub fn overlaps(&self, block: Span) -> bool
-        ensures { result ≡ overlaps_one block self.now.spans }
+        ensures { result ≡ overlaps_one block self.now }
     {
         self.spans.iter().any(|lent| overlap(block, *lent))
     }
 
-    /// One more, which begins at the address.
-    pub fn push(&mut self, cells: &'static mut [u8], address: u64)
-        requires { length self.old.blocks < 64 }
-        ensures { self.new ≡ one_more self.old address cells.old }
+    /// One more, whose block begins at the address.
+    pub fn push(&mut self, memory: LiveMem<'static>, address: u64)
+        requires few { length self.old < 64 }
+        requires block { IsBlock memory }
+        ensures { self.new ≡ one_more self.old address (length memory.entry.seen) }
     {
         self.spans.push_reserved(Span {
             address,
-            len: cells.len() as u64,
+            len: memory.extent(),
         });
-        self.memories
-            .push_reserved(HostMem::Lent(LentMem::new(cells)));
+        self.memories.push_reserved(memory);
     }
 
     /// The memories.
-    #[tactic(auto, using(crate::proofs::HandleLemmas::sizes_of_bytes))]
-    pub fn into_memories(self) -> Vec<HostMem<'static>>
-        ensures bytes { map bytes_of result.items ≡ self.blocks }
-        ensures sizes { map (λ m. length (bytes_of m)) result.items ≡ map length self.blocks }
+    pub fn into_memories(self) -> Vec<LiveMem<'static>>
+        ensures sizes { map (λ m. length m.seen) result.items ≡ lengths self }
+        ensures blocks { AreBlocks result.items }
     {
         self.memories
+    }
+}
+
+/// The memory that a block is. [`Fault::BadMake`] comes exactly where the length is no memory's; [`Fault::NoMemory`] only where the host
+/// refused the room.
+pub fn memory_of(alloc: Global, cells: &'static mut [u8]) -> Result<LiveMem<'static>, Fault>
+    ensures block { IfOk result (λ m. IsBlock m) }
+    ensures size { IfOk result (λ m. length m.seen ≡ length cells.old) }
+    ensures bad_make { is_memory_size (length cells.old) ≡ false → result ≡ Err Fault.BadMake }
+    ensures no_memory { IfErr result (λ e. is_memory_size (length cells.old) ≡ true → e ≡ Fault.NoMemory) }
+{
+    let mut memory = LiveMem::new(alloc, cells.len() as u64)?;
+    match memory.map(0, cells, false) {
+        Ok(()) => Ok(memory),
+        Err(_) => unreachable!(),
     }
 }
 

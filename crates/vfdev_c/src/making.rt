@@ -2,13 +2,11 @@
 ghost use Rattle.std.specs.Prelude.{◌≡◌, ℕ, ◌++◌, ◌∷◌, [], ◌&&◌, true, false, nat_eq, nat_lt, replicate, map, length, is_some, Some, None, IfOk, IfErr, if◌then◌else◌};
 ghost use Rattle.guest_memory.specs.Memory.{is_memory_size};
 ghost use Rattle.device.specs.World.{fresh, is_frame_limit, is_makeable};
-ghost use Rattle.vfdev_c.specs.Memory.{bytes_of};
 ghost use Rattle.vfdev_c.specs.Handle.{can_make, is_made, is_lending, lent_in};
 
 use crate::handle::Vfdev;
-use crate::handle_state::HandleState;
-use crate::lends::boxed_over;
-use crate::memory::HostMem;
+use crate::handle_state::{HandleState, Running};
+use device::Device;
 use guest_memory::{FlatMem, is_memory_size};
 use std::alloc::Global;
 use wire_frame::{Fault, FrameLimit};
@@ -69,7 +67,8 @@ fn boxed(alloc: Global, functions: u32, size: u64, limit: u16) -> Result<Box<Han
     if !can_make(functions, size, limit) {
         return Err(Fault::BadMake);
     }
-    boxed_over(alloc, memories(alloc, functions, size)?, limit)
+    let device = Device::with_limit(alloc, memories(alloc, functions, size)?, limit)?;
+    Ok(Box::new(alloc, HandleState::Made(Running::of(device)))?)
 }
 
 // Whether a device can be made of so many memories of the size.
@@ -80,20 +79,16 @@ pub(crate) fn can_make(functions: u32, size: u64, limit: u16) -> bool
 }
 
 // As many memories of the size, which is one of a memory.
-pub(crate) fn memories(
-    alloc: Global,
-    functions: u32,
-    size: u64,
-) -> Result<Vec<HostMem<'static>>, Fault>
+pub(crate) fn memories(alloc: Global, functions: u32, size: u64) -> Result<Vec<FlatMem>, Fault>
     requires { is_memory_size size ≡ true }
     ensures sizes { IfOk result
-        (λ all. map (λ m. length (bytes_of m)) all.items ≡ replicate functions size) }
+        (λ all. map length all.items ≡ replicate functions size) }
     ensures no_memory { IfErr result (λ e. e ≡ Fault.NoMemory) }
 {
     let mut all = Vec::new(alloc);
     for _ in 0..functions {
         let memory = FlatMem::new(alloc, size)?;
-        all.push(HostMem::Own(memory))?;
+        all.push(memory)?;
     }
     Ok(all)
 }

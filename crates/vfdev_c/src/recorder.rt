@@ -12,9 +12,9 @@ ghost use Rattle.vfdev_c.specs.Recorded.{recorded, is_full, taking, kept_as};
 ghost use Rattle.history.specs.Recording.{made_like};
 
 use crate::handle_state::{Running, isolates, issued, lay, put_frame};
-use crate::memory::HostMem;
 use crate::reply::VfdevReply;
 use device::{Device, Queue, Request};
+use guest_memory::FlatMem;
 use history::{Caller, History, Recording};
 use irq_causes::Messages;
 use std::alloc::Global;
@@ -29,7 +29,7 @@ const MOST_NAMED: usize = 65_535;
 /// A device with the calls that were made on it since it was made, and room for a frame that comes or goes.
 #[derive(Drop)]
 pub struct Recorder {
-    recording: Recording<HostMem<'static>>,
+    recording: Recording<FlatMem>,
     frame: FrameBuf,
 }
 
@@ -49,9 +49,9 @@ impl Recorder {
     ///
     /// [`Fault::BadMake`] comes exactly where `cap` is not 1 to 65,536; [`Fault::NoMemory`] only where the host refused the
     /// room.
-    pub fn new(alloc: Global, live: Device<HostMem<'static>>, cap: usize) -> Result<Recorder, Fault>
+    pub fn new(alloc: Global, live: Device<FlatMem>, cap: usize) -> Result<Recorder, Fault>
         requires { live ≡ made_like live }
-        ensures begun { IfOk result (λ r. r ≡ recorded live.entry [] cap) }
+        ensures begun { IfOk result (λ r. r ≡ recorded live [] cap) }
         ensures bad_make { is_cap cap ≡ false → result ≡ Err Fault.BadMake }
         ensures no_memory { IfErr result (λ e. is_cap cap ≡ true → e ≡ Fault.NoMemory) }
     {
@@ -183,7 +183,7 @@ impl Recorder {
 
 // How many of so many bytes an entry names.
 #[inline]
-fn named(count: usize) -> u16
+pub(crate) fn named(count: usize) -> u16
     ensures { result ≡ (if nat_le count 65535 then count else 65535) }
 {
     if count <= MOST_NAMED {

@@ -19,7 +19,7 @@ pub const SAME: u32 = 0;
 pub const DIFFERENT: u32 = 1;
 /// What a replay answers where no calls are kept of the first device, or there is none.
 pub const NOT_RECORDED: u32 = 2;
-/// What a replay answers where there is no other device, or its calls are kept.
+/// What a replay answers where there is no other device, its calls are kept, or guests write its memories.
 pub const NO_OTHER: u32 = 3;
 
 /// Makes a device as [`vfdev_make`](crate::making::vfdev_make) does, whose calls are kept from the first on, `calls` at most,
@@ -65,7 +65,7 @@ pub extern "C" fn vfdev_kept(alloc: Global, handle: &mut Vfdev) -> usize
     };
     let kept = match &*state {
         HandleState::Kept(recorder) => recorder.kept(),
-        HandleState::Made(_) | HandleState::Lending(_) => 0,
+        HandleState::Made(_) | HandleState::Lending(_) | HandleState::Lent(_) => 0,
     };
     handle.put(state);
     kept
@@ -95,7 +95,7 @@ pub extern "C" fn vfdev_replay(alloc: Global, handle: &mut Vfdev, other: &mut Vf
     };
     let answer = match &*state {
         HandleState::Kept(recorder) => replay_on(alloc, recorder, other),
-        HandleState::Made(_) | HandleState::Lending(_) => NOT_RECORDED,
+        HandleState::Made(_) | HandleState::Lending(_) | HandleState::Lent(_) => NOT_RECORDED,
     };
     handle.put(state);
     answer
@@ -119,7 +119,7 @@ fn replay_on(alloc: Global, recorder: &Recorder, other: &mut Vfdev) -> u32
     };
     let answer = match &mut *state {
         HandleState::Made(running) => said(recorder.replays(running)),
-        HandleState::Kept(_) | HandleState::Lending(_) => NO_OTHER,
+        HandleState::Kept(_) | HandleState::Lending(_) | HandleState::Lent(_) => NO_OTHER,
     };
     other.put(state);
     answer

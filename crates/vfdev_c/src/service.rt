@@ -1,6 +1,6 @@
 //! The service of a transmit queue, with the frame that leaves.
 ghost use Rattle.std.specs.Prelude.{◌≡◌};
-ghost use Rattle.vfdev_c.specs.Handle.{after, reply_to, raised_by, messages_in, left_of, frame_in, length_in, where_room, serve_asked, queue_of, Isolated};
+ghost use Rattle.vfdev_c.specs.Handle.{Calls, raised_on, messages_in, left_on, frame_in, length_in, where_room, serve_asked, queue_of};
 
 use crate::events::{POOLS, put_messages};
 use crate::handle::Vfdev;
@@ -25,25 +25,13 @@ pub extern "C" fn vfdev_serve_frame(
     left: &mut usize,
     messages: &mut [u8],
 ) -> VfdevReply
-    ensures held { handle.new.owner.held
-        ≡ after handle.old.owner.held
-        (where_room messages.old (serve_asked function queue out.old)) }
-    ensures reply { result
-        ≡ reply_to handle.old.owner.held
-        (where_room messages.old (serve_asked function queue out.old)) }
+    ensures called { Calls handle.old.owner.held (where_room messages.old (serve_asked function queue out.old)) handle.new.owner.held result }
     ensures messages { messages.new
-        ≡ messages_in
-        (raised_by handle.old.owner.held (serve_asked function queue out.old)) messages.old }
+        ≡ messages_in (raised_on handle.old.owner.held (where_room messages.old (serve_asked function queue out.old)) handle.new.owner.held) messages.old }
     ensures frame { out.new
-        ≡ frame_in
-        (left_of handle.old.owner.held
-        (where_room messages.old (serve_asked function queue out.old))) out.old }
+        ≡ frame_in (left_on handle.old.owner.held (where_room messages.old (serve_asked function queue out.old)) handle.new.owner.held) out.old }
     ensures left { left.new
-        ≡ length_in
-        (left_of handle.old.owner.held
-        (where_room messages.old (serve_asked function queue out.old))) }
-    ensures isolated { Isolated handle.old.owner.held
-        (where_room messages.old (serve_asked function queue out.old)) handle.new.owner.held }
+        ≡ length_in (left_on handle.old.owner.held (where_room messages.old (serve_asked function queue out.old)) handle.new.owner.held) }
 {
     *left = 0;
     if messages.len() < POOLS {

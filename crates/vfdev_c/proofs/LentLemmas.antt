@@ -1,0 +1,66 @@
+-- Blocks that are lent, and the device over them.
+use Rattle.std.proofs.Common.{rules, arith, ◌≡◌, ◌≤◌, ℕ, Bool, true, false, nat_le, List, [], ◌∷◌, ◌++◌, length, map, drop, refl, sym, ap, subst, ◌∙◌}
+use Rattle.std.specs.Prelude.{if◌then◌else◌}
+use Rattle.std.proofs.lemmas.List.{take_all}
+use Rattle.live_memory.specs.Traces.{Touches}
+use Rattle.mapped_memory.specs.Regions.{Regions}
+use Rattle.device.specs.Events.{Event}
+use Rattle.device.specs.declared.event.Reply.TheVariants.{Done, Value, Bytes, Idle, More, Sent, Dropped, Faulted, Refused}
+use Rattle.device.specs.Live.{told_world}
+use Rattle.device.specs.Outcome.{Outcome, HasCount, HoldsIn, bytes_told, reply_in}
+use Rattle.device.specs.World.{World, step}
+use Rattle.device.proofs.LiveLemmas.{length_told}
+use Rattle.vfdev_c.specs.declared.lending.Span.{Span}
+use Rattle.vfdev_c.specs.Spans.{span, lengths, IsBlock, AreBlocks}
+use Rattle.vfdev_c.specs.Handle.{IsolatedStep, bytes_shown}
+
+-- ---- one block more
+
+pub blocks_more : (ms : List Regions) (m : Regions) → AreBlocks ms → IsBlock m → AreBlocks (ms ++ m ∷ [])
+unfolding AreBlocks
+blocks_more [] m are is = (is, tt)
+blocks_more (n ∷ ms) m are is = (are.0, blocks_more ms m are.1 is)
+
+pub sizes_more : (ms : List Regions) (spans : List Span) (m : Regions) (address len : ℕ) → len ≡ length m.seen → map (λ (m : Regions). length m.seen) ms ≡ lengths spans
+    → map (λ (m : Regions). length m.seen) (ms ++ m ∷ []) ≡ lengths (spans ++ span address len ∷ [])
+sizes_more ms spans m address len is same =
+    over ms ∙ ap (λ xs. xs ++ length m.seen ∷ []) same ∙ ap (λ n. lengths spans ++ n ∷ []) (sym is) ∙ sym (other spans)
+  where
+    over : (ms : List Regions) → map (λ (m : Regions). length m.seen) (ms ++ m ∷ []) ≡ map (λ (m : Regions). length m.seen) ms ++ length m.seen ∷ []
+    over [] = refl
+    over (n ∷ ms) = ap (λ xs. length n.seen ∷ xs) (over ms)
+
+    other : (ss : List Span) → lengths (ss ++ span address len ∷ []) ≡ lengths ss ++ len ∷ []
+    other [] = refl
+    other (s ∷ ss) = ap (λ xs. s.len ∷ xs) (other ss)
+
+-- ---- the device over them
+
+-- the law holds of the world that a call met
+pub isolated_met : (w new : World) (before now : Touches) (e : Event) → new ≡ (step (told_world before now w) e).world
+    → ((v : World) (e : Event) → length v.functions ≡ length w.functions → IsolatedStep v e (step v e).world)
+    → IsolatedStep (told_world before now w) e new
+isolated_met w new before now e is law =
+    subst (λ v. IsolatedStep (told_world before now w) e v) (sym is) (law (told_world before now w) e (length_told before now w.functions))
+
+-- ---- bytes that were read
+
+-- a read that was done has as many bytes as were asked for
+full : (n k : ℕ) (within : Bool) → k ≤ 2048 → k ≡ (if within then n else 65535) → k ≡ n
+full n k true small same = same
+full n k false small same = omega (arith, small, same)
+
+-- they fill the room, and else it stays
+pub read_fills : (w : World) (o : Outcome) (old new : List ℕ) → length new ≡ length old → HasCount (if nat_le (length old) 65535 then length old else 65535) o
+    → HoldsIn new w o → drop (bytes_told o) new ≡ drop (bytes_told o) old → new ≡ bytes_shown (reply_in w o) old
+read_fills w (Bytes read) old new same count holds rest =
+    let all : read.count ≡ length new = full (length old) read.count (nat_le (length old) 65535) read.short count ∙ sym same in
+    sym (take_all read.count new (search rules)) ∙ holds
+read_fills w Done old new same count holds rest = rest
+read_fills w (Value x) old new same count holds rest = rest
+read_fills w Idle old new same count holds rest = rest
+read_fills w More old new same count holds rest = rest
+read_fills w Sent old new same count holds rest = rest
+read_fills w Dropped old new same count holds rest = rest
+read_fills w Faulted old new same count holds rest = rest
+read_fills w (Refused fault) old new same count holds rest = rest

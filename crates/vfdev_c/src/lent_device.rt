@@ -1,0 +1,182 @@
+//! A device over blocks that guests write while it works on them.
+ghost use Rattle.std.specs.Prelude.{◌≡◌, ◌≤◌, ◌&&◌, true, false, [], map, length, Err, IfOk, IfErr, option_copied};
+ghost use Rattle.wire_frame.specs.Frame.{is_frame};
+ghost use Rattle.device.specs.declared.event.Event.TheVariants.{MemRead, Serve, Wire};
+ghost use Rattle.device.specs.Events.{Event};
+ghost use Rattle.device.specs.World.{World, step, fresh, is_frame_limit, is_makeable};
+ghost use Rattle.device.specs.Request.{event_of};
+ghost use Rattle.device.specs.Outcome.{left_by};
+ghost use Rattle.vfdev_c.specs.Handle.{shown, bytes_shown, frame_in, length_in, IsolatedStep};
+ghost use Rattle.vfdev_c.specs.LentWorld.{untouched, met_by, taken_by, AreOnce};
+
+use crate::handle_state::{issued, lay, put_frame};
+use crate::recorder::named;
+use crate::reply::VfdevReply;
+use device::laws::isolation;
+use device::{Device, Queue, Request};
+use irq_causes::Messages;
+use live_memory::{Shared, Touch, Traces};
+use mapped_memory::LiveMem;
+use std::alloc::Global;
+use std::marker::Model;
+use wire_frame::{Fault, FrameBuf};
+
+/// A device over blocks that guests write while it works on them, with room for a frame that comes or goes, and for bytes that are
+/// read. A contract sees its world, and what it read of each function's memory, and wrote there, since it was made.
+#[derive(Drop)]
+pub struct LentDevice {
+    device: Device<LiveMem<'static>, Shared>,
+    traces: Traces,
+    frame: FrameBuf,
+    bytes: [u8; 2048],
+}
+
+impl Model for LentDevice {
+    ghost use Rattle.vfdev_c.specs.LentWorld.{LentWorld, lent_world};
+
+    ghost Value = { LentWorld };
+
+    ghost view = { λ d. lent_world d.device d.traces.touches };
+}
+
+impl LentDevice {
+    /// A device of closed functions, each over one of the memories. [`Fault::BadMake`] comes exactly where there are none or more than
+    /// 64, one has a size outside the limits, or the limit is not 1518 to 9018; [`Fault::NoMemory`] only where the host refused the room.
+    pub fn new(
+        alloc: Global,
+        memories: Vec<LiveMem<'static>>,
+        limit: u16,
+    ) -> Result<LentDevice, Fault>
+        ensures ok { IfOk result
+            (λ d. d ≡ untouched (fresh limit (map (λ m. length m.seen) memories.entry.items))) }
+        ensures bad_make { (is_frame_limit limit && is_makeable (map (λ m. length m.seen) memories.entry.items)) ≡ false
+            → result ≡ Err Fault.BadMake }
+        ensures no_memory { IfErr result
+            (λ e.
+            (is_frame_limit limit && is_makeable (map (λ m. length m.seen) memories.entry.items))
+            ≡ true → e ≡ Fault.NoMemory) }
+    {
+        let device = Device::with_limit(alloc, memories, limit)?;
+        Ok(LentDevice {
+            device,
+            traces: Touch::None.traces(),
+            frame: FrameBuf::blank(),
+            bytes: [0; 2048],
+        })
+    }
+
+    /// Gives it the event that a request stands for.
+    pub fn take(&mut self, request: Request<'_>) -> (VfdevReply, Messages)
+        ensures taken { self.new ≡ taken_by (met_by self.old self.new) (event_of request.entry) }
+        ensures reply { result.0
+            ≡ shown (step (met_by self.old self.new).world (event_of request.entry)).answer.reply }
+        ensures messages { result.1
+            ≡ (step (met_by self.old self.new).world (event_of request.entry)).answer.raised }
+        ensures isolated { IsolatedStep (met_by self.old self.new).world
+            (event_of request.entry) self.new.world }
+        ensures once { AreOnce self.old self.new }
+    {
+        let LentDevice {
+            device,
+            traces,
+            frame,
+            bytes,
+        } = self;
+        isolates_any(device);
+        let taken = device.take_live(traces, request, frame, bytes);
+        (VfdevReply::of(taken.outcome), taken.messages)
+    }
+
+    /// Gives it a frame from the wire.
+    pub fn wire(&mut self, bytes: &[u8]) -> (VfdevReply, Messages)
+        requires { is_frame 9018 bytes.now ≡ true }
+        ensures taken { self.new ≡ taken_by (met_by self.old self.new) (Wire bytes.now) }
+        ensures reply { result.0
+            ≡ shown (step (met_by self.old self.new).world (Wire bytes.now)).answer.reply }
+        ensures messages { result.1
+            ≡ (step (met_by self.old self.new).world (Wire bytes.now)).answer.raised }
+        ensures isolated { IsolatedStep (met_by self.old self.new).world
+            (Wire bytes.now) self.new.world }
+        ensures once { AreOnce self.old self.new }
+    {
+        let LentDevice {
+            device,
+            traces,
+            frame,
+            bytes: _,
+        } = self;
+        isolates_any(device);
+        lay(frame, bytes);
+        issued(device.wire_live(traces, frame))
+    }
+
+    /// Reads bytes of a guest's memory once, and fills `out` with them; where it is refused, `out` stays.
+    pub fn mem_read(&mut self, function: u8, at: u64, out: &mut [u8]) -> VfdevReply
+        ensures taken { self.new
+            ≡ taken_by (met_by self.old self.new) (MemRead function at (length out.old)) }
+        ensures reply { result
+            ≡ shown
+            (step (met_by self.old self.new).world (MemRead function at (length out.old))).answer.reply }
+        ensures bytes { out.new
+            ≡ bytes_shown
+            (step (met_by self.old self.new).world (MemRead function at (length out.old))).answer.reply
+            out.old }
+        ensures isolated { IsolatedStep (met_by self.old self.new).world
+            (MemRead function at (length out.old)) self.new.world }
+        ensures once { AreOnce self.old self.new }
+    {
+        isolates_any(&self.device);
+        let count = named(out.len());
+        let taken = self
+            .device
+            .mem_read_live(&mut self.traces, function, at, count, out);
+        VfdevReply::of(taken.outcome)
+    }
+
+    /// Takes the next descriptor of a transmit queue. A frame that leaves for the wire is laid into the first bytes of
+    /// `out`, and `left` is its length, and else 0.
+    pub fn serve(
+        &mut self,
+        function: u8,
+        queue: Queue,
+        out: &mut [u8],
+        left: &mut usize,
+    ) -> (VfdevReply, Messages)
+        requires { 9018 ≤ length out.old }
+        ensures taken { self.new ≡ taken_by (met_by self.old self.new) (Serve function queue) }
+        ensures reply { result.0
+            ≡ shown (step (met_by self.old self.new).world (Serve function queue)).answer.reply }
+        ensures messages { result.1
+            ≡ (step (met_by self.old self.new).world (Serve function queue)).answer.raised }
+        ensures frame { out.new
+            ≡ frame_in (left_by (met_by self.old self.new).world (Serve function queue)) out.old }
+        ensures left { left.new
+            ≡ length_in (left_by (met_by self.old self.new).world (Serve function queue)) }
+        ensures isolated { IsolatedStep (met_by self.old self.new).world
+            (Serve function queue) self.new.world }
+        ensures once { AreOnce self.old self.new }
+    {
+        let LentDevice {
+            device,
+            traces,
+            frame,
+            bytes: _,
+        } = self;
+        isolates_any(device);
+        let taken = device.serve_live(traces, function, queue, frame);
+        *left = put_frame(taken.left, out);
+        (VfdevReply::of(taken.outcome), taken.messages)
+    }
+}
+
+// To each function an event is as if it were alone, in whatever world of as many functions.
+#[inline]
+#[tactic(auto, unfolding(crate::specs::Handle::IsolatedStep))]
+fn isolates_any(device: &Device<LiveMem<'static>, Shared>)
+    ensures { (w : World) (e : Event) → length w.functions ≡ length device.now.functions
+        → IsolatedStep w e (step w e).world }
+{
+    let count = device.functions();
+    prove!(count <= 64);
+    isolation();
+}

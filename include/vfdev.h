@@ -2,13 +2,16 @@
  *
  * The archive is made of code that is proved to meet its contracts. After each call the device is what its definition says. The
  * reply, the messages and the bytes that are handed out are those of the definition. To each virtual function an event is as if
- * that function were alone. docs/EMBEDDING.md says what this rests on. vfdev_regs.h has the registers by name.
+ * that function were alone. Guests may write the blocks that were lent for a device whenever they like: a call does what the
+ * definition says of the bytes that it read, and reads none of them twice. docs/EMBEDDING.md says what this rests on. vfdev_regs.h
+ * has the registers by name.
  *
  * What C owes, and nothing checks:
  *   - A vfdev begins as VFDEV_NONE. Its fields are never read or written, and it is never copied while it leads to
  *     anything.
  *   - A pointer with a length leads to so many bytes of one live object, also where the length is 0. No pointer is NULL, but for
- *     `left` of vfdev_serve. A buffer that is written is touched by nothing else during the call, and overlaps no other argument.
+ *     `left` of vfdev_serve. A buffer that is written is touched by nothing else during the call, and overlaps no other argument. A
+ *     block that was lent is no such buffer: see vfdev_lend.
  *   - One call at a time for one vfdev. It may go from thread to thread; a lock or the like orders the calls.
  *   - No call from a signal handler, or in the child of a fork of a process with threads.
  *   - malloc, realloc and free are those of one allocator, which aligns a block to each power of two up to 16 that divides
@@ -107,7 +110,7 @@ enum vfdev_replayed {
     VFDEV_SAME = 0,         /* the other device gave the recorded answer to each recorded call */
     VFDEV_DIFFERENT = 1,    /* it gave another answer to one of them */
     VFDEV_NOT_RECORDED = 2, /* there is no first device, or its calls are not recorded; the other was not asked */
-    VFDEV_NO_OTHER = 3      /* there is no other device, or its own calls are recorded; it was not asked */
+    VFDEV_NO_OTHER = 3      /* there is no other device, its own calls are recorded, or its memories were lent; it was not asked */
 };
 
 /* A reply. The value is 0 but for VFDEV_VALUE and VFDEV_REFUSED. */
@@ -148,12 +151,13 @@ VFDEV_LOOK enum vfdev_fault vfdev_lend_at(vfdev *device, vfdev_block block, uint
 /* Lends a block as the memory of the next virtual function of a device that is to be made; its first byte is at address 0 of
  * that memory. Blocks have the sizes of memories, and there are at most 64. VFDEV_HELD where there is a device, then
  * VFDEV_BAD_MAKE exactly where the length is no memory's or 64 were lent, then VFDEV_OVERLAPS exactly where the block has a byte in
- * common with one that was lent for this device, and VFDEV_NO_MEMORY only where the host refused. Wherever the answer is not VFDEV_OK
+ * common with one that was lent for this device, and VFDEV_NO_MEMORY only where the host refused: some 3 KB are taken for each block. Wherever the answer is not VFDEV_OK
  * the block is not used. Blocks of two devices are not compared, nor addresses that lead to the same memory.
  *
- * The block stays the device's until vfdev_free. During a call nothing else reads or writes it: no other thread, and no
- * processor of a guest. Between calls its owner may change it, as the guest's driver does: each call is proved of the bytes
- * that stand there when it begins. vfdev_open writes zeros over all of it. */
+ * The block stays mapped until vfdev_free. The processors of its guest may read and write it at any time, also during a call. So may
+ * threads of this process, by volatile or atomic accesses. What a call reads of it, it reads once, and it does what it would do had
+ * the guest written just those bytes right before it. So what stands there during a call is the guest's own affair: it changes nothing
+ * for another function but the frames that the filters let through. vfdev_open writes zeros over all of it. */
 VFDEV_LOOK static inline enum vfdev_fault vfdev_lend(vfdev *device, vfdev_block block)
 {
     return vfdev_lend_at(device, block, (uint64_t)(uintptr_t)block.at);
@@ -248,8 +252,8 @@ size_t vfdev_kept(vfdev *device);
  * where the calls of `device` are not recorded, and then VFDEV_NO_OTHER where there is no such `other`. Nothing of `device` changes;
  * `other` is what the events make of it.
  *
- * VFDEV_SAME is certain where vfdev_make or vfdev_make_lent just made `other`, with as many functions, memories of the same sizes
- * and the same limit; it is then as `device` is. A replay takes no memory, and some 40 KB of stack. */
+ * A device over lent blocks is no such `other`, since its guests may write them meanwhile. VFDEV_SAME is certain where vfdev_make just
+ * made `other`, with as many functions, memories of the same size and the same limit; it is then as `device` is. A replay takes no memory, and some 40 KB of stack. */
 VFDEV_LOOK enum vfdev_replayed vfdev_replay(vfdev *device, vfdev *other);
 
 /* ---- texts ------------------------------------------------------------------------------------------------------- */

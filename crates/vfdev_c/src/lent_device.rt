@@ -125,11 +125,15 @@ impl LentDevice {
             (MemRead function at (length out.old)) self.new.world }
         ensures once { AreOnce self.old self.new }
     {
-        isolates_any(&self.device);
+        let LentDevice {
+            device,
+            traces,
+            frame: _,
+            bytes: _,
+        } = self;
+        isolates_any(device);
         let count = named(out.len());
-        let taken = self
-            .device
-            .mem_read_live(&mut self.traces, function, at, count, out);
+        let taken = device.mem_read_live(traces, function, at, count, out);
         VfdevReply::of(taken.outcome)
     }
 

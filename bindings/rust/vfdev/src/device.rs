@@ -2,6 +2,7 @@
 
 use crate::kinds::{Fault, Messages, Queue, Replayed, Served, MOST_FRAME};
 use crate::raw;
+use std::ptr::NonNull;
 
 /// A device. Calls take `&mut self`, so that one is made at a time; [`SharedDevice`](crate::SharedDevice) has a lock.
 ///
@@ -81,6 +82,43 @@ impl Device<'static> {
         let answer = unsafe { raw::vfdev_make_recorded(handle, functions, memory, limit, calls) };
         made(answer).map(|()| device)
     }
+
+    /// A device of closed functions, each over one of the blocks, which its guest writes whenever it likes, also during a call. What a call
+    /// reads of a block, it reads once, and it does what it would do had the guest written just those bytes right before it.
+    ///
+    /// # Errors
+    /// [`Fault::Overlaps`] where two blocks have a byte in common; [`Fault::BadMake`] and [`Fault::NoMemory`] as [`Device::new`] has them.
+    ///
+    /// # Safety
+    /// Each block is mapped, to be read and written, until the device is dropped. In this process only raw pointers and atomics lead to it,
+    /// and who reads or writes it by them does so by volatile or atomic accesses.
+    ///
+    /// ```
+    /// use std::{ptr::NonNull, sync::atomic::{AtomicU8, Ordering}};
+    /// use vfdev::{Device, Fault};
+    /// const ZERO: AtomicU8 = AtomicU8::new(0);
+    /// static MEMORY: [AtomicU8; 4096] = [ZERO; 4096];
+    /// let at = NonNull::from(&MEMORY).cast();
+    /// // SAFETY: the block is there as long as the program runs, and all write it by atomic accesses.
+    /// let mut device = unsafe { Device::over_guests(&[NonNull::slice_from_raw_parts(at, 4096)], 1518) }?;
+    /// device.open(0)?;
+    /// MEMORY[17].store(2, Ordering::Relaxed);
+    /// let mut out = [0; 2];
+    /// device.mem_read(0, 16, &mut out)?;
+    /// assert_eq!(out, [0, 2]);
+    /// # Ok::<(), Fault>(())
+    /// ```
+    pub unsafe fn over_guests(
+        blocks: &[NonNull<[u8]>],
+        limit: u16,
+    ) -> Result<Device<'static>, Fault> {
+        let mut device = Device::empty()?;
+        for cells in blocks {
+            // SAFETY: the caller answers for the blocks.
+            unsafe { device.lend(*cells) }?;
+        }
+        device.make_lent(limit)
+    }
 }
 
 impl<'m> Device<'m> {
@@ -109,17 +147,30 @@ impl<'m> Device<'m> {
     pub fn over(blocks: Vec<&'m mut [u8]>, limit: u16) -> Result<Device<'m>, Fault> {
         let mut device = Device::empty()?;
         for cells in blocks {
-            let block = raw::Block {
-                at: cells.as_mut_ptr(),
-                len: cells.len(),
-            };
-            let address = block.at as u64;
             // SAFETY: the block leads to bytes that are borrowed for 'm, which outlives the device, and to nobody else.
-            made(unsafe { raw::vfdev_lend_at(&mut device.handle, block, address) })?;
+            unsafe { device.lend(NonNull::from(cells)) }?;
         }
+        device.make_lent(limit)
+    }
+
+    // Lends one more block.
+    //
+    // SAFETY: the block leads to mapped bytes until the device is dropped, which others may write by volatile or atomic accesses.
+    unsafe fn lend(&mut self, cells: NonNull<[u8]>) -> Result<(), Fault> {
+        let block = raw::Block {
+            at: cells.as_ptr().cast(),
+            len: cells.len(),
+        };
+        let address = block.at as u64;
+        // SAFETY: the caller answers for the block, and the reference leads to one live value, which only this device holds.
+        made(unsafe { raw::vfdev_lend_at(&mut self.handle, block, address) })
+    }
+
+    // Makes the device of the blocks that were lent.
+    fn make_lent(mut self, limit: u16) -> Result<Device<'m>, Fault> {
         // SAFETY: the reference leads to one live value, which only this function holds.
-        made(unsafe { raw::vfdev_make_lent(&mut device.handle, limit) })?;
-        Ok(device)
+        made(unsafe { raw::vfdev_make_lent(&mut self.handle, limit) })?;
+        Ok(self)
     }
 
     fn empty() -> Result<Device<'m>, Fault> {

@@ -1,5 +1,5 @@
 -- Blocks that are lent, and the device over them.
-use Rattle.std.proofs.Common.{rules, arith, ◌≡◌, ◌≤◌, ℕ, Bool, true, false, nat_le, List, [], ◌∷◌, ◌++◌, length, map, drop, refl, sym, ap, subst, ◌∙◌}
+use Rattle.std.proofs.Common.{rules, arith, ◌≡◌, ◌≤◌, ℕ, suc, Bool, true, false, nat_le, List, [], ◌∷◌, ◌++◌, length, map, drop, refl, sym, ap, subst, ◌∙◌}
 use Rattle.std.specs.Prelude.{if◌then◌else◌}
 use Rattle.std.proofs.lemmas.List.{take_all}
 use Rattle.live_memory.specs.Traces.{Touches}
@@ -11,7 +11,7 @@ use Rattle.device.specs.Outcome.{Outcome, HasCount, HoldsIn, bytes_told, reply_i
 use Rattle.device.specs.World.{World, step}
 use Rattle.device.proofs.LiveLemmas.{length_told}
 use Rattle.vfdev_c.specs.declared.lending.Span.{Span}
-use Rattle.vfdev_c.specs.Spans.{span, lengths, IsBlock, AreBlocks}
+use Rattle.vfdev_c.specs.Spans.{span, lent, one_more, block_of, blocks_of, IsBlock, AreBlocks}
 use Rattle.vfdev_c.specs.Handle.{IsolatedStep, bytes_shown}
 
 -- ---- one block more
@@ -21,18 +21,26 @@ unfolding AreBlocks
 blocks_more [] m are is = (is, tt)
 blocks_more (n ∷ ms) m are is = (are.0, blocks_more ms m are.1 is)
 
-pub sizes_more : (ms : List Regions) (spans : List Span) (m : Regions) (address len : ℕ) → len ≡ length m.seen → map (λ (m : Regions). length m.seen) ms ≡ lengths spans
-    → map (λ (m : Regions). length m.seen) (ms ++ m ∷ []) ≡ lengths (spans ++ span address len ∷ [])
-sizes_more ms spans m address len is same =
-    over ms ∙ ap (λ xs. xs ++ length m.seen ∷ []) same ∙ ap (λ n. lengths spans ++ n ∷ []) (sym is) ∙ sym (other spans)
-  where
-    over : (ms : List Regions) → map (λ (m : Regions). length m.seen) (ms ++ m ∷ []) ≡ map (λ (m : Regions). length m.seen) ms ++ length m.seen ∷ []
-    over [] = refl
-    over (n ∷ ms) = ap (λ xs. length n.seen ∷ xs) (over ms)
+-- they have the lengths of the blocks
+pub sizes_of_blocks : (ms : List Regions) → AreBlocks ms → map (λ (m : Regions). length m.seen) ms ≡ map length (blocks_of ms)
+unfolding AreBlocks IsBlock
+sizes_of_blocks [] are = refl
+sizes_of_blocks (m ∷ ms) are = λ i. are.0.1 i ∷ sizes_of_blocks ms are.1 i
 
-    other : (ss : List Span) → lengths (ss ++ span address len ∷ []) ≡ lengths ss ++ len ∷ []
-    other [] = refl
-    other (s ∷ ss) = ap (λ xs. s.len ∷ xs) (other ss)
+-- and there are as many
+pub as_many : (ms : List Regions) → length (blocks_of ms) ≡ length ms
+as_many [] = refl
+as_many (m ∷ ms) = ap suc (as_many ms)
+
+-- what was lent, with one block more
+pub lent_more : (ms : List Regions) (spans : List Span) (m : Regions) (address len : ℕ) → IsBlock m → len ≡ length m.seen
+    → lent (blocks_of (ms ++ m ∷ [])) (spans ++ span address len ∷ []) ≡ one_more (lent (blocks_of ms) spans) address (block_of m)
+unfolding IsBlock
+lent_more ms spans m address len is same = λ i. lent (blocks ms i) (spans ++ span address ((same ∙ is.1) i) ∷ [])
+  where
+    blocks : (ms : List Regions) → blocks_of (ms ++ m ∷ []) ≡ blocks_of ms ++ block_of m ∷ []
+    blocks [] = refl
+    blocks (n ∷ ms) = ap (λ xs. block_of n ∷ xs) (blocks ms)
 
 -- ---- the device over them
 

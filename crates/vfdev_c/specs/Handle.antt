@@ -20,10 +20,9 @@ use Rattle.history.specs.Recording.{made_like}
 use Rattle.vfdev_c.specs.declared.reply.VfdevReply.{VfdevReply}
 use Rattle.vfdev_c.specs.declared.handle_state.HandleState.{HandleState}
 use Rattle.vfdev_c.specs.declared.handle_state.HandleState.TheVariants.{Lending, Made, Kept, Lent}
-use Rattle.vfdev_c.specs.declared.lending.Span.{Span}
 use Rattle.vfdev_c.specs.LentWorld.{LentWorld, lent_world, met_by, taken_by, AreOnce}
 use Rattle.vfdev_c.specs.Recorded.{is_full, taking}
-use Rattle.vfdev_c.specs.Spans.{span, overlaps_one}
+use Rattle.vfdev_c.specs.Spans.{Lent as Blocks, none_lent, span, overlaps_one}
 
 -- what a handle leads to: nothing, blocks that were lent for a device, a device over memories of its own, one whose calls are kept,
 -- or a device over lent blocks
@@ -217,17 +216,17 @@ is_lending (Some (Lending all)) = true
 is_lending held = false
 
 -- the blocks that were lent for a device
-abbrev pub lent_in : Held → List Span
+abbrev pub lent_in : Held → Blocks
 lent_in (Some (Lending all)) = all
-lent_in held = []
+lent_in held = none_lent
 
--- a block of so many bytes can be lent: they are a memory, and there are fewer than 64 yet
-abbrev pub can_lend : Held → ℕ → Bool
-can_lend held len = is_memory_size len && nat_lt (length (lent_in held)) 64
+-- a block of these bytes can be lent: they are a memory, and there are fewer than 64 yet
+abbrev pub can_lend : Held → List ℕ → Bool
+can_lend held bytes = is_memory_size (length bytes) && nat_lt (length (lent_in held).blocks) 64
 
--- a block of so many bytes, which begins at the address, overlaps one that was lent
-abbrev pub is_lent_twice : Held → ℕ → ℕ → Bool
-is_lent_twice held address len = overlaps_one (span address len) (lent_in held)
+-- a block of these bytes, which begins at the address, overlaps one that was lent
+abbrev pub is_lent_twice : Held → ℕ → List ℕ → Bool
+is_lent_twice held address bytes = overlaps_one (span address (length bytes)) (lent_in held).spans
 
 -- a device is there
 abbrev pub is_made : Held → Bool

@@ -1,7 +1,7 @@
 -- The blocks that are lent for a device: where they lie, and the memories that they are.
 use Rattle.std.specs.Prelude.{◌≡◌, ℕ, ◌+◌, Bool, false, ◌&&◌, nat_lt, List, [], ◌∷◌, ◌++◌, length, map}
 use Rattle.std.specs.List.{list_any}
-use Rattle.mapped_memory.specs.Regions.{Regions}
+use Rattle.mapped_memory.specs.Regions.{Part, Regions}
 use Rattle.vfdev_c.specs.declared.lending.Span.{Span}
 
 -- from the address on, so many bytes
@@ -15,17 +15,36 @@ overlap s t = nat_lt s.address (t.address + t.len) && nat_lt t.address (s.addres
 abbrev pub overlaps_one : Span → List Span → Bool
 overlaps_one s all = list_any (λ t. overlap s t) all
 
--- the blocks that were lent, the first block first, with one more
-abbrev pub one_more : List Span → ℕ → ℕ → List Span
-one_more all address len = all ++ span address len ∷ []
+-- what was lent, the first block first: the bytes that each had then, and where it lies
+pub record Lent : Type 0 where
+  pub blocks : List (List ℕ)
+  pub spans : List Span
 
--- how many bytes each has
-abbrev pub lengths : List Span → List ℕ
-lengths all = map (λ s. s.len) all
+abbrev pub lent : List (List ℕ) → List Span → Lent
+lent blocks spans = record { blocks = blocks; spans = spans }
+
+abbrev pub none_lent : Lent
+none_lent = lent [] []
+
+-- one block more, which begins at the address
+abbrev pub one_more : Lent → ℕ → List ℕ → Lent
+one_more all address bytes = lent (all.blocks ++ bytes ∷ []) (all.spans ++ span address (length bytes) ∷ [])
+
+-- the bytes of a memory that has one region
+abbrev pub block_of_parts : List Part → List ℕ
+block_of_parts [] = []
+block_of_parts (r ∷ rs) = r.bytes
+
+abbrev pub block_of : Regions → List ℕ
+block_of m = block_of_parts m.parts
+
+-- the blocks that memories are, in their order
+abbrev pub blocks_of : List Regions → List (List ℕ)
+blocks_of ms = map block_of ms
 
 -- a memory is one block: it has all addresses, and a device's writes to it are kept
 unfoldable pub IsBlock : Regions → Type 0
-IsBlock m = (bytes : List ℕ) × (m.parts ≡ record { at = 0; bytes = bytes; is_read_only = false } ∷ []) × (length bytes ≡ length m.seen)
+IsBlock m = (m.parts ≡ record { at = 0; bytes = block_of m; is_read_only = false } ∷ []) × (length m.seen ≡ length (block_of m))
 
 -- each memory is one block
 unfoldable pub AreBlocks : List Regions → Type 0

@@ -1,7 +1,7 @@
 //! Memories that are lent for a device, before it is made.
-ghost use Rattle.std.specs.Prelude.{◌≡◌, ◌≤◌, ◌<◌, true, false, [], length, map, Err, IfOk, IfErr};
+ghost use Rattle.std.specs.Prelude.{◌≡◌, ◌≤◌, ◌<◌, true, false, length, map, Err, IfOk, IfErr};
 ghost use Rattle.guest_memory.specs.Memory.{is_memory_size};
-ghost use Rattle.vfdev_c.specs.Spans.{IsBlock, AreBlocks, lengths, one_more, overlap, overlaps_one, span};
+ghost use Rattle.vfdev_c.specs.Spans.{IsBlock, AreBlocks, block_of, blocks_of, none_lent, one_more, overlap, overlaps_one};
 
 use live_memory::Dma;
 use mapped_memory::LiveMem;
@@ -20,7 +20,7 @@ pub struct Span {
 }
 
 /// Memories that were lent for a device that is not made yet, at most 64. Each has the bytes of one block, which its guest may write
-/// whenever it likes. A contract sees where each block lies.
+/// whenever it likes. A contract sees the bytes that each block had when it was lent, and where it lies.
 #[derive(Drop)]
 pub struct LentBlocks {
     memories: Vec<LiveMem<'static>>,
@@ -28,17 +28,16 @@ pub struct LentBlocks {
 }
 
 impl Model for LentBlocks {
-    ghost use Rattle.std.specs.Prelude.{List, map, length, vec_capacity, ◌≡◌, ◌≤◌};
-    ghost use Rattle.vfdev_c.specs.declared.lending.Span.{Span};
-    ghost use Rattle.vfdev_c.specs.Spans.{AreBlocks, lengths};
+    ghost use Rattle.std.specs.Prelude.{map, length, vec_capacity, ◌≡◌, ◌≤◌};
+    ghost use Rattle.vfdev_c.specs.Spans.{Lent, AreBlocks, blocks_of, lent};
 
-    ghost Value = { List Span };
+    ghost Value = { Lent };
 
-    ghost view = { λ l. l.spans.items };
+    ghost view = { λ l. lent (blocks_of l.memories.items) l.spans.items };
 
     ghost invariant = { λ l. (length l.spans.items ≤ 64) × (64 ≤ vec_capacity l.memories)
         × (64 ≤ vec_capacity l.spans)
-        × (map (λ m. length m.seen) l.memories.items ≡ lengths l.spans.items)
+        × (length l.spans.items ≡ length l.memories.items)
         × AreBlocks l.memories.items };
 }
 
@@ -46,7 +45,7 @@ impl LentBlocks {
     /// No memories, and room for all that there may be.
     #[tactic(auto, unfolding(crate::specs::Spans::AreBlocks))]
     pub fn new(alloc: Global) -> Result<LentBlocks, AllocError>
-        ensures { IfOk result (λ l. l ≡ []) }
+        ensures { IfOk result (λ l. l ≡ none_lent) }
     {
         let memories = Vec::with_capacity(alloc, MOST_BLOCKS)?;
         let spans = Vec::with_capacity(alloc, MOST_BLOCKS)?;
@@ -54,8 +53,9 @@ impl LentBlocks {
     }
 
     /// How many there are, at most 64.
+    #[tactic(auto, using(crate::proofs::LentLemmas::as_many))]
     pub fn len(&self) -> usize
-        ensures count { result ≡ length self.now }
+        ensures count { result ≡ length self.now.blocks }
         ensures few { result ≤ 64 }
     {
         self.spans.len()
@@ -63,16 +63,16 @@ impl LentBlocks {
 
     /// Whether a block overlaps one of them.
     pub fn overlaps(&self, block: Span) -> bool
-        ensures { result ≡ overlaps_one block self.now }
+        ensures { result ≡ overlaps_one block self.now.spans }
     {
         self.spans.iter().any(|lent| overlap(block, *lent))
     }
 
     /// One more, whose block begins at the address.
     pub fn push(&mut self, memory: LiveMem<'static>, address: u64)
-        requires few { length self.old < 64 }
+        requires few { length self.old.blocks < 64 }
         requires block { IsBlock memory }
-        ensures { self.new ≡ one_more self.old address (length memory.entry.seen) }
+        ensures { self.new ≡ one_more self.old address (block_of memory.entry) }
     {
         self.spans.push_reserved(Span {
             address,
@@ -81,10 +81,12 @@ impl LentBlocks {
         self.memories.push_reserved(memory);
     }
 
-    /// The memories.
+    /// The memories, in the order in which their blocks were lent.
+    #[tactic(auto, using(crate::proofs::LentLemmas::sizes_of_blocks))]
     pub fn into_memories(self) -> Vec<LiveMem<'static>>
-        ensures sizes { map (λ m. length m.seen) result.items ≡ lengths self }
-        ensures blocks { AreBlocks result.items }
+        ensures blocks { blocks_of result.items ≡ self.blocks }
+        ensures whole { AreBlocks result.items }
+        ensures sizes { map (λ m. length m.seen) result.items ≡ map length self.blocks }
     {
         self.memories
     }
@@ -94,7 +96,7 @@ impl LentBlocks {
 /// refused the room.
 pub fn memory_of(alloc: Global, cells: &'static mut [u8]) -> Result<LiveMem<'static>, Fault>
     ensures block { IfOk result (λ m. IsBlock m) }
-    ensures size { IfOk result (λ m. length m.seen ≡ length cells.old) }
+    ensures bytes { IfOk result (λ m. block_of m ≡ cells.old) }
     ensures bad_make { is_memory_size (length cells.old) ≡ false → result ≡ Err Fault.BadMake }
     ensures no_memory { IfErr result (λ e. is_memory_size (length cells.old) ≡ true → e ≡ Fault.NoMemory) }
 {

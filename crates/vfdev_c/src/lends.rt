@@ -1,9 +1,9 @@
 //! Devices over memories of the caller's.
-ghost use Rattle.std.specs.Prelude.{◌≡◌, ◌&&◌, [], true, false, nat_eq, map, length, Some, None, Err, IfOk, IfErr, if◌then◌else◌};
+ghost use Rattle.std.specs.Prelude.{◌≡◌, ◌&&◌, true, false, nat_eq, map, length, Some, None, Err, IfOk, IfErr, if◌then◌else◌};
 ghost use Rattle.device.specs.World.{fresh, is_frame_limit, is_makeable};
 ghost use Rattle.vfdev_c.specs.Handle.{can_lend, is_lent_twice, is_made, lent_in};
 ghost use Rattle.vfdev_c.specs.LentWorld.{untouched};
-ghost use Rattle.vfdev_c.specs.Spans.{IsBlock, lengths, one_more};
+ghost use Rattle.vfdev_c.specs.Spans.{none_lent, one_more};
 
 use crate::block::Block;
 use crate::handle::Vfdev;
@@ -31,17 +31,17 @@ pub extern "C" fn vfdev_lend_at(
 ) -> u32
     ensures lent { handle.new.owner.held
         ≡ (if nat_eq result 0
-        then Some (HandleState.Lending (one_more (lent_in handle.old.owner.held) address (length block.bytes)))
+        then Some (HandleState.Lending (one_more (lent_in handle.old.owner.held) address block.bytes))
         else handle.old.owner.held) }
     ensures taken { is_made handle.old.owner.held ≡ true → result ≡ 11 }
     ensures bad_make { is_made handle.old.owner.held ≡ false
-        → can_lend handle.old.owner.held (length block.bytes) ≡ false → result ≡ 10 }
+        → can_lend handle.old.owner.held block.bytes ≡ false → result ≡ 10 }
     ensures overlapping { is_made handle.old.owner.held ≡ false
-        → can_lend handle.old.owner.held (length block.bytes) ≡ true
-        → is_lent_twice handle.old.owner.held address (length block.bytes) ≡ true → result ≡ 13 }
+        → can_lend handle.old.owner.held block.bytes ≡ true
+        → is_lent_twice handle.old.owner.held address block.bytes ≡ true → result ≡ 13 }
     ensures no_memory { is_made handle.old.owner.held ≡ false
-        → can_lend handle.old.owner.held (length block.bytes) ≡ true
-        → is_lent_twice handle.old.owner.held address (length block.bytes) ≡ false
+        → can_lend handle.old.owner.held block.bytes ≡ true
+        → is_lent_twice handle.old.owner.held address block.bytes ≡ false
         → nat_eq result 0 ≡ false → result ≡ 9 }
 {
     let cells = block.into_cells();
@@ -60,9 +60,9 @@ pub extern "C" fn vfdev_lend_at(
 fn lend_first(alloc: Global, handle: &mut Vfdev, cells: &'static mut [u8], address: u64) -> u32
     requires { handle.old.owner.held ≡ None }
     ensures lent { handle.new.owner.held
-        ≡ (if nat_eq result 0 then Some (HandleState.Lending (one_more [] address (length cells.old))) else None) }
-    ensures bad_make { can_lend None (length cells.old) ≡ false → result ≡ 10 }
-    ensures no_memory { can_lend None (length cells.old) ≡ true → nat_eq result 0 ≡ false → result ≡ 9 }
+        ≡ (if nat_eq result 0 then Some (HandleState.Lending (one_more none_lent address cells.old)) else None) }
+    ensures bad_make { can_lend None cells.old ≡ false → result ≡ 10 }
+    ensures no_memory { can_lend None cells.old ≡ true → nat_eq result 0 ≡ false → result ≡ 9 }
 {
     match lending(alloc, cells, address) {
         Ok(state) => {
@@ -76,9 +76,9 @@ fn lend_first(alloc: Global, handle: &mut Vfdev, cells: &'static mut [u8], addre
 // One block that is lent, in a box.
 fn lending(alloc: Global, cells: &'static mut [u8], address: u64) -> Result<Box<HandleState>, Fault>
     ensures ok { IfOk result
-        (λ b. b.value ≡ HandleState.Lending (one_more [] address (length cells.old))) }
-    ensures bad_make { can_lend None (length cells.old) ≡ false → result ≡ Err Fault.BadMake }
-    ensures no_memory { IfErr result (λ e. can_lend None (length cells.old) ≡ true → e ≡ Fault.NoMemory) }
+        (λ b. b.value ≡ HandleState.Lending (one_more none_lent address cells.old)) }
+    ensures bad_make { can_lend None cells.old ≡ false → result ≡ Err Fault.BadMake }
+    ensures no_memory { IfErr result (λ e. can_lend None cells.old ≡ true → e ≡ Fault.NoMemory) }
 {
     let memory = memory_of(alloc, cells)?;
     let mut blocks = LentBlocks::new(alloc)?;
@@ -89,12 +89,12 @@ fn lending(alloc: Global, cells: &'static mut [u8], address: u64) -> Result<Box<
 // Lends one more block.
 fn lend_next(alloc: Global, blocks: &mut LentBlocks, cells: &'static mut [u8], address: u64) -> u32
     ensures lent { blocks.new
-        ≡ (if nat_eq result 0 then one_more blocks.old address (length cells.old) else blocks.old) }
-    ensures bad_make { can_lend (Some (HandleState.Lending blocks.old)) (length cells.old) ≡ false → result ≡ 10 }
-    ensures overlapping { can_lend (Some (HandleState.Lending blocks.old)) (length cells.old) ≡ true
-        → is_lent_twice (Some (HandleState.Lending blocks.old)) address (length cells.old) ≡ true → result ≡ 13 }
-    ensures no_memory { can_lend (Some (HandleState.Lending blocks.old)) (length cells.old) ≡ true
-        → is_lent_twice (Some (HandleState.Lending blocks.old)) address (length cells.old) ≡ false
+        ≡ (if nat_eq result 0 then one_more blocks.old address cells.old else blocks.old) }
+    ensures bad_make { can_lend (Some (HandleState.Lending blocks.old)) cells.old ≡ false → result ≡ 10 }
+    ensures overlapping { can_lend (Some (HandleState.Lending blocks.old)) cells.old ≡ true
+        → is_lent_twice (Some (HandleState.Lending blocks.old)) address cells.old ≡ true → result ≡ 13 }
+    ensures no_memory { can_lend (Some (HandleState.Lending blocks.old)) cells.old ≡ true
+        → is_lent_twice (Some (HandleState.Lending blocks.old)) address cells.old ≡ false
         → nat_eq result 0 ≡ false → result ≡ 9 }
 {
     if !is_memory_size(cells.len() as u64) || blocks.len() >= MOST_BLOCKS {
@@ -124,13 +124,13 @@ fn lend_next(alloc: Global, blocks: &mut LentBlocks, cells: &'static mut [u8], a
 pub extern "C" fn vfdev_make_lent(alloc: Global, handle: &mut Vfdev, limit: u16) -> u32
     ensures made { nat_eq result 0 ≡ true
         → handle.new.owner.held
-        ≡ Some (HandleState.Lent (untouched (fresh limit (lengths (lent_in handle.old.owner.held))))) }
+        ≡ Some (HandleState.Lent (untouched (fresh limit (map length (lent_in handle.old.owner.held).blocks)))) }
     ensures taken { is_made handle.old.owner.held ≡ true → result ≡ 11 }
     ensures bad_make { is_made handle.old.owner.held ≡ false
-        → (is_frame_limit limit && is_makeable (lengths (lent_in handle.old.owner.held))) ≡ false
+        → (is_frame_limit limit && is_makeable (map length (lent_in handle.old.owner.held).blocks)) ≡ false
         → result ≡ 10 }
     ensures no_memory { is_made handle.old.owner.held ≡ false
-        → (is_frame_limit limit && is_makeable (lengths (lent_in handle.old.owner.held))) ≡ true
+        → (is_frame_limit limit && is_makeable (map length (lent_in handle.old.owner.held).blocks)) ≡ true
         → nat_eq result 0 ≡ false → result ≡ 9 }
     ensures refused { is_made handle.old.owner.held ≡ true
         → handle.new.owner.held ≡ handle.old.owner.held }

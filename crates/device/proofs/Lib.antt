@@ -10,6 +10,7 @@ pub mod Refusals
 mod Sizes
 mod SizesStay
 mod SlotLemmas
+pub mod Unread
 pub mod Steps
 pub mod Shape
 pub mod Unwinding

@@ -43,13 +43,13 @@ impl<D: Dma<K>, K> Device<D, K> {
     {
         match request {
             Request::MemRead(pool, at, count) => self.mem_read_live(traces, pool, at, count, bytes),
-            _ => self.take_any(traces, request, frame),
+            _ => self.take_unread(traces, request, frame),
         }
     }
 
-    // Takes the event that a request stands for, and tells where bytes that it reads stand.
+    /// The same, for who reads the bytes elsewhere or not at all: none are read, and the outcome tells where they stand.
     #[inline]
-    fn take_any<'f>(
+    pub fn take_unread<'f>(
         &mut self,
         traces: &mut Traces,
         request: Request<'_>,
@@ -74,7 +74,7 @@ impl<D: Dma<K>, K> Device<D, K> {
         }
     }
 
-    // The arms of `take_any`, each a call of its own: what an arm keeps for itself is cleared on its own path alone.
+    // The arms of `take_unread`, each a call of its own: what an arm keeps for itself is cleared on its own path alone.
 
     // A read of a function's register.
     #[inline]
@@ -199,7 +199,7 @@ impl<M: GuestMem> Device<M> {
     {
         let count = self.functions();
         prove!(count <= usize::from(PoolId::COUNT));
-        self.take_any(&mut Touch::None.traces(), request, frame)
+        self.take_unread(&mut Touch::None.traces(), request, frame)
     }
 
     /// The answer that a [`Response`] stands for, right after it. It is inlined, so that no answer is made for who looks at

@@ -1,4 +1,3 @@
 pub mod StoreLemmas
-pub mod ReadLemmas
 pub mod ReplayLemmas
 pub mod WordLemmas

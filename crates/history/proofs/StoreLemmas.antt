@@ -11,7 +11,7 @@ use Rattle.device.specs.Outcome.{Outcome, reads, reply_in}
 use Rattle.device.specs.World.{World}
 use Rattle.history.specs.declared.head.Head.{Head}
 use Rattle.history.specs.Entries.{Kept, entry, brings}
-use Rattle.history.specs.Heads.{head_of, kind_of, event_with, reply_with, moved, IsSound, words_len, messages_with, part, moved_of, words_of, entry_of, Stands}
+use Rattle.history.specs.Heads.{head_of, kind_of, event_with, reply_with, brought, read_in, moved, IsSound, words_len, messages_with, part, moved_of, words_of, entry_of, Stands}
 
 -- ---- parts of a store
 
@@ -48,6 +48,22 @@ entries_stay store more (h ∷ hs) all =
     ∙ ap (λ es. entry_of store h ∷ es) (entries_stay store more hs (All-tail (Stands store) h hs all))
 
 -- ---- a call as a head and bytes
+
+-- where nothing was read, the bytes are those that the event brings
+pub moved_unread : (w : World) (e : Event) (o : Outcome) → reads o ≡ false → moved w e o ≡ brought e
+moved_unread w e o none = rw none refl
+
+-- a read of a memory brings none
+pub moved_read : (w : World) (p at count : ℕ) (o : Outcome) → moved w (MemRead p at count) o ≡ read_in w o
+moved_read w p at count (Bytes span) = refl
+moved_read w p at count Done = refl
+moved_read w p at count (Value x) = refl
+moved_read w p at count Idle = refl
+moved_read w p at count More = refl
+moved_read w p at count Sent = refl
+moved_read w p at count Dropped = refl
+moved_read w p at count Faulted = refl
+moved_read w p at count (Refused fault) = refl
 
 event_back : (w : World) (e : Event) (o : Outcome) → (reads o ≡ true → brings e ≡ false) → event_with (moved w e o) (head_of e) ≡ e
 event_back w (Open p) o alone = refl

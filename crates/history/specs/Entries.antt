@@ -2,7 +2,8 @@
 use Rattle.std.specs.Prelude.{◌≡◌, ℕ, Bool, true, false, ◌&&◌, nat_le, List, [], map, slice_index_or}
 use Rattle.device.specs.Events.{Event}
 use Rattle.device.specs.declared.event.Event.TheVariants.{MemWrite, PfReset, Wire}
-use Rattle.device.specs.declared.event.Reply.TheVariants.{Idle}
+use Rattle.device.specs.Replies.{Reply}
+use Rattle.device.specs.declared.event.Reply.TheVariants.{Bytes, Idle}
 use Rattle.device.specs.declared.event.Answer.{Answer}
 use Rattle.device.specs.World.{World, answers, world_after}
 use Rattle.history.specs.declared.caller.Caller.{Caller}
@@ -33,6 +34,11 @@ no_entry = entry Driver PfReset (record { reply = Idle; raised = [] })
 -- the entry of that place, counted from the oldest
 abbrev pub entry_at : Kept → ℕ → Entry
 entry_at kept i = slice_index_or kept.entries i no_entry
+
+-- the bytes that a reply gives
+abbrev pub bytes_replied : Reply → List ℕ
+bytes_replied (Bytes bytes) = bytes
+bytes_replied _ = []
 
 -- the event brings bytes: those of a write to a memory, or a frame
 abbrev pub brings : Event → Bool

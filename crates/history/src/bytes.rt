@@ -1,13 +1,13 @@
 //! Bytes that stand one after another.
-ghost use Rattle.std.specs.Prelude.{◌≡◌, ◌≤◌, ◌+◌, ◌++◌, length, take, vec_len, vec_capacity};
-ghost use Rattle.device.specs.World.{function_of};
-ghost use Rattle.device.specs.Request.{event_of};
-ghost use Rattle.device.specs.Outcome.{bytes_in};
-ghost use Rattle.history.specs.Heads.{IsSound, moved, part};
+ghost use Rattle.std.specs.Prelude.{◌≡◌, ℕ, ◌≤◌, ◌+◌, ◌++◌, length, take, drop, vec_len, vec_capacity};
+ghost use Rattle.device.specs.declared.event.Event.{Event};
+ghost use Rattle.device.specs.Live.{TakesLive};
+ghost use Rattle.device.specs.Outcome.{bytes_asked, bytes_told, HasCount, HoldsIn};
+ghost use Rattle.history.specs.Heads.{read_in, part};
 
-use crate::head::brought;
-use device::{Device, Outcome, Request, Span};
-use guest_memory::GuestMem;
+use device::bytes::MOST_BYTES;
+use device::{Device, Outcome, Response};
+use live_memory::{Dma, Traces};
 
 /// Adds bytes, for which there is room.
 #[inline]
@@ -33,55 +33,83 @@ pub fn part(store: &[u8], start: usize, count: usize) -> &[u8]
     &store[start..start + count]
 }
 
-// Reads the bytes of a span over those from a place on, which end there.
-#[inline]
-fn read_onto<M: GuestMem>(device: &Device<M>, span: Span, start: usize, store: &mut [u8])
-    requires { length store.old ≡ start + span.count }
-    ensures { store.new ≡ take start store.old ++ bytes_in (function_of span.pool device.now) span }
-{
-    let (_, out) = store.split_at_mut(start);
-    device.read_span(span, out);
+/// A read of a guest's memory: so many bytes of the function of that pool, from an address on.
+#[derive(Clone, Copy)]
+pub struct Read {
+    /// The pool.
+    pub pool: u8,
+    /// The address of the first byte.
+    pub at: u64,
+    /// How many bytes.
+    pub count: u16,
 }
 
-// Adds the bytes of a span, for which there is room.
+// How many bytes a read gives at most: one of more than 2048 is refused.
 #[inline]
-fn append_span<M: GuestMem>(store: &mut Vec<u8>, device: &Device<M>, span: Span)
+fn most_read(read: Read) -> usize
+    ensures asked { result ≡ bytes_asked (Event.MemRead read.pool read.at read.count) }
+    ensures most { result ≤ 2048 }
+{
+    let count = usize::from(read.count);
+    if count <= MOST_BYTES { count } else { 0 }
+}
+
+/// How many bytes were read.
+#[inline]
+pub fn bytes_told(outcome: Outcome) -> u16
+    ensures told { result ≡ bytes_told outcome }
+    ensures most { result ≤ 2048 }
+{
+    match outcome {
+        Outcome::Bytes(span) => span.count() as u16,
+        _ => 0,
+    }
+}
+
+// Reads onto the bytes from a place on, and leaves those before it.
+#[inline]
+fn read_past<'f, D: Dma<K>, K>(
+    store: &mut [u8],
+    start: usize,
+    traces: &mut Traces,
+    read: Read,
+    device: &mut Device<D, K>,
+) -> Response<'f>
+    requires { length store.old
+        ≡ start + bytes_asked (Event.MemRead read.pool read.at read.count) }
+    ensures takes { TakesLive D.shared traces.old.touches traces.new.touches
+        device.old (Event.MemRead read.pool read.at read.count) device.new result }
+    ensures count { HasCount read.count result.outcome }
+    ensures bytes { HoldsIn (drop start store.new) device.new result.outcome }
+    ensures front { take start store.new ≡ take start store.old }
+    ensures len { length store.new ≡ length store.old }
+{
+    let (_, out) = store.split_at_mut(start);
+    device.mem_read_live(traces, read.pool, read.at, read.count, out)
+}
+
+/// Makes a read, once, whose bytes are added at the end of a store, which has room for them.
+#[inline]
+pub fn append_read<'f, D: Dma<K>, K>(
+    store: &mut Vec<u8>,
+    traces: &mut Traces,
+    read: Read,
+    device: &mut Device<D, K>,
+) -> Response<'f>
     requires { vec_len store.old + 2048 ≤ vec_capacity store.old }
-    ensures items { store.new.items
-        ≡ store.old.items ++ bytes_in (function_of span.pool device.now) span }
-    ensures len { vec_len store.new ≡ vec_len store.old + span.count }
+    ensures takes { TakesLive D.shared traces.old.touches traces.new.touches
+        device.old (Event.MemRead read.pool read.at read.count) device.new result }
+    ensures items { store.new.items ≡ store.old.items ++ read_in device.new result.outcome }
+    ensures count { bytes_told result.outcome ≡ length (read_in device.new result.outcome) }
+    ensures len { vec_len store.new ≡ vec_len store.old + bytes_told result.outcome }
     ensures capacity { vec_capacity store.old ≤ vec_capacity store.new }
 {
     let start = store.len();
-    match store.resize(start + span.count(), 0) {
+    match store.resize(start + most_read(read), 0) {
         Ok(()) => {}
         Err(_) => unreachable!(),
     }
-    read_onto(device, span, start, store.as_mut_slice());
-}
-
-/// Adds the bytes that a call brought or read, and tells how many. Those that were read stand in the device's memory still.
-#[inline]
-pub fn append_moved<M: GuestMem>(
-    store: &mut Vec<u8>,
-    request: Request<'_>,
-    device: &Device<M>,
-    outcome: Outcome,
-) -> u16
-    requires { vec_len store.old + 9018 ≤ vec_capacity store.old }
-    ensures items { store.new.items
-        ≡ store.old.items ++ moved device.now (event_of request.entry) outcome }
-    ensures count { result ≡ length (moved device.now (event_of request.entry) outcome) }
-    ensures most { result ≤ 9018 }
-    ensures sound { IsSound (event_of request.entry) }
-    ensures len { vec_len store.new ≡ vec_len store.old + result }
-    ensures capacity { vec_capacity store.old ≤ vec_capacity store.new }
-{
-    let bytes = brought(request);
-    if let Outcome::Bytes(span) = outcome {
-        append_span(store, device, span);
-        return span.count() as u16;
-    }
-    append(store, bytes);
-    bytes.len() as u16
+    let taken = read_past(store.as_mut_slice(), start, traces, read, device);
+    store.truncate(start + usize::from(bytes_told(taken.outcome)));
+    taken
 }

@@ -1,17 +1,21 @@
 //! The history.
-ghost use Rattle.std.specs.Prelude.{◌≡◌, ◌≤◌, ◌<◌, ◌*◌, ◌++◌, ◌∷◌, [], length, vec_len, vec_capacity, true, false, IsTrue, ◌↔◌, IfOk, IfErr};
+ghost use Rattle.std.specs.Prelude.{◌≡◌, ◌≤◌, ◌<◌, ◌-◌, ◌*◌, ◌++◌, ◌∷◌, [], length, vec_len, vec_capacity, true, false, IsTrue, ◌↔◌, IfOk, IfErr};
+ghost use Rattle.device.specs.declared.event.Event.{Event};
+ghost use Rattle.device.specs.Live.{TakesLive};
 ghost use Rattle.device.specs.Outcome.{reads, answer_in};
+ghost use Rattle.device.specs.World.{World};
 ghost use Rattle.device.specs.Request.{event_of};
 ghost use Rattle.wire_frame.specs.Frame.{IsFrame};
-ghost use Rattle.history.specs.Entries.{entry, entry_at, is_cap, brings};
+ghost use Rattle.history.specs.Entries.{entry, entry_at, is_cap, bytes_replied};
 
-use crate::bytes::{append_moved, part};
+use crate::bytes::{Read, append, append_read, bytes_told, part};
 use crate::caller::Caller;
-use crate::head::{EventHead, Head, PackedCaller, head_of, kind_of};
+use crate::head::{EventHead, Head, PackedCaller, ReplyKind, brought, head_of, kind_of};
 use crate::reply::is_reply;
 use crate::words::{append_words, are_messages, words_len};
 use device::{Device, MemSlice, Request, Response};
 use guest_memory::GuestMem;
+use live_memory::{Dma, Traces};
 use std::alloc::{AllocError, Global};
 use std::marker::Model;
 use wire_frame::{Fault, FrameBuf, FrameLimit};
@@ -106,33 +110,77 @@ impl History {
         self.heads.len() == self.cap
     }
 
-    /// One more entry, for which there is room: who called, what was asked of the device, and what came of it. The device is
-    /// as right after the event, and bytes that were read are copied from its memory.
+    // One more entry, for which there is room, of an event that read no bytes: who called, what was asked of a device, and what
+    // came of it.
     #[inline]
-    pub fn push<M: GuestMem>(
-        &mut self,
-        caller: Caller,
-        request: Request<'_>,
-        device: &Device<M>,
-        taken: &Response<'_>,
-    )
+    pub(crate) fn push(&mut self, caller: Caller, request: Request<'_>, taken: &Response<'_>)
         requires room { length self.old.entries < self.old.cap }
-        requires one { reads taken.now.outcome ≡ true → brings (event_of request) ≡ false }
-        ensures entries { self.new.entries ≡ self.old.entries
-            ++ entry caller (event_of request.entry) (answer_in device.now taken.now) ∷ [] }
+        requires unread { reads taken.now.outcome ≡ false }
+        ensures entries { (w : World) → self.new.entries ≡ self.old.entries
+            ++ entry caller (event_of request.entry) (answer_in w taken.now) ∷ [] }
         ensures cap { self.new.cap ≡ self.old.cap }
     {
         let start = self.store.len() as u32;
-        let count = append_moved(&mut self.store, request, device, taken.outcome);
+        let bytes = brought(request);
+        append(&mut self.store, bytes);
         let vectors = append_words(&mut self.store, taken.messages.words());
         self.heads.push_reserved(Head {
             event: head_of(request),
             reply: kind_of(taken.outcome),
             start,
-            count,
+            count: bytes.len() as u16,
             caller: PackedCaller::new(caller),
             vectors,
         });
+    }
+
+    // One more entry, for which there is room, of a read of a guest's memory. The read is made here, once, and its bytes stand in
+    // the store and nowhere else.
+    #[inline]
+    pub(crate) fn push_read<'f, D: Dma<K>, K>(
+        &mut self,
+        caller: Caller,
+        traces: &mut Traces,
+        read: Read,
+        device: &mut Device<D, K>,
+    ) -> Response<'f>
+        requires { length self.old.entries < self.old.cap }
+        ensures takes { TakesLive D.shared traces.old.touches traces.new.touches
+            device.old (Event.MemRead read.pool read.at read.count) device.new result }
+        ensures entries { self.new.entries ≡ self.old.entries
+            ++ entry caller (Event.MemRead read.pool read.at read.count) (answer_in device.new result)
+            ∷ [] }
+        ensures cap { self.new.cap ≡ self.old.cap }
+    {
+        let start = self.store.len() as u32;
+        let taken = append_read(&mut self.store, traces, read, device);
+        let vectors = append_words(&mut self.store, taken.messages.words());
+        self.heads.push_reserved(Head {
+            event: EventHead::MemRead(read.pool, read.count, read.at),
+            reply: kind_of(taken.outcome),
+            start,
+            count: bytes_told(taken.outcome),
+            caller: PackedCaller::new(caller),
+            vectors,
+        });
+        taken
+    }
+
+    /// The bytes that the last call read; none where it read none, or there is no call.
+    #[inline]
+    pub fn last_read(&self) -> &[u8]
+        ensures { result.now ≡ bytes_replied
+            (entry_at self.now (length self.now.entries - 1)).answer.reply }
+    {
+        let Some(head) = self.heads.last() else {
+            return &[];
+        };
+        if matches!(head.reply, ReplyKind::Bytes(_)) {
+            let store = self.store.as_slice();
+            part(store, head.start as usize, usize::from(head.count))
+        } else {
+            &[]
+        }
     }
 
     /// No entries. The room stays.

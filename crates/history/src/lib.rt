@@ -1,8 +1,9 @@
 //! The calls of a device, kept in few bytes.
 //!
 //! A [`History`] has of each call who made it, what was asked and what was answered. Its meaning is the list of these
-//! entries, the oldest first. [`History::record`] takes an event on a device and keeps the call. [`History::step`] steps a
-//! second device by an entry, and [`History::gives`] tells besides whether that device answers as was kept; both go through all
+//! entries, the oldest first. [`History::record`] takes an event on a device and keeps the call, and so does
+//! [`History::record_live`] where guests write their memories meanwhile. Bytes of a memory are read once, into the history, and
+//! [`History::last_read`] hands out the same. [`History::step`] steps a second device by an entry, and [`History::gives`] tells besides whether that device answers as was kept; both go through all
 //! entries as [`History::step_all`] and [`History::gives_all`]. A [`Recording`] is a device with the history of the calls that
 //! it took since a base, from which they lead to it.
 //!

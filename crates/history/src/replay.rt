@@ -1,17 +1,20 @@
 //! Devices that keep their calls, and devices that go through kept ones.
-ghost use Rattle.std.specs.Prelude.{◌≡◌, ◌<◌, ◌++◌, ◌∷◌, [], length, IsTrue, ◌↔◌};
-ghost use Rattle.device.specs.World.{sizes_of, step, answers, world_after};
+ghost use Rattle.std.specs.Prelude.{◌≡◌, ◌<◌, ◌++◌, ◌∷◌, [], length, false, IsTrue, ◌↔◌};
+ghost use Rattle.device.specs.World.{World, sizes_of, step, answers, world_after};
 ghost use Rattle.device.specs.declared.event.Event.{Event};
-ghost use Rattle.device.specs.Outcome.{messages_or_refused};
+ghost use Rattle.device.specs.Outcome.{reads, answer_in, messages_or_refused};
 ghost use Rattle.device.specs.Request.{event_of};
+ghost use Rattle.device.specs.Live.{told_world, TakesLive};
 ghost use Rattle.device.specs.Takes.{Takes};
 ghost use Rattle.history.specs.Entries.{entry, entry_at, events, given};
 
+use crate::bytes::Read;
 use crate::caller::Caller;
 use crate::history::History;
 use device::{Device, Outcome, Request, Response};
 use guest_memory::GuestMem;
 use irq_causes::Messages;
+use live_memory::{Dma, Touch, Traces};
 use wire_frame::{Fault, FrameBuf};
 
 /// Room that a replay lays out what it needs in: the frame of an entry, a frame that is sent, and bytes that are read. Nothing
@@ -57,8 +60,35 @@ impl History {
             ++ entry caller (event_of request.entry) (step device.old (event_of request.entry)).answer ∷ [] }
         ensures cap { self.new.cap ≡ self.old.cap }
     {
-        let taken = device.take(request, frame);
-        self.push(caller, request, device, &taken);
+        self.record_live(caller, &mut Touch::None.traces(), request, device, frame)
+    }
+
+    /// The same, where others may write the memories of the functions meanwhile: what they answer is kept in the traces, as
+    /// [`take_live`](Device::take_live) says. Bytes that the event reads are read once: those that are kept, which
+    /// [`last_read`](History::last_read) hands out.
+    #[inline]
+    pub fn record_live<'f, D: Dma<K>, K>(
+        &mut self,
+        caller: Caller,
+        traces: &mut Traces,
+        request: Request<'_>,
+        device: &mut Device<D, K>,
+        frame: &'f mut FrameBuf,
+    ) -> Response<'f>
+        requires { length self.old.entries < self.old.cap }
+        ensures takes { TakesLive D.shared traces.old.touches traces.new.touches
+            device.old (event_of request.entry) device.new result }
+        ensures entries { self.new.entries ≡ self.old.entries
+            ++ entry caller (event_of request.entry)
+            (step (told_world traces.old.touches traces.new.touches device.old)
+            (event_of request.entry)).answer ∷ [] }
+        ensures cap { self.new.cap ≡ self.old.cap }
+    {
+        if let Request::MemRead(pool, at, count) = request {
+            return self.push_read(caller, traces, Read { pool, at, count }, device);
+        }
+        let taken = device.take_unread(traces, request, frame);
+        self.push(caller, request, &taken);
         taken
     }
 
@@ -80,17 +110,8 @@ impl History {
         ensures cap { self.new.cap ≡ self.old.cap }
     {
         let came = device.wire(frame);
-        let (outcome, messages) = match came {
-            Ok(messages) => (Outcome::Done, messages),
-            Err(fault) => (Outcome::Refused(fault), Messages::none()),
-        };
-        let taken = Response {
-            outcome,
-            messages,
-            sent: None,
-            left: None,
-        };
-        self.push(caller, Request::Wire(frame), device, &taken);
+        let taken = arrived(&came);
+        self.push(caller, Request::Wire(frame), &taken);
         came
     }
 
@@ -141,5 +162,23 @@ impl History {
             same = same & here;
         }
         same
+    }
+}
+
+// What came of a frame from the wire.
+#[inline]
+fn arrived(came: &Result<Messages, Fault>) -> Response<'static>
+    ensures answer { (w : World) → answer_in w result ≡ messages_or_refused came.now }
+    ensures unread { reads result.outcome ≡ false }
+{
+    let (outcome, messages) = match came {
+        Ok(messages) => (Outcome::Done, *messages),
+        Err(fault) => (Outcome::Refused(*fault), Messages::none()),
+    };
+    Response {
+        outcome,
+        messages,
+        sent: None,
+        left: None,
     }
 }

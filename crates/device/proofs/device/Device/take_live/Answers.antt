@@ -30,4 +30,4 @@ no_other cells w o PfReset not = tt
 no_other cells w o (Wire frame) not = tt
 
 pub returns-in_default : goal.returns-in_default
-returns-in_default g c = record { takes = c.take_any.ensures; bytes = no_other c.args.bytes.now c.take_any.new.self c.take_any.result.outcome c.args.request c.in_default.not-MemRead; rest = refl }
+returns-in_default g c = record { takes = c.take_unread.ensures; bytes = no_other c.args.bytes.now c.take_unread.new.self c.take_unread.result.outcome c.args.request c.in_default.not-MemRead; rest = refl }

@@ -1,8 +1,15 @@
--- What the device answers an event that brings bytes has none.
+-- Where nobody else writes the memories, what is met is what stands there.
+use Rattle.std.proofs.Common.{[], ◌∷◌, ◌++◌, false, refl, ap, ◌∙◌}
 use Rattle.device.specs.Request.{event_of}
-use Rattle.history.proofs.ReadLemmas.{brings_or_reads}
+use Rattle.device.specs.World.{World, step}
+use Rattle.device.proofs.LiveLemmas.{takes_alone, told_world_still}
+use Rattle.history.specs.Entries.{entry}
 use Rattle.history.proofs.history.History.record.Goals as goal
 
-pub push-requires-clause-one : goal.push-requires-clause-one
-push-requires-clause-one g c =
-    brings_or_reads c.args.device.now c.take-taken.new.self (event_of c.args.request) c.take-taken.result c.take-taken.ensures.takes.answer
+pub returns-clause-takes : goal.returns-clause-takes
+returns-clause-takes g c = takes_alone false c.traces.result.touches c.record_live.new.traces.touches c.args.device.now (event_of c.args.request) c.record_live.new.device c.record_live.result refl c.record_live.ensures.takes
+
+pub returns-clause-entries : goal.returns-clause-entries
+returns-clause-entries g c = c.record_live.ensures.entries
+    ∙ ap (λ (w : World). c.args.self.now.entries ++ entry c.args.caller (event_of c.args.request) (step w (event_of c.args.request)).answer ∷ [])
+    (told_world_still false c.traces.result.touches c.record_live.new.traces.touches c.args.device.now refl c.record_live.ensures.takes.traced)

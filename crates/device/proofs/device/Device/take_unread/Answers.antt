@@ -3,7 +3,7 @@ use Rattle.std.proofs.Common.{sym, subst}
 use Rattle.device.specs.Request.{event_of}
 use Rattle.device.specs.Live.{TakesLive}
 use Rattle.device.proofs.LiveLemmas.{takes_untouched}
-use Rattle.device.proofs.device.Device.take_any.Goals as goal
+use Rattle.device.proofs.device.Device.take_unread.Goals as goal
 
 pub returns-in-VfRead : goal.returns-in-VfRead
 returns-in-VfRead g c = subst (λ r. TakesLive g.D.Dma.shared c.args.traces.now.touches c.args.traces.now.touches c.args.self.now (event_of r) c.take_vf_read.new.self c.take_vf_read.result) (sym c.in-VfRead.is) (takes_untouched _ _ _ _ _ _ c.take_vf_read.ensures)

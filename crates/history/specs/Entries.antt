@@ -1,5 +1,5 @@
 -- What a history has of each call.
-use Rattle.std.specs.Prelude.{◌≡◌, ℕ, Bool, true, false, ◌&&◌, nat_le, List, [], map, slice_index_or}
+use Rattle.std.specs.Prelude.{◌≡◌, ℕ, ◌-◌, Bool, true, false, ◌&&◌, nat_le, List, [], map, length, slice_index_or}
 use Rattle.device.specs.Events.{Event}
 use Rattle.device.specs.declared.event.Event.TheVariants.{MemWrite, PfReset, Wire}
 use Rattle.device.specs.Replies.{Reply}
@@ -34,6 +34,10 @@ no_entry = entry Driver PfReset (record { reply = Idle; raised = [] })
 -- the entry of that place, counted from the oldest
 abbrev pub entry_at : Kept → ℕ → Entry
 entry_at kept i = slice_index_or kept.entries i no_entry
+
+-- the call that was kept last
+abbrev pub last_of : List Entry → Entry
+last_of calls = slice_index_or calls (length calls - 1) no_entry
 
 -- the bytes that a reply gives
 abbrev pub bytes_replied : Reply → List ℕ

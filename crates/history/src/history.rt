@@ -1,12 +1,12 @@
 //! The history.
-ghost use Rattle.std.specs.Prelude.{◌≡◌, ◌≤◌, ◌<◌, ◌-◌, ◌*◌, ◌++◌, ◌∷◌, [], length, vec_len, vec_capacity, true, false, IsTrue, ◌↔◌, IfOk, IfErr};
+ghost use Rattle.std.specs.Prelude.{◌≡◌, ◌≤◌, ◌<◌, ◌*◌, ◌++◌, ◌∷◌, [], length, vec_len, vec_capacity, true, false, IsTrue, ◌↔◌, IfOk, IfErr};
 ghost use Rattle.device.specs.declared.event.Event.{Event};
 ghost use Rattle.device.specs.Live.{TakesLive};
 ghost use Rattle.device.specs.Outcome.{reads, answer_in};
 ghost use Rattle.device.specs.World.{World};
 ghost use Rattle.device.specs.Request.{event_of};
 ghost use Rattle.wire_frame.specs.Frame.{IsFrame};
-ghost use Rattle.history.specs.Entries.{entry, entry_at, is_cap, bytes_replied};
+ghost use Rattle.history.specs.Entries.{entry, entry_at, is_cap, last_of, bytes_replied};
 
 use crate::bytes::{Read, append, append_read, bytes_told, part};
 use crate::caller::Caller;
@@ -169,8 +169,7 @@ impl History {
     /// The bytes that the last call read; none where it read none, or there is no call.
     #[inline]
     pub fn last_read(&self) -> &[u8]
-        ensures { result.now ≡ bytes_replied
-            (entry_at self.now (length self.now.entries - 1)).answer.reply }
+        ensures { result.now ≡ bytes_replied (last_of self.now.entries).answer.reply }
     {
         let Some(head) = self.heads.last() else {
             return &[];

@@ -2,10 +2,11 @@
 //!
 //! A [`History`] has of each call who made it, what was asked and what was answered. Its meaning is the list of these
 //! entries, the oldest first. [`History::record`] takes an event on a device and keeps the call, and so does
-//! [`History::record_live`] where guests write their memories meanwhile. Bytes of a memory are read once, into the history, and
-//! [`History::last_read`] hands out the same. [`History::step`] steps a second device by an entry, and [`History::gives`] tells besides whether that device answers as was kept; both go through all
-//! entries as [`History::step_all`] and [`History::gives_all`]. A [`Recording`] is a device with the history of the calls that
-//! it took since a base, from which they lead to it.
+//! [`History::record_live`] where others may write the memories of the functions meanwhile. Bytes of a memory are read once, into
+//! the history, and [`History::last_read`] hands out these. [`History::step`] steps a second device by an entry, and
+//! [`History::gives`] tells besides whether that device answers as was kept; both go through all entries as
+//! [`History::step_all`] and [`History::gives_all`]. A [`Recording`] is a device with the history of the calls that it took since
+//! a base, from which they lead to it.
 //!
 //! An entry is a head of 32 bytes and, in a store that all entries share, the bytes of its frame, or those that it wrote to or
 //! read from a memory, and 8 bytes for each vector of which some pool got a message. The room for as many entries as there

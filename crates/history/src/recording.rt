@@ -6,7 +6,7 @@ ghost use Rattle.device.specs.Lone.{keep, lone_of, lone_seen, lone_after, seen_b
 ghost use Rattle.device.specs.Outcome.{messages_or_refused};
 ghost use Rattle.device.specs.Request.{event_of};
 ghost use Rattle.device.specs.Takes.{Takes};
-ghost use Rattle.history.specs.Entries.{Leads, events, given};
+ghost use Rattle.history.specs.Entries.{Leads, events, given, last_of, bytes_replied};
 ghost use Rattle.history.specs.Recording.{made_like, begun, keeping, rebased};
 
 use crate::caller::Caller;
@@ -70,6 +70,14 @@ impl<M: GuestMem> Recording<M> {
         ensures cap { result.now.cap ≡ self.now.cap }
     {
         &self.history
+    }
+
+    /// The bytes that the last call since the base read; none where it read none, or there is no call.
+    #[inline]
+    pub fn last_read(&self) -> &[u8]
+        ensures { result.now ≡ bytes_replied (last_of self.now.kept).answer.reply }
+    {
+        self.history.last_read()
     }
 
     /// Whether there is a twin, which the base can be moved by.

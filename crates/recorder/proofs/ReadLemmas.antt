@@ -1,7 +1,8 @@
--- Bytes are answered to a read of a memory alone, and no more than were asked for.
-use Rattle.std.proofs.Common.{◌≡◌, ℕ, ◌+◌, ◌-◌, ◌≤◌, Bool, true, false, not, ◌&&◌, drop, Option, Some, None, List, length, replicate, nat_lt, nat_le, if◌then◌else◌, refl, ap, ◌∙◌, arith}
-use Rattle.std.specs.Prelude.{slice_range}
-use Rattle.std.proofs.lemmas.List.{length-replicate, length-take-le, length-drop}
+-- Bytes are answered to a read of a memory alone, and no more than were asked for. They are kept with the call, and handed out
+-- from there.
+use Rattle.std.proofs.Common.{◌≡◌, ℕ, ◌+◌, ◌-◌, ◌≤◌, Bool, true, false, not, ◌&&◌, take, drop, Option, Some, None, List, [], ◌∷◌, ◌++◌, length, length-append, replicate, nat_lt, nat_le, if◌then◌else◌, refl, sym, ap, ◌∙◌, arith}
+use Rattle.std.specs.Prelude.{slice_range, slice_index_or}
+use Rattle.std.proofs.lemmas.List.{length-replicate, length-take-le, length-drop, get_or_push}
 use Rattle.std.proofs.lemmas.Bool.Decides.{nat_tests}
 use Rattle.wire_frame.specs.declared.fault.Fault.{Fault}
 use Rattle.wire_frame.specs.declared.fault.Fault.TheVariants.{NoSuchVf, NotOpen, AlreadyOpen, TooLong, BadRange}
@@ -18,10 +19,13 @@ use Rattle.device.specs.declared.event.Event.TheVariants.{Open, End, VfRead, VfW
 use Rattle.device.specs.Replies.{Reply, is_done}
 use Rattle.device.specs.declared.event.Reply.TheVariants.{Done, Value, Bytes, Idle, More, Sent, Dropped, Faulted, Refused}
 use Rattle.device.specs.declared.event.Answer.{Answer}
-use Rattle.device.specs.Outcome.{Outcome, reply_in, answer_in, bytes_asked, bytes_told}
+use Rattle.device.specs.Outcome.{Outcome, reply_by, reply_in, answer_in, bytes_asked, bytes_told}
 use Rattle.device.specs.declared.response.Response.{Response}
 use Rattle.device.specs.Act.{Service, act, performed, unless_refused, refusal, serve, unserved, concluded, is_bad_offset, opens, passes_end}
 use Rattle.device.specs.World.{World, Stepped, step, own_step, function_of, served, service, flagged, refused}
+use Rattle.history.specs.declared.caller.Caller.{Caller}
+use Rattle.history.specs.Entries.{Entry, entry, no_entry, last_of, bytes_replied}
+use Rattle.recorder.specs.Read.{answer_with}
 
 -- how many bytes are replied
 count_of : Reply → ℕ
@@ -144,6 +148,53 @@ step_len w (PfWrite offset x) = either (is_bad_offset 0x20000 offset) _ _ 0 (ome
 step_len w PfReset = omega arith
 step_len w (Wire frame) = either (nat_lt w.limit (length frame)) _ _ 0 (omega arith) (omega arith)
 
+-- ---- the bytes of the call that was kept last
+
+-- as a history hands them out
+pub bytes_kept : (calls more : List Entry) (c : Caller) (e : Event) (a : Answer) (bytes : List ℕ) → more ≡ calls ++ entry c e a ∷ [] → bytes ≡ bytes_replied (last_of more).answer.reply → bytes ≡ bytes_replied a.reply
+bytes_kept calls more c e a bytes kept handed =
+    let last : length more - 1 ≡ length calls = let l = ap (length {A = Entry}) kept in let n = length-append calls (entry c e a ∷ []) in omega arith in
+    let same : last_of more ≡ entry c e a = (λ k. slice_index_or (kept k) (last k) no_entry) ∙ get_or_push calls (entry c e a) no_entry (length calls) refl in
+    handed ∙ ap (λ (x : Entry). bytes_replied x.answer.reply) same
+
+replied_len : (reply : Reply) → length (bytes_replied reply) ≡ count_of reply
+unfolding count_of
+replied_len Done = refl
+replied_len (Value x) = refl
+replied_len (Bytes bytes) = refl
+replied_len Idle = refl
+replied_len More = refl
+replied_len Sent = refl
+replied_len Dropped = refl
+replied_len Faulted = refl
+replied_len (Refused fault) = refl
+
+-- they are as many as the outcome says
+pub bytes_are_told : (w' : World) (t : Response) (a : Answer) (bytes : List ℕ) → answer_in w' t ≡ a → bytes ≡ bytes_replied a.reply → length bytes ≡ bytes_told t.outcome
+bytes_are_told w' t a bytes same handed =
+    ap (length {A = ℕ}) handed ∙ replied_len a.reply ∙ sym (ap (λ (x : Answer). count_of x.reply) same) ∙ told w' t.outcome
+
+-- for which there is room
 pub room_is_enough : (w w' : World) (e : Event) (t : Response) (room : ℕ) → answer_in w' t ≡ (step w e).answer → bytes_asked e ≤ room → bytes_told t.outcome ≤ room
 room_is_enough w w' e t room same enough =
     omega (arith, told w' t.outcome, ap (λ (a : Answer). count_of a.reply) same, step_len w e, enough)
+
+-- and they make up the answer
+reply_by_bytes : (w' : World) (o : Outcome) (bytes : List ℕ) → bytes ≡ bytes_replied (reply_in w' o) → reply_by (λ span. bytes) o ≡ reply_in w' o
+reply_by_bytes w' Done bytes same = refl
+reply_by_bytes w' (Value x) bytes same = refl
+reply_by_bytes w' (Bytes span) bytes same = ap Bytes same
+reply_by_bytes w' Idle bytes same = refl
+reply_by_bytes w' More bytes same = refl
+reply_by_bytes w' Sent bytes same = refl
+reply_by_bytes w' Dropped bytes same = refl
+reply_by_bytes w' Faulted bytes same = refl
+reply_by_bytes w' (Refused fault) bytes same = refl
+
+pub answer_of_bytes : (w' : World) (t : Response) (a : Answer) (bytes read : List ℕ) → answer_in w' t ≡ a → bytes ≡ bytes_replied a.reply → take (length bytes) read ≡ bytes
+    → answer_with (take (bytes_told t.outcome) read) t ≡ a
+answer_of_bytes w' t a bytes read same handed front =
+    let cells : take (bytes_told t.outcome) read ≡ bytes_replied (reply_in w' t.outcome) =
+    ap (λ n. take n read) (sym (bytes_are_told w' t a bytes same handed)) ∙ front ∙ handed ∙ sym (ap (λ (x : Answer). bytes_replied x.reply) same) in
+    let reply = reply_by_bytes w' t.outcome (take (bytes_told t.outcome) read) cells in
+    (λ k. record { reply = reply k; raised = t.messages }) ∙ same

@@ -1,7 +1,6 @@
 pub mod Callers
 pub mod Legal
 pub mod Held
-pub mod Last
 pub mod Made
 pub mod Read
 pub mod Inside

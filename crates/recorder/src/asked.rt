@@ -1,8 +1,7 @@
 //! Calls that contracts alone see.
 ghost use Rattle.std.specs.Borrow.{ftrue};
 ghost use Rattle.std.specs.Prelude.{◌≡◌, List, [], ◌∷◌, ◌++◌};
-ghost use Rattle.history.specs.Entries.{Entry};
-ghost use Rattle.recorder.specs.Last.{last_of};
+ghost use Rattle.history.specs.Entries.{Entry, last_of};
 
 use history::History;
 use std::marker::Model;

@@ -5,11 +5,10 @@ ghost use Rattle.device.specs.World.{fresh, sizes_of};
 ghost use Rattle.device.specs.Lone.{keep, lone_of, lone_seen, lone_after, seen_by};
 ghost use Rattle.device.specs.Request.{event_of};
 ghost use Rattle.irq_line.specs.Line.{raised};
-ghost use Rattle.history.specs.Entries.{events, given};
+ghost use Rattle.history.specs.Entries.{events, given, last_of, bytes_replied};
 ghost use Rattle.recorder.specs.Callers.{may};
 ghost use Rattle.recorder.specs.Legal.{Legal, calls_of, kept_raises};
 ghost use Rattle.recorder.specs.Held.{Records, Rebased, folded, folded_raises};
-ghost use Rattle.recorder.specs.Last.{last_of};
 ghost use Rattle.recorder.specs.Made.{IsFresh, begun};
 
 use crate::asked::Asked;
@@ -99,6 +98,14 @@ impl<M: GuestMem> Journal<M> {
         ensures { result.calls ≡ asked.now.calls ++ last_of self.now.kept ∷ [] }
     {
         asked.and(self.recording.history())
+    }
+
+    /// The bytes that the last kept call read; none where it read none, or no call is kept.
+    #[inline]
+    pub fn last_read(&self) -> &[u8]
+        ensures { result.now ≡ bytes_replied (last_of self.now.kept).answer.reply }
+    {
+        self.recording.last_read()
     }
 
     /// The device with its calls.

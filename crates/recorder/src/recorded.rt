@@ -2,7 +2,7 @@
 ghost use Rattle.std.specs.Prelude.{◌≡◌, ◌≢◌, ℕ, ◌+◌, ◌<◌, ◌≤◌, ◌^◌, [], true, false, IsTrue, ◌↔◌, IfOk, IfErr, OnOk, OnErr, IfSome, IfNone, Err, length, take, drop, slice_index, sum, ◌⊎◌};
 ghost use Rattle.std.specs.List.{sum_by};
 ghost use Rattle.device.specs.World.{step, world_after, answers, fresh, sizes_of};
-ghost use Rattle.device.specs.Outcome.{answer_in, reply_by, reply_in, bytes_asked, bytes_told};
+ghost use Rattle.device.specs.Outcome.{answer_in, bytes_asked, bytes_told};
 ghost use Rattle.device.specs.Lone.{keep, lone_of, lone_seen, lone_after, seen_by};
 ghost use Rattle.device.specs.Request.{event_of};
 ghost use Rattle.irq_line.specs.Line.{raised};
@@ -17,7 +17,7 @@ use crate::journal::Journal;
 use crate::makes::is_same_make;
 use crate::share::{CALLERS, Share};
 use crate::shares::Shares;
-use device::{Answer, Device, Event, Outcome, Request, Response};
+use device::{Answer, Device, Event, Request, Response};
 use guest_memory::GuestMem;
 use history::History;
 use irq_line::DeviceSeat;
@@ -120,8 +120,8 @@ impl<M: GuestMem, L: Ledger> Recorded<M, L> {
     /// Takes the event that a request stands for on the device, raises its messages in the line and keeps the call, which the
     /// share has from then on, with its answer. None where no more calls can be kept, and then nothing changes.
     ///
-    /// A frame that a service sends is put together in `frame`, and handed out from there. Bytes that are read stand in the
-    /// device's memory still: [`Recorded::record_read`] copies them.
+    /// A frame that a service sends is put together in `frame`, and handed out from there. Bytes that are read are kept with
+    /// the call: [`Recorded::record_read`] copies them.
     #[inline]
     pub fn record_request<'f>(
         &mut self,
@@ -148,7 +148,8 @@ impl<M: GuestMem, L: Ledger> Recorded<M, L> {
         Some(taken)
     }
 
-    /// The same, and bytes that the event reads are copied to the front of `read`: as many as the outcome's span has.
+    /// The same, and bytes that the event reads are copied to the front of `read`, as they were kept: as many as the outcome's
+    /// span has.
     #[inline]
     pub fn record_read<'f>(
         &mut self,
@@ -177,22 +178,8 @@ impl<M: GuestMem, L: Ledger> Recorded<M, L> {
         let Some(taken) = self.record_request(share, request, frame) else {
             return None;
         };
-        self.copy_read(taken.outcome, read);
+        copy_onto(self.journal.last_read(), read);
         Some(taken)
-    }
-
-    // Copies the bytes of an outcome to the front of `read`.
-    #[inline]
-    fn copy_read(&self, outcome: Outcome, read: &mut [u8])
-        requires { bytes_told outcome ≤ length read.old }
-        ensures read { reply_by (λ span. take (bytes_told outcome) read.new) outcome
-            ≡ reply_in self.now.live outcome }
-        ensures rest { drop (bytes_told outcome) read.new ≡ drop (bytes_told outcome) read.old }
-    {
-        if let Outcome::Bytes(span) = outcome {
-            let (front, _) = read.split_at_mut(span.count());
-            self.journal.recording().device().read_span(span, front);
-        }
     }
 
     /// The same as [`Recorded::record_request`] of an event, which comes back where no more calls can be kept.
@@ -310,6 +297,17 @@ impl<M: GuestMem, L: Ledger> Recorded<M, L> {
     {
         self.journal.agrees();
     }
+}
+
+// Copies bytes to the front of `read`.
+#[inline]
+fn copy_onto(bytes: &[u8], read: &mut [u8])
+    requires { length bytes.now ≤ length read.old }
+    ensures front { take (length bytes.now) read.new ≡ bytes.now }
+    ensures rest { drop (length bytes.now) read.new ≡ drop (length bytes.now) read.old }
+{
+    let (front, _) = read.split_at_mut(bytes.len());
+    front.copy_from_slice(bytes);
 }
 
 // A device in a box. It is a call of its own, so that the copies that it makes of the device are gone from the stack after it.

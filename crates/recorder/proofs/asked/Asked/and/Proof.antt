@@ -26,7 +26,7 @@ use denote.Triple.Entry.{alive}
 use denote.Triple.Spec.{Meets, triple_of}
 use denote.Triple.Table.{entered}
 use denote.Triple.Walked.{says, Stays, stay_dropped, walk_of, ends_at, walk_Meets, Goes-dropped}
-use Rattle.recorder.specs.Last.{last_of}
+use Rattle.history.specs.Entries.{last_of}
 use Rattle.recorder.proofs.Walks.{none, none_made}
 use Rattle.recorder.specs.contracts.asked.Asked as Asked
 use Rattle.recorder.specs.contracts.asked.Asked.and as F

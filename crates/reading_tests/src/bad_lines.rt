@@ -4,193 +4,201 @@ use modes::Fault;
 use script_support::short::long_script;
 use std::test::Fail;
 
-// A script in its short form, and the line that it is refused at.
+// A script in its short form, the line that it is refused at, and why that line is bad.
 #[derive(Clone, Copy)]
 struct BadCase {
-    name: &'static str,
+    why: &'static str,
     script: &'static str,
     line: u32,
 }
 
 static CASES: [BadCase; 32] = [
     BadCase {
-        name: "an_empty_script",
+        why: "the script is empty, so that no line describes the device",
         script: "",
         line: 1,
     },
     BadCase {
-        name: "comments_alone",
+        why: "there are comments alone, and no line describes the device",
         script: "#a\n\
             \n\
             #b\n",
         line: 1,
     },
     BadCase {
-        name: "an_empty_line_alone",
+        why: "there is an empty line alone, and no line describes the device",
         script: "\n",
         line: 1,
     },
     BadCase {
-        name: "spaces_alone",
+        why: "there are spaces alone, and no line describes the device",
         script: "   ",
         line: 1,
     },
     BadCase {
-        name: "no_functions",
+        why: "a device has one function at least",
         script: "vfs 0 4096\n",
         line: 1,
     },
     BadCase {
-        name: "a_size_between_steps",
+        why: "the memory of a function has a multiple of 128 bytes",
         script: "vfs 1 4000\n",
         line: 1,
     },
     BadCase {
-        name: "a_cr_at_the_end",
+        why: "a CR is no end of a line, and no space",
         script: "vfs 1 4096\r\n",
         line: 1,
     },
     BadCase {
-        name: "a_cr_at_the_end_without_lf",
+        why: "a CR is no end of a line, and no space, at the end of the script",
         script: "vfs 1 4096\r",
         line: 1,
     },
     BadCase {
-        name: "an_event_before_the_device",
+        why: "an event comes before the line that describes the device",
         script: "#x\n\
             \n\
             open 0\n",
         line: 3,
     },
     BadCase {
-        name: "two_devices",
+        why: "a second line describes the device",
         script: "vfs 1 4096\n\
             vfs 1 4096\n",
         line: 2,
     },
     BadCase {
-        name: "two_devices_without_lf",
+        why: "a second line describes the device, without LF",
         script: "vfs 1 4096\n\
             vfs 1 4096",
         line: 2,
     },
     BadCase {
-        name: "a_pool_of_nine_bits",
+        why: "the number of a function has eight bits, and 256 has nine",
         script: "vfs 1 4096\n\
             open 256\n",
         line: 2,
     },
     BadCase {
-        name: "a_pool_of_nine_bits_without_lf",
+        why: "the number of a function has eight bits, and 256 has nine, without LF",
         script: "vfs 1 4096\n\
             open 256",
         line: 2,
     },
     BadCase {
-        name: "no_hexadecimal_digits",
+        why: "no digits come after 0x",
         script: "vfs 1 4096\n\
             r 0 0x\n",
         line: 2,
     },
     BadCase {
-        name: "no_hexadecimal_digits_without_lf",
+        why: "no digits come after 0x, without LF",
         script: "vfs 1 4096\n\
             r 0 0x",
         line: 2,
     },
     BadCase {
-        name: "an_offset_of_more_than_32_bits",
+        why: "an offset has 32 bits, and this one has 37",
         script: "vfs 1 4096\n\
             r 0 0x1000000000\n",
         line: 2,
     },
     BadCase {
-        name: "an_offset_of_more_than_32_bits_without_lf",
+        why: "an offset has 32 bits, and this one has 37, without LF",
         script: "vfs 1 4096\n\
             r 0 0x1000000000",
         line: 2,
     },
     BadCase {
-        name: "a_count_of_none",
+        why: "a byte stands once at least",
         script: "vfs 1 4096\n\
             mw 0 0 00*0\n",
         line: 2,
     },
     BadCase {
-        name: "a_count_of_none_without_lf",
+        why: "a byte stands once at least, without LF",
         script: "vfs 1 4096\n\
             mw 0 0 00*0",
         line: 2,
     },
     BadCase {
-        name: "2049_bytes_to_write",
+        why: "a write has 2048 bytes at most, and this one has 2049",
         script: "vfs 1 4096\n\
             mw 0 0 00*2049\n",
         line: 2,
     },
     BadCase {
-        name: "2049_bytes_to_write_without_lf",
+        why: "a write has 2048 bytes at most, and this one has 2049, without LF",
         script: "vfs 1 4096\n\
             mw 0 0 00*2049",
         line: 2,
     },
     BadCase {
-        name: "13_bytes_are_no_frame",
+        why: "a frame has 14 bytes at least, and this one has 13",
         script: "vfs 1 4096\n\
             wire 00*13\n",
         line: 2,
     },
     BadCase {
-        name: "13_bytes_are_no_frame_without_lf",
+        why: "a frame has 14 bytes at least, and this one has 13, without LF",
         script: "vfs 1 4096\n\
             wire 00*13",
         line: 2,
     },
     BadCase {
-        name: "17_tagged_bytes_are_no_frame",
+        why: "a frame with a tag has 18 bytes at least, and this one has 17",
         script: "vfs 1 4096\n\
             wire 020000000000020000000099.8100.00*3\n",
         line: 2,
     },
     BadCase {
-        name: "17_tagged_bytes_are_no_frame_without_lf",
+        why: "a frame with a tag has 18 bytes at least, and this one has 17, without LF",
         script: "vfs 1 4096\n\
             wire 020000000000020000000099.8100.00*3",
         line: 2,
     },
     BadCase {
-        name: "go_twice",
+        why: "`go` stands there twice",
         script: "vfs 1 4096\n\
             go\n\
             go\n",
         line: 3,
     },
     BadCase {
-        name: "an_odd_number_of_digits",
+        why: "a byte has two digits, and these are three",
         script: "vfs 8 65536\n\
             open 0\n\
             mw 0 0x1000 004\n",
         line: 3,
     },
     BadCase {
-        name: "a_jumbo_frame_under_the_standard_limit",
+        why: "a frame has 1518 bytes at most where the first line says nothing else, and this one has 9018, for which there is a ring of nine buffers of 1 KiB",
         script: "vfs 8 65536\n\
             @pools\n\
             @receiver 3\n\
-            w 3 0x1028 0\n\
-            w 3 0x1008 256\n\
-            w 3 0x1014 0x02000001\n\
-            w 3 0x1018 9\n\
-            mw 3 0x1000 0040000000000000.0000000000000000.0044000000000000.0000000000000000.0048000000000000.0000000000000000.004c000000000000.0000000000000000.0050000000000000.0000000000000000.0054000000000000.0000000000000000.0058000000000000.0000000000000000.005c000000000000.0000000000000000.0060000000000000.0000000000000000\n\
-            w 3 0x1028 0x02000000\n\
+            w 3 RXDCTL0 0\n\
+            w 3 RDLEN0 256\n\
+            w 3 SRRCTL0 0x02000001\n\
+            w 3 RDT0 9\n\
+            mw 3 0x1000 0040000000000000.0000000000000000.\
+            0044000000000000.0000000000000000.\
+            0048000000000000.0000000000000000.\
+            004c000000000000.0000000000000000.\
+            0050000000000000.0000000000000000.\
+            0054000000000000.0000000000000000.\
+            0058000000000000.0000000000000000.\
+            005c000000000000.0000000000000000.\
+            0060000000000000.0000000000000000\n\
+            w 3 RXDCTL0 0x02000000\n\
             wire 0200000000030200000000990800.00*9004\n\
             mr 3 0x1078 8\n\
             mr 3 0x1088 8\n\
-            r 3 0x1010\n",
+            r 3 RDH0\n",
         line: 22,
     },
     BadCase {
-        name: "the_first_of_two_bad_lines",
+        why: "the first of three bad lines is told",
         script: "vfs 1 4096\n\
             open 0\n\
             x\n\
@@ -199,19 +207,19 @@ static CASES: [BadCase; 32] = [
         line: 3,
     },
     BadCase {
-        name: "9019_bytes_are_no_frame",
+        why: "a frame has 9018 bytes at most, and this one has 9019",
         script: "vfs 1 4096 9018\n\
             wire 00*9018.00\n",
         line: 2,
     },
     BadCase {
-        name: "a_frame_above_its_limit",
+        why: "a frame has 2000 bytes at most by the first line, and this one has 2001",
         script: "vfs 1 4096 2000\n\
             wire 00*2001\n",
         line: 2,
     },
     BadCase {
-        name: "a_frame_above_a_limit_of_1518",
+        why: "a frame has 1518 bytes at most by the first line, and this one has 1519",
         script: "vfs 1 4096 1518\n\
             wire 00*1519\n",
         line: 2,
@@ -224,7 +232,7 @@ fn bad_lines_are_refused(rt: HostRuntime) -> Result<(), Fail> {
         let script = long_script(rt.alloc(), case.script)?;
         let (result, written) = run(rt.alloc(), script.as_bytes());
         let due = (Err(Fault::BadScript(case.line)), 0);
-        assert_eq!(rt; (result, written.len()), due, "{}", case.name);
+        assert_eq!(rt; (result, written.len()), due, "{}", case.why);
     }
     Ok(())
 }

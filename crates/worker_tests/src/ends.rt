@@ -1,26 +1,35 @@
 //! Ports that are dropped, and what the service records of them.
 ghost use Rattle.std.specs.Prelude.{◌≡◌};
 
-use crate::stage::{Begun, Port, SET_UP_EVENTS, begin};
+use crate::stage::{Begun, Port, SET_UP_EVENTS, Seen, Setting, begin, done, ran, read, setting_of};
 use device::{Answer, Event, Reply};
+use device_lock::{Caller, LockedDevice, Share};
+use guest_memory::FlatMem;
 use guest_port::{EndNote, IrqPort};
 use lock_support::{answer, frame_to_3, line_of};
+use log::sink::Discard;
+use script::Script;
 use script_support::registers::VFLINKS;
 use std::alloc::Global;
 use std::marker::Brand;
-use std::sync::Wait;
 use std::sync::ledger::{Blank, Ledger};
+use std::sync::{Arc, Wait};
 use std::test::Fail;
-use workers::sweep;
+use std::thread::Threads;
+use wire_frame::Fault;
+use workers::{OpenGate, sweep};
+
+// What VFLINKS reads of a link that is up at 10 Gb/s (82599 datasheet, link status).
+const LINK_UP: u32 = 0x7000_0000;
 
 // What is seen of a port that is dropped: whether its note knew the end before and after, how many ends are swept, whether a
 // frame for its function is done then and issues no message, and how many calls are kept in the end.
 type Dropped = (bool, bool, Option<usize>, bool, usize);
 
-// Whether a port reads the value of its offset 0x10 so many times.
+// Whether a port reads so many times that its link is up.
 fn reads<L: Ledger, R: Wait>(rt: &R, port: &mut Port<L>, calls: usize) -> bool {
     for _ in 0..calls {
-        if port.reg_read(rt, VFLINKS) != Ok(0x7000_0000) {
+        if port.reg_read(rt, VFLINKS) != Ok(LINK_UP) {
             return false;
         }
     }
@@ -117,7 +126,7 @@ fn one_of_two<L: Ledger, R: Wait>(rt: &R, alloc: Global, blank: Blank) -> Result
         Some((pool, mut note)) if notes.is_empty() => Some((pool, note.ended())),
         _ => None,
     };
-    let is_closed = match answer(rt, &*device, &mut service, Event::VfRead(4, 0x10)) {
+    let is_closed = match answer(rt, &*device, &mut service, Event::VfRead(4, VFLINKS)) {
         Some(answer) => answer.reply == Reply::Refused(2),
         None => false,
     };
@@ -131,5 +140,109 @@ fn a_live_function_stays_open(rt: HostRuntime) -> Result<(), Fail> {
     let seen = one_of_two::<Brand, HostRuntime>(&rt, rt.alloc(), Blank::new(67))?;
     let kept = SET_UP_EVENTS + 4;
     assert_eq!(rt; seen, (Some(1), Some((3, false)), true, true, kept));
+    Ok(())
+}
+
+// Three functions are open, of which two have ports.
+const THREE_OPEN: &str = "vfs 3 4096\n\
+    open 0\n\
+    open 1\n\
+    open 2\n\
+    go\n\
+    r 0 VFLINKS\n\
+    r 2 VFLINKS\n";
+
+// Whether a function is open, by what the service reads of it.
+fn is_open<L: Ledger, R: Wait>(
+    rt: &R,
+    device: &LockedDevice<FlatMem, L>,
+    service: &mut Share<L>,
+    pool: u8,
+) -> Option<bool> {
+    match answer(rt, device, service, Event::VfRead(pool, VFLINKS)) {
+        Some(answer) => match answer.reply {
+            Reply::Value(_) => Some(true),
+            Reply::Refused(2) => Some(false),
+            _ => None,
+        },
+        None => None,
+    }
+}
+
+// Which functions are open once all workers have ended.
+fn open_after<L: Ledger + Send + Sync + 'static, R: Threads + Wait + Copy + Send + 'static>(
+    rt: R,
+    alloc: Global,
+    blank: Blank,
+    setting: Setting,
+    script: Script,
+    gate: Arc<OpenGate>,
+) -> Result<[Option<bool>; 3], Fault>
+    requires name { blank.name ≡ L.name }
+    requires parts { (blank.parts ≡ L.parts) × (blank.parts ≡ 67) }
+{
+    let (device, ended) = ran::<L, OpenGate, R, Discard>(
+        rt, &Discard, alloc, blank, setting, script, gate,
+    )?;
+    let mut open = [None; 3];
+    for mut share in ended.shares {
+        if share.caller() == Caller::Service.number() {
+            open = [
+                is_open(&rt, &*device, &mut share, 0),
+                is_open(&rt, &*device, &mut share, 1),
+                is_open(&rt, &*device, &mut share, 2),
+            ];
+        }
+    }
+    Ok(open)
+}
+
+// The functions of ended ports are closed, and the one without a port is open.
+#[test]
+fn functions_of_ended_ports_are_closed(rt: HostRuntime) -> Result<(), Fail> {
+    let alloc = rt.alloc();
+    let mut setting = setting_of(alloc, 0, 2, 40, false)?;
+    if setting.ports.len() == 3 {
+        let _ = setting.ports.remove(1);
+    }
+    let script = read(alloc, THREE_OPEN)?;
+    let gate = Arc::new(alloc, OpenGate)?;
+    let open = open_after::<Brand, HostRuntime>(rt, alloc, Blank::new(67), setting, script, gate)?;
+    assert_eq!(rt; open, [Some(false), Some(true), Some(false)]);
+    Ok(())
+}
+
+// One guest reads its link status.
+const ONE_READ: &str = "vfs 1 4096\n\
+    open 0\n\
+    go\n\
+    r 0 VFLINKS\n";
+
+// Does a script with a port of pool 0, and the note of another port, which lives on.
+fn seen_with_note<L: Ledger + Send + Sync + 'static, R: Threads + Wait + Copy + Send + 'static>(
+    rt: R,
+    alloc: Global,
+    blank: Blank,
+    note: EndNote,
+) -> Result<Seen, Fail>
+    requires name { blank.name ≡ L.name }
+    requires parts { (blank.parts ≡ L.parts) × (blank.parts ≡ 67) }
+{
+    let mut setting = setting_of(alloc, 0, 0, 40, false)?;
+    let (port, _) = setting.ports.pop().ok_or("no port")?;
+    setting.ports.push((port, note))?;
+    let script = read(alloc, ONE_READ)?;
+    let gate = Arc::new(alloc, OpenGate)?;
+    Ok(done::<L, OpenGate, R, Discard>(rt, &Discard, alloc, blank, setting, script, gate)?)
+}
+
+// A port has ended once its thread has, whatever its note knows: the service makes two calls, of which the second is the end.
+#[test]
+fn an_end_is_recorded_whatever_the_note_knows(rt: HostRuntime) -> Result<(), Fail> {
+    let (_line, seat) = line_of(rt.alloc(), 0)?;
+    let (other, note) = IrqPort::new(rt.alloc(), 0, seat)?;
+    let seen = seen_with_note::<Brand, HostRuntime>(rt, rt.alloc(), Blank::new(67), note)?;
+    assert_eq!(rt; (seen.entries[0], seen.entries[66], seen.kept), (1, 2, 3));
+    drop(other);
     Ok(())
 }

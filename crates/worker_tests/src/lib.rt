@@ -3,12 +3,12 @@
 #![tactic(auto)]
 
 #[cfg(test)]
+mod calls;
+#[cfg(test)]
 mod ends;
 #[cfg(test)]
-mod faults;
+mod guests;
 #[cfg(test)]
-mod gates;
-#[cfg(test)]
-mod rows;
+mod shares;
 #[cfg(test)]
 mod stage;

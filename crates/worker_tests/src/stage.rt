@@ -9,6 +9,7 @@ use irq_line::{DeviceSeat, make};
 use lock_support::{line_of, locked};
 use log::Log;
 use script::Script;
+use script_support::short::long_script;
 use std::alloc::Global;
 use std::sync::ledger::{Blank, Ledger};
 use std::sync::{Arc, Wait};
@@ -127,13 +128,10 @@ fn seated<L: Ledger>(
     Some(ports)
 }
 
-/// A script that is whole.
-pub fn read(alloc: Global, text: &str) -> Result<Script, Fault> {
-    match Script::read(alloc, &mut text.as_bytes()) {
-        Ok(script) => Ok(script),
-        Err(script::Fault::NoMemory) => Err(Fault::NoMemory),
-        Err(_) => Err(Fault::BadMake),
-    }
+/// The script of a short form, in which registers have their names.
+pub fn read(alloc: Global, short: &str) -> Result<Script, Fail> {
+    let text = long_script(alloc, short)?;
+    Ok(Script::read(alloc, &mut text.as_bytes())?)
 }
 
 /// Does a script on a device with ports: the device, and the shares, once all have ended.
@@ -148,7 +146,7 @@ pub fn ran<
     alloc: Global,
     blank: Blank,
     setting: Setting,
-    text: &str,
+    script: Script,
     gate: Arc<G>,
 ) -> Result<(Arc<LockedDevice<FlatMem, L>>, Ended<L>), Fault>
     requires name { blank.name ≡ L.name }
@@ -161,7 +159,6 @@ pub fn ran<
         twins,
         cap,
     } = setting;
-    let script = read(alloc, text)?;
     let (device, mut shares) = locked::<FlatMem, L>(alloc, blank, line, memories, twins, cap)?;
     let pools = prepare(&rt, alloc, &script, &device, &mut shares)?;
     let Some(ports) = seated(alloc, &device, &mut shares, ports, &pools) else {
@@ -186,13 +183,13 @@ pub fn done<
     alloc: Global,
     blank: Blank,
     setting: Setting,
-    text: &str,
+    script: Script,
     gate: Arc<G>,
 ) -> Result<Seen, Fault>
     requires name { blank.name ≡ L.name }
     requires parts { (blank.parts ≡ L.parts) × (blank.parts ≡ 67) }
 {
-    let (device, ended) = ran::<L, G, R, O>(rt, log, alloc, blank, setting, text, gate)?;
+    let (device, ended) = ran::<L, G, R, O>(rt, log, alloc, blank, setting, script, gate)?;
     let count = ended.shares.len();
     let Some(tally) = device.tally(&rt, ended.shares) else {
         return Err(Fault::BadMake);
@@ -206,10 +203,11 @@ pub fn done<
     })
 }
 
-// The pools may receive and transmit; function 3 has the address 02:00:00:00:00:03, its ring has one buffer, at 0x4000, and a
-// frame raises vector 0.
-const SET_UP: &str =
-    "vfs 8 65536\npw 0x51e0 0xff\npw 0x8110 0xff\nopen 3\npw 0xa218 0x2\npw 0xa21c 0x80000300\npw 0xa618 0x8\nmw 3 0x1000 0040000000000000\nw 3 0x1000 0x1000\nw 3 0x1008 128\nw 3 0x1014 0x02000002\nw 3 0x1028 0x02000000\nw 3 0x1018 1\nw 3 0x120 0x8180\nw 3 0x108 7\ngo\n";
+// Function 3 can be given frames: it has the address 02:00:00:00:00:03 and a ring with one buffer, and a frame raises vector 0.
+const SET_UP: &str = "vfs 8 65536\n\
+    @pools\n\
+    @receiver 3\n\
+    go\n";
 
 /// How many events the set-up has.
 pub const SET_UP_EVENTS: usize = 14;

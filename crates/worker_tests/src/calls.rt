@@ -1,11 +1,7 @@
-//! A script whose tally is known, with room for all calls and with room for one.
+//! How many calls the workers of a script make, of which all are kept, some are folded away, or not all have room.
 ghost use Rattle.std.specs.Prelude.{◌≡◌};
 
-use crate::stage::{Seen, Setting, done, ran, setting_of};
-use device::{Event, Reply};
-use device_lock::{Caller, LockedDevice, Share};
-use guest_memory::FlatMem;
-use lock_support::answer;
+use crate::stage::{Seen, done, read, setting_of};
 use log::sink::Discard;
 use std::alloc::Global;
 use std::marker::Brand;
@@ -16,9 +12,16 @@ use std::thread::Threads;
 use wire_frame::Fault;
 use workers::OpenGate;
 
-// Two guests read a register, once and twice; a frame comes from the wire, and the driver of the physical function reads.
-const TWO_GUESTS: &str =
-    "vfs 2 4096\nopen 0\nopen 1\ngo\nr 0 0x10\nr 1 0x10\nr 1 0x10\nwire 0200000000000200000000990800.00*46\npr 0x51b0\n";
+// Two guests read their link status, once and twice; a frame comes from the wire, and the driver of the physical function reads.
+const TWO_GUESTS: &str = "vfs 2 4096\n\
+    open 0\n\
+    open 1\n\
+    go\n\
+    r 0 VFLINKS\n\
+    r 1 VFLINKS\n\
+    r 1 VFLINKS\n\
+    wire 0200000000000200000000990800.00*46\n\
+    pr PF_VT_CTL\n";
 
 // How many calls are kept and folded away; none where the callers made other calls. The two events before `go` and the two ends
 // are of the service.
@@ -48,11 +51,9 @@ fn seen_of_two<L: Ledger + Send + Sync + 'static, R: Threads + Wait + Copy + Sen
     requires parts { (blank.parts ≡ L.parts) × (blank.parts ≡ 67) }
 {
     let setting = setting_of(alloc, 0, 1, cap, has_twin)?;
+    let script = read(alloc, TWO_GUESTS)?;
     let gate = Arc::new(alloc, OpenGate)?;
-    let seen = done::<L, OpenGate, R, Discard>(
-        rt, &Discard, alloc, blank, setting, TWO_GUESTS, gate,
-    );
-    match seen {
+    match done::<L, OpenGate, R, Discard>(rt, &Discard, alloc, blank, setting, script, gate) {
         Ok(seen) => Ok(Ok(counts(&seen))),
         Err(fault) => Ok(Err(fault)),
     }
@@ -82,75 +83,13 @@ fn calls_are_counted_kept_and_folded(rt: HostRuntime) -> Result<(), Fail> {
     Ok(())
 }
 
-// Three functions are open, of which two have ports.
-const THREE_OPEN: &str = "vfs 3 4096\nopen 0\nopen 1\nopen 2\ngo\nr 0 0x10\nr 2 0x10\n";
-
-// Whether a function is open, by what the service reads of it.
-fn is_open<L: Ledger, R: Wait>(
-    rt: &R,
-    device: &LockedDevice<FlatMem, L>,
-    service: &mut Share<L>,
-    pool: u8,
-) -> Option<bool> {
-    match answer(rt, device, service, Event::VfRead(pool, 0x10)) {
-        Some(answer) => match answer.reply {
-            Reply::Value(_) => Some(true),
-            Reply::Refused(2) => Some(false),
-            _ => None,
-        },
-        None => None,
-    }
-}
-
-// Which functions are open once all workers have ended.
-fn open_after<L: Ledger + Send + Sync + 'static, R: Threads + Wait + Copy + Send + 'static>(
-    rt: R,
-    alloc: Global,
-    blank: Blank,
-    setting: Setting,
-    gate: Arc<OpenGate>,
-) -> Result<[Option<bool>; 3], Fault>
-    requires name { blank.name ≡ L.name }
-    requires parts { (blank.parts ≡ L.parts) × (blank.parts ≡ 67) }
-{
-    let (device, ended) = ran::<L, OpenGate, R, Discard>(
-        rt, &Discard, alloc, blank, setting, THREE_OPEN, gate,
-    )?;
-    let mut open = [None; 3];
-    for mut share in ended.shares {
-        if share.caller() == Caller::Service.number() {
-            open = [
-                is_open(&rt, &*device, &mut share, 0),
-                is_open(&rt, &*device, &mut share, 1),
-                is_open(&rt, &*device, &mut share, 2),
-            ];
-        }
-    }
-    Ok(open)
-}
-
-// The functions of ended ports are closed, and the one without a port is open.
-#[test]
-fn functions_of_ended_ports_are_closed(rt: HostRuntime) -> Result<(), Fail> {
-    let alloc = rt.alloc();
-    let mut setting = setting_of(alloc, 0, 2, 40, false)?;
-    if setting.ports.len() == 3 {
-        let _ = setting.ports.remove(1);
-    }
-    let gate = Arc::new(alloc, OpenGate)?;
-    let open = open_after::<Brand, HostRuntime>(rt, alloc, Blank::new(67), setting, gate)?;
-    assert_eq!(rt; open, [Some(false), Some(true), Some(false)]);
-    Ok(())
-}
-
 // A script without guests, whose wire brings 100 frames: more than the channel has room for.
 fn many_frames(alloc: Global) -> Result<String, Fail> {
-    let mut text = String::new(alloc);
-    text.push_str("vfs 1 4096\ngo\n")?;
+    let mut script = String::from_str(alloc, "vfs 1 4096\ngo\n")?;
     for _ in 0..100 {
-        text.push_str("wire 0200000000000200000000990800.00*46\n")?;
+        script.push_str("wire 0200000000000200000000990800.00*46\n")?;
     }
-    Ok(text)
+    Ok(script)
 }
 
 // How many calls the pump made, and how many are kept.
@@ -164,9 +103,9 @@ fn seen_of_many<L: Ledger + Send + Sync + 'static, R: Threads + Wait + Copy + Se
     requires parts { (blank.parts ≡ L.parts) × (blank.parts ≡ 67) }
 {
     let setting = setting_of(alloc, 0, 0, cap, false)?;
+    let script = read(alloc, many_frames(alloc)?.as_str())?;
     let gate = Arc::new(alloc, OpenGate)?;
-    let text = many_frames(alloc)?;
-    match done::<L, OpenGate, R, Discard>(rt, &Discard, alloc, blank, setting, &text, gate) {
+    match done::<L, OpenGate, R, Discard>(rt, &Discard, alloc, blank, setting, script, gate) {
         Ok(seen) => Ok(Ok((seen.entries[65], seen.kept))),
         Err(fault) => Ok(Err(fault)),
     }

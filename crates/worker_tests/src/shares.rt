@@ -1,10 +1,10 @@
-//! What a run answers of shares that are gone, and of notes that are of other ports.
+//! What a run answers where the share of a caller is gone.
 ghost use Rattle.std.specs.Prelude.{◌≡◌};
 
-use crate::stage::{Port, Seen, Setting, done, read, setting_of};
+use crate::stage::{Port, Setting, read, setting_of};
 use guest_memory::FlatMem;
-use guest_port::{EndNote, IrqPort};
-use lock_support::{line_of, locked};
+use guest_port::EndNote;
+use lock_support::locked;
 use log::sink::Discard;
 use std::alloc::Global;
 use std::marker::Brand;
@@ -14,6 +14,12 @@ use std::test::Fail;
 use std::thread::Threads;
 use wire_frame::Fault;
 use workers::{OpenGate, prepare, run_workers};
+
+// Function 0 is opened before `go`, and the driver of the physical function reads after it.
+const ONE_OPEN: &str = "vfs 1 4096\n\
+    open 0\n\
+    go\n\
+    pr PF_VT_CTL\n";
 
 // Does a script after the share of a pool's port was handed out, and is gone; with a pool of 64 none is. Answers how many shares come
 // back.
@@ -33,7 +39,7 @@ fn shares_after<L: Ledger + Send + Sync + 'static, R: Threads + Wait + Copy + Se
         twins: _,
         cap,
     } = setting_of(alloc, 0, 0, 40, false)?;
-    let script = read(alloc, "vfs 1 4096\nopen 0\ngo\npr 0x51b0\n")?;
+    let script = read(alloc, ONE_OPEN)?;
     let (device, mut shares) = locked::<FlatMem, L>(alloc, blank, line, memories, None, cap)?;
     prepare(&rt, alloc, &script, &device, &mut shares)?;
     drop(shares.port(gone));
@@ -52,34 +58,5 @@ fn a_share_that_is_gone_is_told(rt: HostRuntime) -> Result<(), Fail> {
         let seen = shares_after::<Brand, HostRuntime>(rt, rt.alloc(), Blank::new(67), gone)?;
         assert_eq!(rt; seen, due, "{gone}");
     }
-    Ok(())
-}
-
-// Does a script with a port of pool 0, and the note of another port, which lives on.
-fn seen_with_note<L: Ledger + Send + Sync + 'static, R: Threads + Wait + Copy + Send + 'static>(
-    rt: R,
-    alloc: Global,
-    blank: Blank,
-    note: EndNote,
-) -> Result<Seen, Fail>
-    requires name { blank.name ≡ L.name }
-    requires parts { (blank.parts ≡ L.parts) × (blank.parts ≡ 67) }
-{
-    let mut setting = setting_of(alloc, 0, 0, 40, false)?;
-    let (port, _) = setting.ports.pop().ok_or("no port")?;
-    setting.ports.push((port, note))?;
-    let gate = Arc::new(alloc, OpenGate)?;
-    let text = "vfs 1 4096\nopen 0\ngo\nr 0 0x10\n";
-    Ok(done::<L, OpenGate, R, Discard>(rt, &Discard, alloc, blank, setting, text, gate)?)
-}
-
-// A port has ended once its thread has, whatever its note knows: the service makes two calls, of which the second is the end.
-#[test]
-fn an_end_is_recorded_whatever_the_note_knows(rt: HostRuntime) -> Result<(), Fail> {
-    let (_line, seat) = line_of(rt.alloc(), 0)?;
-    let (other, note) = IrqPort::new(rt.alloc(), 0, seat)?;
-    let seen = seen_with_note::<Brand, HostRuntime>(rt, rt.alloc(), Blank::new(67), note)?;
-    assert_eq!(rt; (seen.entries[0], seen.entries[66], seen.kept), (1, 2, 3));
-    drop(other);
     Ok(())
 }

@@ -1,17 +1,17 @@
 //! Guests that run beside each other, and one that is dropped while a frame for it is under way.
 ghost use Rattle.std.specs.Prelude.{◌≡◌};
 
-use crate::stage::{Begun, SET_UP_EVENTS, Seen, Setting, begin, done, setting_of};
+use crate::stage::{Begun, SET_UP_EVENTS, Seen, Setting, begin, done, read, setting_of};
 use device::{Event, Reply};
 use device_lock::{LockedDevice, Share};
 use guest_memory::FlatMem;
 use lock_support::{answer, frame_to_3};
 use log::sink::Memory as Sink;
 use log::{Level, Log, Logged};
-use script_support::registers::VFGPRC;
+use script::Script;
+use script_support::registers::{VFGPRC, VFLINKS};
 use std::alloc::Global;
 use std::marker::Brand;
-use std::process::Abort;
 use std::sync::atomic::{AtomicU64, Ordering};
 use std::sync::ledger::{Blank, Ledger};
 use std::sync::{Arc, Wait};
@@ -50,7 +50,14 @@ impl Gate for Hold {
     }
 }
 
-const SCRIPT: &str = "vfs 3 4096\nopen 1\nopen 2\ngo\nr 1 0x10\nr 2 0x10\nr 2 0x10\n";
+// Guest 1 reads its link status once, and guest 2 twice.
+const TWO_GUESTS: &str = "vfs 3 4096\n\
+    open 1\n\
+    open 2\n\
+    go\n\
+    r 1 VFLINKS\n\
+    r 2 VFLINKS\n\
+    r 2 VFLINKS\n";
 
 // The workers, in the order of their starts, which is that of their joins too.
 const WORKERS: [&str; 6] = ["port1", "port2", "pf", "pump", "reader", "service"];
@@ -74,17 +81,18 @@ fn hold_two<L: Ledger + Send + Sync + 'static, R: Threads + Wait + Copy + Send +
     alloc: Global,
     blank: Blank,
     setting: Setting,
+    script: Script,
     gate: Arc<Hold>,
 ) -> Result<Seen, Fault>
     requires name { blank.name ≡ L.name }
     requires parts { (blank.parts ≡ L.parts) × (blank.parts ≡ 67) }
 {
-    done::<L, Hold, R, O>(rt, log, alloc, blank, setting, SCRIPT, gate)
+    done::<L, Hold, R, O>(rt, log, alloc, blank, setting, script, gate)
 }
 
 // Guest 1 waits for guest 2, and both end.
 #[test]
-fn gate_two_guests(rt: HostRuntime) -> Result<(), Fail> {
+fn guests_run_beside_each_other(rt: HostRuntime) -> Result<(), Fail> {
     let alloc = rt.alloc();
     let gate = Arc::new(
         alloc,
@@ -102,6 +110,7 @@ fn gate_two_guests(rt: HostRuntime) -> Result<(), Fail> {
         alloc,
         Blank::new(67),
         setting,
+        read(alloc, TWO_GUESTS)?,
         Arc::try_clone(&gate)?,
     )?;
     drop(log);
@@ -110,7 +119,7 @@ fn gate_two_guests(rt: HostRuntime) -> Result<(), Fail> {
         (counts(&seen), gate.late.load(Ordering::SeqCst)),
         ((67, 7, [1, 2, 4]), 0)
     );
-    third_guest(&rt, alloc)
+    Ok(())
 }
 
 // How many shares there are, how many calls are kept, and how many are of ports 1 and 2 and of the service.
@@ -174,7 +183,7 @@ fn under_way<L: Ledger, R: Wait>(rt: &R, alloc: Global, blank: Blank) -> Result<
     let mut notes = Vec::new(alloc);
     notes.push((3, note))?;
     let swept = sweep(rt, &mut notes, &device, &mut service).ok();
-    let last = read_of_3(rt, &*device, &mut service, 0x10);
+    let last = read_of_3(rt, &*device, &mut service, VFLINKS);
     Ok((
         (is_fed, is_pumped),
         (before, after),
@@ -186,8 +195,9 @@ fn under_way<L: Ledger, R: Wait>(rt: &R, alloc: Global, blank: Blank) -> Result<
 }
 
 // The set-up, the frame, a read, the end and another read are kept.
-fn third_guest<R: Abort + Wait>(rt: &R, alloc: Global) -> Result<(), Fail> {
-    let seen = under_way::<Brand, R>(rt, alloc, Blank::new(67))?;
+#[test]
+fn a_frame_comes_for_a_port_that_is_dropped(rt: HostRuntime) -> Result<(), Fail> {
+    let seen = under_way::<Brand, HostRuntime>(&rt, rt.alloc(), Blank::new(67))?;
     let due = (
         (true, true),
         (false, true),

@@ -316,10 +316,7 @@ fn boxed<M: GuestMem>(alloc: Global, device: Device<M>) -> Result<Box<Device<M>>
     ensures same { IfOk result (λ b. b.value ≡ device) }
     ensures no_memory { IfErr result (λ e. e ≡ Fault.NoMemory) }
 {
-    let Ok(boxed) = Box::new(alloc, device) else {
-        return Err(Fault::NoMemory);
-    };
-    Ok(boxed)
+    Ok(Box::new(alloc, device)?)
 }
 
 // The journal with a book of its own, in which nothing is counted, and the shares of all callers.
@@ -336,9 +333,7 @@ fn shared<M: GuestMem, L: Ledger>(
     ensures no_memory { IfErr result (λ e. e ≡ Fault.NoMemory) }
 {
     let (book, all) = blank.open::<L>();
-    let Ok(shares) = Shares::new(alloc, all) else {
-        return Err(Fault::NoMemory);
-    };
+    let shares = Shares::new(alloc, all)?;
     Ok((Recorded { journal, book }, shares))
 }
 

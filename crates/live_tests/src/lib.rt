@@ -16,3 +16,5 @@ mod mapped;
 mod restless;
 #[cfg(test)]
 mod turning;
+#[cfg(test)]
+mod watched;

@@ -1,7 +1,8 @@
 //! Tests of memories that others write too, and of those that nobody else writes.
 //!
 //! Contracts alone see a trace, so it can't be printed and compared. Here functions have the accesses that they make in their
-//! contracts, written by hand, and the definitions are tried on traces written by hand.
+//! contracts, written by hand, and the definitions are tried on traces written by hand. A memory that keeps its accesses at run time
+//! too serves to replay random events, while threads write it.
 #![tactic(auto)]
 
 #[cfg(test)]

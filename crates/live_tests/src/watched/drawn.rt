@@ -28,8 +28,12 @@ const SETTINGS: [(u32, u32); 8] = [
     (VMOLR + 8, 0x1900_0000),
 ];
 
-// What a function's driver writes. Tags are stripped.
-const DRIVEN: [(u32, u32); 12] = [
+// What a function's driver writes, in order. Tags are stripped.
+const DRIVEN: [(u32, u32); 16] = [
+    (TXDCTL0, 0),
+    (RXDCTL0, 0),
+    (TDH0, 0),
+    (RDH0, 0),
     (TDBAL0, SENDS as u32),
     (TDLEN0, 128),
     (TXDCTL0, ENABLE),
@@ -54,10 +58,13 @@ const READ: [u32; 6] = [VTEICR, VFGPRC, VFGPTC, TDH0, RDH0, TDT0];
 // The limit of frames, in bytes.
 const LIMIT: u32 = 1518;
 
-// What draws the events, and the room for their bytes.
+// What draws the events, and the room for their bytes. Where a driver sets its function up, the function's number, and what it writes
+// next.
 #[derive(Drop)]
 pub struct Drawn {
     chance: Chance,
+    driver: u8,
+    due: usize,
     frame: FrameBuf,
     bytes: [u8; MOST_BYTES],
 }
@@ -84,6 +91,8 @@ impl Drawn {
     pub fn new(seed: u64) -> Drawn {
         Drawn {
             chance: Chance::new(seed),
+            driver: 0,
+            due: DRIVEN.len(),
             frame: FrameBuf::blank(),
             bytes: [0; MOST_BYTES],
         }
@@ -91,6 +100,10 @@ impl Drawn {
 
     // The next event.
     pub fn next(&mut self) -> Request<'_> {
+        if let Some((offset, value)) = DRIVEN.get(self.due).copied() {
+            self.due = self.due.saturating_add(1);
+            return Request::VfWrite(self.driver, offset, value);
+        }
         let pool = self.chance.below(u32::from(FUNCTIONS)) as u8;
         match self.chance.below(64) {
             0..=23 => Request::Serve(pool, Queue::Q0),
@@ -114,9 +127,12 @@ impl Drawn {
         offsets.get(place).copied().unwrap_or(0)
     }
 
-    // A write of a driver's.
+    // A write of a driver's: one of them, or the first of all.
     fn driven(&mut self, pool: u8) -> Request<'static> {
-        let place = self.chance.place(DRIVEN.len());
+        let mut place = self.chance.place(DRIVEN.len());
+        if self.chance.below(3) == 0 {
+            (self.driver, self.due, place) = (pool, 1, 0);
+        }
         let (offset, value) = DRIVEN.get(place).copied().unwrap_or((VTEIMS, 7));
         Request::VfWrite(pool, offset, value)
     }

@@ -130,7 +130,7 @@ fn put(cells: &mut [u8], at: u64, word: u64) {
 // How much a guest writes that finds its memory zero.
 const FIRST: u32 = 64;
 
-// A guest that writes by chance, the same for each seed: up to two changes after each access.
+// A guest that writes by chance, the same for each seed: up to eight changes after each access.
 #[derive(Drop)]
 pub struct Seeded {
     chance: Chance,
@@ -149,7 +149,7 @@ impl Seeded {
 impl Guest for Seeded {
     fn write(&mut self, cells: &mut [u8]) {
         let count = self.due;
-        self.due = self.chance.below(3);
+        self.due = self.chance.below(9);
         for _ in 0..count {
             let change = Change::draw(&mut self.chance);
             put(cells, change.at, change.first);

@@ -41,7 +41,7 @@ fn a_hundred_thousand_events_while_guests_write(rt: HostRuntime) -> Result<(), F
         }
         tally = tally.and(replay(&rt, rt.alloc(), guests, 10_000, seed)?);
     }
-    tally.check(&rt, 500);
+    tally.check(&rt, 400);
     Ok(())
 }
 

@@ -9,11 +9,21 @@ use crate::compare::assert_equal;
 use live_memory::{Dma, Shared, Step, Trace};
 use std::process::Abort;
 
-// All 64 bytes are one more at every read, whatever is written.
+/// All 4096 bytes are one more at every read, whatever is written.
 #[derive(Drop)]
-struct Restless {
+pub struct Restless {
     next: u8,
-    known: [u8; 64],
+    known: [u8; 4096],
+}
+
+impl Restless {
+    /// A memory whose first read gives ones.
+    pub fn new() -> Restless {
+        Restless {
+            next: 1,
+            known: [0; 4096],
+        }
+    }
 }
 
 impl Dma<Shared> for Restless {
@@ -70,10 +80,7 @@ fn each_call<D: Dma<K>, K>(memory: &mut D, trace: &mut Trace) -> ([u8; 2], u64, 
 
 #[test]
 fn gives_what_stands_there_at_each_read(rt: HostRuntime) {
-    let mut memory = Restless {
-        next: 1,
-        known: [0; 64],
-    };
+    let mut memory = Restless::new();
     let mut trace = Step::Begin.trace();
     let ones = 0x0202_0202_0202_0202;
     let twos = 0x0303_0303_0303_0303;

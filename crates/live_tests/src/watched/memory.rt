@@ -1,5 +1,5 @@
 //! A memory that changes after each access, and keeps in a log what was read and written.
-ghost use Rattle.std.specs.Prelude.{◌≡◌, ℕ, ◌+◌, ◌≤◌, List, true, length, slice_range, vec_len};
+ghost use Rattle.std.specs.Prelude.{◌≡◌, ◌+◌, true, length, slice_range};
 ghost use Rattle.std.proofs.lemmas.Bool.{true≢false};
 ghost use Rattle.live_tests.specs.Watched.{length_standing};
 

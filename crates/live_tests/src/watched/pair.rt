@@ -1,5 +1,4 @@
 //! A device over memories that change, and beside it one over plain memories that are given what the first one read.
-ghost use Rattle.std.specs.Prelude.{◌≡◌, ◌≤◌, length};
 
 use super::guests::{SENDS, SIZE};
 use super::log::{Access, Log};

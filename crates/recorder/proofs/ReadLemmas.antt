@@ -191,10 +191,13 @@ reply_by_bytes w' Dropped bytes same = refl
 reply_by_bytes w' Faulted bytes same = refl
 reply_by_bytes w' (Refused fault) bytes same = refl
 
-pub answer_of_bytes : (w' : World) (t : Response) (a : Answer) (bytes read : List ℕ) → answer_in w' t ≡ a → bytes ≡ bytes_replied a.reply → take (length bytes) read ≡ bytes
-    → answer_with (take (bytes_told t.outcome) read) t ≡ a
-answer_of_bytes w' t a bytes read same handed front =
-    let cells : take (bytes_told t.outcome) read ≡ bytes_replied (reply_in w' t.outcome) =
-    ap (λ n. take n read) (sym (bytes_are_told w' t a bytes same handed)) ∙ front ∙ handed ∙ sym (ap (λ (x : Answer). bytes_replied x.reply) same) in
-    let reply = reply_by_bytes w' t.outcome (take (bytes_told t.outcome) read) cells in
+pub answer_of_bytes : (w' : World) (t : Response) (a : Answer) (bytes : List ℕ) → answer_in w' t ≡ a → bytes ≡ bytes_replied a.reply → answer_with bytes t ≡ a
+answer_of_bytes w' t a bytes same handed =
+    let reply = reply_by_bytes w' t.outcome bytes (handed ∙ sym (ap (λ (x : Answer). bytes_replied x.reply) same)) in
     (λ k. record { reply = reply k; raised = t.messages }) ∙ same
+
+-- also where they are the first of more cells
+pub answer_of_front : (w' : World) (t : Response) (a : Answer) (bytes read : List ℕ) → answer_in w' t ≡ a → bytes ≡ bytes_replied a.reply → take (length bytes) read ≡ bytes
+    → answer_with (take (bytes_told t.outcome) read) t ≡ a
+answer_of_front w' t a bytes read same handed front =
+    ap (λ n. answer_with (take n read) t) (sym (bytes_are_told w' t a bytes same handed)) ∙ ap (λ cells. answer_with cells t) front ∙ answer_of_bytes w' t a bytes same handed

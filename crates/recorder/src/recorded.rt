@@ -17,7 +17,8 @@ use crate::journal::Journal;
 use crate::makes::is_same_make;
 use crate::share::{CALLERS, Share};
 use crate::shares::Shares;
-use device::{Answer, Device, Event, Request, Response};
+use device::bytes::MOST_BYTES;
+use device::{Answer, Device, Event, MemBytes, Outcome, Reply, Request, Response, Span};
 use guest_memory::GuestMem;
 use history::History;
 use irq_line::DeviceSeat;
@@ -195,7 +196,7 @@ impl<M: GuestMem, L: Ledger> Recorded<M, L> {
         let mut frame = FrameBuf::blank();
         let request = event.as_request();
         match self.record_request(share, request, &mut frame) {
-            Some(taken) => Ok(self.journal.recording().device().answer(&taken)),
+            Some(taken) => Ok(answer_with(self.journal.last_read(), &taken)),
             None => Err(Full(event)),
         }
     }
@@ -308,6 +309,41 @@ fn copy_onto(bytes: &[u8], read: &mut [u8])
 {
     let (front, _) = read.split_at_mut(bytes.len());
     front.copy_from_slice(bytes);
+}
+
+// The answer that a response stands for, where these are the bytes that were read. Each arm makes it where it is to stand: one made
+// before the arms meet would be copied.
+#[inline]
+fn answer_with(bytes: &[u8], taken: &Response<'_>) -> Answer
+    requires { bytes_told taken.now.outcome ≡ length bytes.now }
+    ensures { result ≡ answer_with bytes.now taken.now }
+{
+    match taken.outcome {
+        Outcome::Bytes(span) => Answer {
+            reply: Reply::Bytes(copied(span, bytes)),
+            raised: taken.messages.to_masks(),
+        },
+        Outcome::Refused(fault) => Answer {
+            reply: Reply::Refused(fault.number()),
+            raised: taken.messages.to_masks(),
+        },
+        outcome => Answer {
+            reply: outcome.with(MemBytes::new(), 0),
+            raised: taken.messages.to_masks(),
+        },
+    }
+}
+
+// A copy of the bytes of a span.
+fn copied(span: Span, bytes: &[u8]) -> MemBytes
+    requires { span.count ≡ length bytes.now }
+    ensures { result ≡ bytes.now }
+{
+    prove!(span.count() <= MOST_BYTES);
+    match MemBytes::from_bytes(bytes) {
+        Ok(copy) => copy,
+        Err(_) => unreachable!(),
+    }
 }
 
 // A device in a box. It is a call of its own, so that the copies that it makes of the device are gone from the stack after it.

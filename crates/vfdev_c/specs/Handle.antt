@@ -20,7 +20,7 @@ use Rattle.history.specs.Recording.{made_like}
 use Rattle.vfdev_c.specs.declared.reply.VfdevReply.{VfdevReply}
 use Rattle.vfdev_c.specs.declared.handle_state.HandleState.{HandleState}
 use Rattle.vfdev_c.specs.declared.handle_state.HandleState.TheVariants.{Lending, Made, Kept, Lent}
-use Rattle.vfdev_c.specs.LentWorld.{LentWorld, lent_world, met_by, taken_by, AreOnce}
+use Rattle.vfdev_c.specs.LentWorld.{met_by, taken_by, AreOnce}
 use Rattle.vfdev_c.specs.Recorded.{is_full, taking}
 use Rattle.vfdev_c.specs.Spans.{Lent as Blocks, none_lent, span, overlaps_one}
 

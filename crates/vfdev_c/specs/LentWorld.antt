@@ -1,5 +1,5 @@
 -- A device over blocks that guests write while it works on them.
-use Rattle.std.specs.Prelude.{◌≡◌, true, []}
+use Rattle.std.specs.Prelude.{true, []}
 use Rattle.live_memory.specs.Traces.{Touches}
 use Rattle.device.specs.Events.{Event}
 use Rattle.device.specs.World.{World, step}

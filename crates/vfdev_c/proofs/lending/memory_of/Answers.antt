@@ -1,7 +1,7 @@
 -- A memory with one region, which is the block.
-use Rattle.std.proofs.Common.{◌≡◌, ℕ, List, [], ◌∷◌, false, length, replicate, refl, sym, ap, subst, ◌∙◌}
+use Rattle.std.proofs.Common.{◌≡◌, ℕ, List, [], false, length, replicate, refl, sym, ap, subst, ◌∙◌}
 use Rattle.std.proofs.lemmas.List.{length-replicate}
-use Rattle.mapped_memory.specs.Regions.{Part, Regions}
+use Rattle.mapped_memory.specs.Regions.{Regions}
 use Rattle.mapped_memory.specs.Mapping.{with_part}
 use Rattle.vfdev_c.specs.Spans.{IsBlock, block_of}
 use Rattle.vfdev_c.proofs.lending.memory_of.Goals as goal

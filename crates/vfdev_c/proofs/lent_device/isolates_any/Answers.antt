@@ -1,5 +1,5 @@
 -- The isolation law of one event, in a world of as many functions.
-use Rattle.std.proofs.Common.{◌≡◌, ◌≤◌, ℕ, [], ◌∷◌, length, sym, subst}
+use Rattle.std.proofs.Common.{◌≤◌, ℕ, [], ◌∷◌, length, sym, subst}
 use Rattle.vfdev_c.specs.Handle.{IsolatedStep}
 use Rattle.vfdev_c.proofs.lent_device.isolates_any.Goals as goal
 

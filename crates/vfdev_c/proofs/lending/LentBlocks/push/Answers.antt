@@ -1,5 +1,5 @@
 -- One memory more, which is one block.
-use Rattle.std.proofs.Common.{rules, arith, ◌≡◌, ◌≤◌, ◌<◌, length, sym, ap, subst, ◌∙◌}
+use Rattle.std.proofs.Common.{rules, arith, ◌<◌, length, sym, ap, subst, ◌∙◌}
 use Rattle.vfdev_c.specs.Spans.{Lent, lent, one_more, block_of, blocks_of, AreBlocks}
 use Rattle.vfdev_c.proofs.LentLemmas.{blocks_more, lent_more, as_many}
 use Rattle.vfdev_c.proofs.lending.LentBlocks.push.Goals as goal

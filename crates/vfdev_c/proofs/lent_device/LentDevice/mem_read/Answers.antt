@@ -1,5 +1,5 @@
 -- A read is one of no more bytes than an event names, which does the same.
-use Rattle.std.proofs.Common.{◌≡◌, List, ℕ, length, ◌∙◌, ap, subst}
+use Rattle.std.proofs.Common.{◌≡◌, ℕ, length, ◌∙◌, ap, subst}
 use Rattle.device.specs.Events.{Event}
 use Rattle.device.specs.declared.event.Answer.{Answer}
 use Rattle.device.specs.declared.event.Event.TheVariants.{MemRead}
@@ -8,7 +8,7 @@ use Rattle.device.specs.Outcome.{bytes_in, reply_in, HasCount}
 use Rattle.device.specs.Replies.{Reply}
 use Rattle.device.specs.World.{World, Stepped, step, function_of}
 use Rattle.vfdev_c.specs.Handle.{IsolatedStep, shown, bytes_shown}
-use Rattle.vfdev_c.specs.LentWorld.{LentWorld, lent_world, taken_by}
+use Rattle.vfdev_c.specs.LentWorld.{LentWorld, lent_world}
 use Rattle.vfdev_c.proofs.LentLemmas.{isolated_met, read_fills}
 use Rattle.vfdev_c.proofs.RecordedLemmas.{step_alike}
 use Rattle.vfdev_c.proofs.lent_device.LentDevice.mem_read.Goals as goal

@@ -1,5 +1,5 @@
 -- To each function it is as if it were alone.
-use Rattle.std.proofs.Common.{◌∙◌, ap, subst}
+use Rattle.std.proofs.Common.{subst}
 use Rattle.device.specs.Live.{told_world}
 use Rattle.device.specs.Request.{event_of}
 use Rattle.vfdev_c.specs.Handle.{IsolatedStep}

@@ -25,7 +25,6 @@ use Rattle.device.specs.Act.{Service, act, performed, unless_refused, refusal, s
 use Rattle.device.specs.World.{World, Stepped, step, own_step, function_of, served, service, flagged, refused}
 use Rattle.history.specs.declared.caller.Caller.{Caller}
 use Rattle.history.specs.Entries.{Entry, entry, no_entry, last_of, bytes_replied}
-use Rattle.recorder.specs.Read.{answer_with}
 
 -- how many bytes are replied
 count_of : Reply → ℕ
@@ -150,12 +149,15 @@ step_len w (Wire frame) = either (nat_lt w.limit (length frame)) _ _ 0 (omega ar
 
 -- ---- the bytes of the call that was kept last
 
--- as a history hands them out
-pub bytes_kept : (calls more : List Entry) (c : Caller) (e : Event) (a : Answer) (bytes : List ℕ) → more ≡ calls ++ entry c e a ∷ [] → bytes ≡ bytes_replied (last_of more).answer.reply → bytes ≡ bytes_replied a.reply
-bytes_kept calls more c e a bytes kept handed =
+-- the answer of the one call more
+pub last_answer : (calls more : List Entry) (c : Caller) (e : Event) (a : Answer) → more ≡ calls ++ entry c e a ∷ [] → (last_of more).answer ≡ a
+last_answer calls more c e a kept =
     let last : length more - 1 ≡ length calls = let l = ap (length {A = Entry}) kept in let n = length-append calls (entry c e a ∷ []) in omega arith in
     let same : last_of more ≡ entry c e a = (λ k. slice_index_or (kept k) (last k) no_entry) ∙ get_or_push calls (entry c e a) no_entry (length calls) refl in
-    handed ∙ ap (λ (x : Entry). bytes_replied x.answer.reply) same
+    ap (λ (x : Entry). x.answer) same
+
+pub last_reply : (calls more : List Entry) (c : Caller) (e : Event) (a : Answer) (w' : World) (t : Response) → more ≡ calls ++ entry c e a ∷ [] → answer_in w' t ≡ a → (last_of more).answer.reply ≡ reply_in w' t.outcome
+last_reply calls more c e a w' t kept same = ap (λ (x : Answer). x.reply) (last_answer calls more c e a kept ∙ sym same)
 
 replied_len : (reply : Reply) → length (bytes_replied reply) ≡ count_of reply
 unfolding count_of
@@ -170,9 +172,8 @@ replied_len Faulted = refl
 replied_len (Refused fault) = refl
 
 -- they are as many as the outcome says
-pub bytes_are_told : (w' : World) (t : Response) (a : Answer) (bytes : List ℕ) → answer_in w' t ≡ a → bytes ≡ bytes_replied a.reply → length bytes ≡ bytes_told t.outcome
-bytes_are_told w' t a bytes same handed =
-    ap (length {A = ℕ}) handed ∙ replied_len a.reply ∙ sym (ap (λ (x : Answer). count_of x.reply) same) ∙ told w' t.outcome
+pub bytes_are_told : (w' : World) (o : Outcome) (reply : Reply) (bytes : List ℕ) → reply ≡ reply_in w' o → bytes ≡ bytes_replied reply → length bytes ≡ bytes_told o
+bytes_are_told w' o reply bytes same handed = ap (length {A = ℕ}) handed ∙ replied_len reply ∙ ap count_of same ∙ told w' o
 
 -- for which there is room
 pub room_is_enough : (w w' : World) (e : Event) (t : Response) (room : ℕ) → answer_in w' t ≡ (step w e).answer → bytes_asked e ≤ room → bytes_told t.outcome ≤ room
@@ -191,13 +192,9 @@ reply_by_bytes w' Dropped bytes same = refl
 reply_by_bytes w' Faulted bytes same = refl
 reply_by_bytes w' (Refused fault) bytes same = refl
 
-pub answer_of_bytes : (w' : World) (t : Response) (a : Answer) (bytes : List ℕ) → answer_in w' t ≡ a → bytes ≡ bytes_replied a.reply → answer_with bytes t ≡ a
-answer_of_bytes w' t a bytes same handed =
-    let reply = reply_by_bytes w' t.outcome bytes (handed ∙ sym (ap (λ (x : Answer). bytes_replied x.reply) same)) in
-    (λ k. record { reply = reply k; raised = t.messages }) ∙ same
-
 -- also where they are the first of more cells
-pub answer_of_front : (w' : World) (t : Response) (a : Answer) (bytes read : List ℕ) → answer_in w' t ≡ a → bytes ≡ bytes_replied a.reply → take (length bytes) read ≡ bytes
-    → answer_with (take (bytes_told t.outcome) read) t ≡ a
-answer_of_front w' t a bytes read same handed front =
-    ap (λ n. answer_with (take n read) t) (sym (bytes_are_told w' t a bytes same handed)) ∙ ap (λ cells. answer_with cells t) front ∙ answer_of_bytes w' t a bytes same handed
+pub reply_of_front : (w' : World) (o : Outcome) (reply : Reply) (bytes read : List ℕ) → reply ≡ reply_in w' o → bytes ≡ bytes_replied reply → take (length bytes) read ≡ bytes
+    → reply_by (λ span. take (bytes_told o) read) o ≡ reply_in w' o
+reply_of_front w' o reply bytes read same handed front =
+    reply_by_bytes w' o (take (bytes_told o) read)
+    (ap (λ n. take n read) (sym (bytes_are_told w' o reply bytes same handed)) ∙ front ∙ handed ∙ ap bytes_replied same)

@@ -2,11 +2,11 @@
 ghost use Rattle.std.specs.Prelude.{◌≡◌, ◌≢◌, ℕ, ◌+◌, ◌<◌, ◌≤◌, ◌^◌, [], true, false, IsTrue, ◌↔◌, IfOk, IfErr, OnOk, OnErr, IfSome, IfNone, Err, length, take, drop, slice_index, sum, ◌⊎◌};
 ghost use Rattle.std.specs.List.{sum_by};
 ghost use Rattle.device.specs.World.{step, world_after, answers, fresh, sizes_of};
-ghost use Rattle.device.specs.Outcome.{answer_in, bytes_asked, bytes_told};
+ghost use Rattle.device.specs.Outcome.{answer_in, reply_by, reply_in, bytes_asked, bytes_told};
 ghost use Rattle.device.specs.Lone.{keep, lone_of, lone_seen, lone_after, seen_by};
 ghost use Rattle.device.specs.Request.{event_of};
 ghost use Rattle.irq_line.specs.Line.{raised};
-ghost use Rattle.history.specs.Entries.{is_cap, events, given};
+ghost use Rattle.history.specs.Entries.{is_cap, events, given, last_of};
 ghost use Rattle.recorder.specs.Callers.{may};
 ghost use Rattle.recorder.specs.Legal.{Legal, calls_of, kept_raises};
 ghost use Rattle.recorder.specs.Held.{having_asked, count_of, Keeps, Records, Rebased, folded, folded_raises};
@@ -179,8 +179,23 @@ impl<M: GuestMem, L: Ledger> Recorded<M, L> {
         let Some(taken) = self.record_request(share, request, frame) else {
             return None;
         };
-        copy_onto(self.journal.last_read(), read);
+        self.copy_read(taken.outcome, read);
         Some(taken)
+    }
+
+    // Copies the bytes that were read, as they were kept with the last call, to the front of `read`. Where none were, the call isn't
+    // looked at.
+    #[inline]
+    fn copy_read(&self, outcome: Outcome, read: &mut [u8])
+        requires room { bytes_told outcome ≤ length read.old }
+        requires last { (last_of self.now.kept).answer.reply ≡ reply_in self.now.live outcome }
+        ensures read { reply_by (λ span. take (bytes_told outcome) read.new) outcome
+            ≡ reply_in self.now.live outcome }
+        ensures rest { drop (bytes_told outcome) read.new ≡ drop (bytes_told outcome) read.old }
+    {
+        if let Outcome::Bytes(_) = outcome {
+            copy_onto(self.journal.last_read(), read);
+        }
     }
 
     /// The same as [`Recorded::record_request`] of an event, which comes back where no more calls can be kept.

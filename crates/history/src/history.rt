@@ -135,8 +135,8 @@ impl History {
     }
 
     // One more entry, for which there is room, of a read of a guest's memory. The read is made here, once, and its bytes stand in
-    // the store and nowhere else.
-    #[inline]
+    // the store and nowhere else. It is a call of its own, so that other events are taken without its steps beside theirs.
+    #[inline(never)]
     pub(crate) fn push_read<'f, D: Dma<K>, K>(
         &mut self,
         caller: Caller,

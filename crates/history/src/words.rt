@@ -41,8 +41,8 @@ fn vectors_of(first: bool, second: bool, third: bool) -> Vectors
     Vectors::from_bits(u8::from(first) + 2 * u8::from(second) + 4 * u8::from(third))
 }
 
-/// Adds the words of messages that are not 0, and tells the vectors that they are of.
-#[inline]
+/// Adds the words of messages that are not 0, and tells the vectors that they are of. It is inlined, since every event comes by.
+#[inline(always)]
 #[tactic(auto, using(crate::proofs::WordLemmas::unpacked, crate::proofs::WordLemmas::packed_len))]
 pub fn append_words(store: &mut Vec<u8>, words: [u64; 3]) -> Vectors
     requires { vec_len store.old + 24 ≤ vec_capacity store.old }

@@ -8,11 +8,13 @@ use Rattle.device.specs.Events.{Event}
 use Rattle.device.specs.declared.event.Reply.TheVariants.{Done, Value, Bytes, Idle, More, Sent, Dropped, Faulted, Refused}
 use Rattle.device.specs.Live.{told_world}
 use Rattle.device.specs.Outcome.{Outcome, HasCount, HoldsIn, bytes_told, reply_in}
-use Rattle.device.specs.World.{World, step}
-use Rattle.device.proofs.LiveLemmas.{length_told}
+use Rattle.device.specs.World.{World, Stepped, step}
+use Rattle.device.proofs.LiveLemmas.{length_told, told_world_none, untouched}
 use Rattle.vfdev_c.specs.declared.lending.Span.{Span}
 use Rattle.vfdev_c.specs.Spans.{span, lent, one_more, block_of, blocks_of, IsBlock, AreBlocks}
-use Rattle.vfdev_c.specs.Handle.{IsolatedStep, bytes_shown}
+use Rattle.vfdev_c.specs.Handle.{IsolatedStep, TakesLent, bytes_shown, shown}
+use Rattle.vfdev_c.specs.LentWorld.{lent_world}
+use Rattle.vfdev_c.specs.declared.reply.VfdevReply.{VfdevReply}
 
 -- ---- one block more
 
@@ -50,6 +52,22 @@ pub isolated_met : (w new : World) (before now : Touches) (e : Event) → new �
     → IsolatedStep (told_world before now w) e new
 isolated_met w new before now e is law =
     subst (λ v. IsolatedStep (told_world before now w) e v) (sym is) (law (told_world before now w) e (length_told before now w.functions))
+
+-- an event that reads no memory and writes none by the device
+pub takes_quietly : (w new : World) (t : Touches) (e : Event) (reply : VfdevReply) (raised : List ℕ) → new ≡ (step w e).world → reply ≡ shown (step w e).answer.reply → raised ≡ (step w e).answer.raised
+    → ((v : World) (e : Event) → length v.functions ≡ length w.functions → IsolatedStep v e (step v e).world)
+    → TakesLent (lent_world w t) e (lent_world new t) reply raised
+takes_quietly w new t e reply raised world replied raises law =
+    let met : told_world t t w ≡ w = told_world_none t t w (λ r. refl) in
+    let stepped : step w e ≡ step (told_world t t w) e = ap (λ (v : World). step v e) (sym met) in
+    let after : new ≡ (step (told_world t t w) e).world = world ∙ ap (λ (s : Stepped). s.world) stepped in
+    record {
+      taken = ap (λ (v : World). lent_world v t) after;
+      replied = replied ∙ ap (λ (s : Stepped). shown s.answer.reply) stepped;
+      raises = raises ∙ ap (λ (s : Stepped). s.answer.raised) stepped;
+      isolated = isolated_met w new t t e after law;
+      once = untouched true t w;
+    }
 
 -- ---- bytes that were read
 

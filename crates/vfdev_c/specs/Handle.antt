@@ -20,7 +20,7 @@ use Rattle.history.specs.Recording.{made_like}
 use Rattle.vfdev_c.specs.declared.reply.VfdevReply.{VfdevReply}
 use Rattle.vfdev_c.specs.declared.handle_state.HandleState.{HandleState}
 use Rattle.vfdev_c.specs.declared.handle_state.HandleState.TheVariants.{Lending, Made, Kept, Lent}
-use Rattle.vfdev_c.specs.LentWorld.{met_by, taken_by, AreOnce}
+use Rattle.vfdev_c.specs.LentWorld.{LentWorld, met_by, taken_by, AreOnce}
 use Rattle.vfdev_c.specs.Recorded.{is_full, taking}
 use Rattle.vfdev_c.specs.Spans.{Lent as Blocks, none_lent, span, overlaps_one}
 
@@ -168,6 +168,14 @@ unfoldable pub IsolatedStep : World → Event → World → Type 0
 IsolatedStep w e new = (p : ℕ) → p < length w.functions →
     (seen_by p (e ∷ []) ((step w e).answer ∷ []) ≡ lone_seen (lone_of p w) (keep p w (e ∷ [])))
     × (lone_of p new ≡ lone_after (lone_of p w) (keep p w (e ∷ [])))
+
+-- a device over lent blocks took an event: what it is left as, what is replied and raised, of what it met
+pub record TakesLent (old : LentWorld) (e : Event) (new : LentWorld) (reply : VfdevReply) (raised : List ℕ) : Type 0 where
+  pub taken : new ≡ taken_by (met_by old new) e
+  pub replied : reply ≡ shown (step (met_by old new).world e).answer.reply
+  pub raises : raised ≡ (step (met_by old new).world e).answer.raised
+  pub isolated : IsolatedStep (met_by old new).world e new.world
+  pub once : AreOnce old new
 
 abbrev pub Isolated : Held → Requested → Held → Type 0
 Isolated (Some (Made w)) (Ok e) (Some (Made new)) = IsolatedStep w e new

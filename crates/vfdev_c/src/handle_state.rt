@@ -188,7 +188,7 @@ pub(crate) fn isolates(device: &Device<FlatMem>)
 
 // What was done, or refused.
 #[inline]
-fn done_or_refused(done: Result<(), Fault>) -> (VfdevReply, Messages)
+pub(crate) fn done_or_refused(done: Result<(), Fault>) -> (VfdevReply, Messages)
     ensures reply { result.0 ≡ shown (done_or_refused done) }
     ensures messages { result.1 ≡ no_messages }
 {
@@ -200,7 +200,7 @@ fn done_or_refused(done: Result<(), Fault>) -> (VfdevReply, Messages)
 
 // A value, or a refusal.
 #[inline]
-fn value_or_refused(value: Result<u32, Fault>) -> (VfdevReply, Messages)
+pub(crate) fn value_or_refused(value: Result<u32, Fault>) -> (VfdevReply, Messages)
     ensures reply { result.0 ≡ shown (value_or_refused value) }
     ensures messages { result.1 ≡ no_messages }
 {

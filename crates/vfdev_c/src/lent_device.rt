@@ -1,19 +1,19 @@
 //! A device over blocks that guests write while it works on them.
 ghost use Rattle.std.specs.Prelude.{◌≡◌, ◌≤◌, ◌&&◌, true, false, [], map, length, Err, IfOk, IfErr, option_copied};
 ghost use Rattle.wire_frame.specs.Frame.{is_frame};
-ghost use Rattle.device.specs.declared.event.Event.TheVariants.{MemRead, Serve, Wire};
+ghost use Rattle.device.specs.declared.event.Event.TheVariants.{VfRead, VfWrite, MemRead, MemWrite, Serve, PfRead, PfWrite, Wire};
 ghost use Rattle.device.specs.Events.{Event};
 ghost use Rattle.device.specs.World.{World, step, fresh, is_frame_limit, is_makeable};
 ghost use Rattle.device.specs.Request.{event_of};
 ghost use Rattle.device.specs.Outcome.{left_by};
-ghost use Rattle.vfdev_c.specs.Handle.{shown, bytes_shown, frame_in, length_in, IsolatedStep};
+ghost use Rattle.vfdev_c.specs.Handle.{shown, bytes_shown, frame_in, length_in, IsolatedStep, TakesLent};
 ghost use Rattle.vfdev_c.specs.LentWorld.{untouched, met_by, taken_by, AreOnce};
 
-use crate::handle_state::{issued, lay, put_frame};
+use crate::handle_state::{done_or_refused, issued, lay, put_frame, value_or_refused};
 use crate::recorder::named;
 use crate::reply::VfdevReply;
 use device::laws::isolation;
-use device::{Device, Queue, Request};
+use device::{Device, MemSlice, Queue, Request};
 use irq_causes::Messages;
 use live_memory::{Shared, Touch, Traces};
 use mapped_memory::LiveMem;
@@ -66,7 +66,75 @@ impl LentDevice {
     }
 
     /// Gives it the event that a request stands for.
+    #[inline(always)]
     pub fn take(&mut self, request: Request<'_>) -> (VfdevReply, Messages)
+        ensures taken { self.new ≡ taken_by (met_by self.old self.new) (event_of request.entry) }
+        ensures reply { result.0
+            ≡ shown (step (met_by self.old self.new).world (event_of request.entry)).answer.reply }
+        ensures messages { result.1
+            ≡ (step (met_by self.old self.new).world (event_of request.entry)).answer.raised }
+        ensures isolated { IsolatedStep (met_by self.old self.new).world
+            (event_of request.entry) self.new.world }
+        ensures once { AreOnce self.old self.new }
+    {
+        // By name, as where memories are the device's own.
+        match request {
+            Request::VfRead(function, offset) => self.vf_read(function, offset),
+            Request::VfWrite(function, offset, value) => self.vf_write(function, offset, value),
+            Request::MemWrite(function, at, written) => self.mem_write(function, at, written),
+            Request::PfRead(offset) => self.pf_read(offset),
+            Request::PfWrite(offset, value) => self.pf_write(offset, value),
+            _ => self.take_any(request),
+        }
+    }
+
+    // Reads a register of a function.
+    #[inline]
+    fn vf_read(&mut self, function: u8, offset: u32) -> (VfdevReply, Messages)
+        ensures { TakesLent self.old (VfRead function offset) self.new result.0 result.1 }
+    {
+        isolates_any(&self.device);
+        value_or_refused(self.device.vf_read(function, offset))
+    }
+
+    // Writes a register of a function.
+    #[inline]
+    fn vf_write(&mut self, function: u8, offset: u32, value: u32) -> (VfdevReply, Messages)
+        ensures { TakesLent self.old (VfWrite function offset value) self.new result.0 result.1 }
+    {
+        isolates_any(&self.device);
+        issued(self.device.vf_write(function, offset, value))
+    }
+
+    // Writes bytes of a guest's memory.
+    #[inline]
+    fn mem_write(&mut self, function: u8, at: u64, written: MemSlice<'_>) -> (VfdevReply, Messages)
+        ensures { TakesLent self.old (MemWrite function at written.entry.bytes.now) self.new result.0 result.1 }
+    {
+        isolates_any(&self.device);
+        done_or_refused(self.device.mem_write(function, at, written))
+    }
+
+    // Reads a register of the physical function.
+    #[inline]
+    fn pf_read(&mut self, offset: u32) -> (VfdevReply, Messages)
+        ensures { TakesLent self.old (PfRead offset) self.new result.0 result.1 }
+    {
+        isolates_any(&self.device);
+        value_or_refused(self.device.pf_read(offset))
+    }
+
+    // Writes a register of the physical function.
+    #[inline]
+    fn pf_write(&mut self, offset: u32, value: u32) -> (VfdevReply, Messages)
+        ensures { TakesLent self.old (PfWrite offset value) self.new result.0 result.1 }
+    {
+        isolates_any(&self.device);
+        done_or_refused(self.device.pf_write(offset, value))
+    }
+
+    // The same, of any request.
+    fn take_any(&mut self, request: Request<'_>) -> (VfdevReply, Messages)
         ensures taken { self.new ≡ taken_by (met_by self.old self.new) (event_of request.entry) }
         ensures reply { result.0
             ≡ shown (step (met_by self.old self.new).world (event_of request.entry)).answer.reply }

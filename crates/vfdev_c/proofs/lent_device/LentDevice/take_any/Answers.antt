@@ -5,7 +5,7 @@ use Rattle.device.specs.Request.{event_of}
 use Rattle.vfdev_c.specs.Handle.{IsolatedStep}
 use Rattle.vfdev_c.specs.LentWorld.{LentWorld}
 use Rattle.vfdev_c.proofs.LentLemmas.{isolated_met}
-use Rattle.vfdev_c.proofs.lent_device.LentDevice.take.Goals as goal
+use Rattle.vfdev_c.proofs.lent_device.LentDevice.take_any.Goals as goal
 
 pub returns-clause-isolated : goal.returns-clause-isolated
 returns-clause-isolated c = subst (λ (l : LentWorld). IsolatedStep (told_world l.touches c.take_live-taken.new.traces.touches l.world) (event_of c.args.request) c.take_live-taken.new.self) c.self.view_is

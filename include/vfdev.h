@@ -151,8 +151,9 @@ VFDEV_LOOK enum vfdev_fault vfdev_lend_at(vfdev *device, vfdev_block block, uint
 /* Lends a block as the memory of the next virtual function of a device that is to be made; its first byte is at address 0 of
  * that memory. Blocks have the sizes of memories, and there are at most 64. VFDEV_HELD where there is a device, then
  * VFDEV_BAD_MAKE exactly where the length is no memory's or 64 were lent, then VFDEV_OVERLAPS exactly where the block has a byte in
- * common with one that was lent for this device, and VFDEV_NO_MEMORY only where the host refused: some 3 KB are taken for each block. Wherever the answer is not VFDEV_OK
- * the block is not used. Blocks of two devices are not compared, nor addresses that lead to the same memory.
+ * common with one that was lent for this device, and VFDEV_NO_MEMORY only where the host refused: some 2 KB are taken for each
+ * block. Wherever the answer is not VFDEV_OK the block is not used. Blocks of two devices are not compared, nor addresses that lead
+ * to the same memory.
  *
  * The block stays mapped until vfdev_free. The processors of its guest may read and write it at any time, also during a call. So may
  * threads of this process, by volatile or atomic accesses. What a call reads of it, it reads once, and it does what it would do had
@@ -253,7 +254,8 @@ size_t vfdev_kept(vfdev *device);
  * `other` is what the events make of it.
  *
  * A device over lent blocks is no such `other`, since its guests may write them meanwhile. VFDEV_SAME is certain where vfdev_make just
- * made `other`, with as many functions, memories of the same size and the same limit; it is then as `device` is. A replay takes no memory, and some 40 KB of stack. */
+ * made `other`, with as many functions, memories of the same size and the same limit; it is then as `device` is. A replay takes no
+ * memory, and some 40 KB of stack. */
 VFDEV_LOOK enum vfdev_replayed vfdev_replay(vfdev *device, vfdev *other);
 
 /* ---- texts ------------------------------------------------------------------------------------------------------- */

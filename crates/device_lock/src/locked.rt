@@ -14,13 +14,9 @@ use device::{Answer, Device, Event, Request, Response};
 use guest_memory::GuestMem;
 use recorder::{Full, Recorded, Share, Tally};
 use std::alloc::Global;
-use std::hint::spin_loop;
 use std::sync::ledger::Ledger;
-use std::sync::{Arc, Mutex, MutexGuard, Wait};
+use std::sync::{Arc, Mutex, Wait};
 use wire_frame::{Fault, FrameBuf};
-
-// How often a caller asks for the lock before it waits for it. A call under the lock is over sooner than a sleep and a wake.
-const TRIES: u32 = 1000;
 
 /// A recorded device that threads share: one call at a time is inside, and the others wait. Whenever nobody is inside, the
 /// law of [`Recorded::agrees`] holds.
@@ -50,19 +46,6 @@ impl<M: GuestMem, L: Ledger> LockedDevice<M, L> {
         }
     }
 
-    // Takes the lock. It asks for a while first, since `lock` goes to sleep as soon as it sees that another caller sleeps, so that
-    // each call would sleep once many callers wait.
-    #[inline]
-    fn enter<R: Wait>(&self, rt: &R) -> MutexGuard<'_, Recorded<M, L>> {
-        for _ in 0..TRIES {
-            if let Some(guard) = self.inner.try_lock() {
-                return guard;
-            }
-            spin_loop();
-        }
-        self.inner.lock(rt)
-    }
-
     /// One [`Recorded::record`] under the lock. The share has the call from then on, with the answer that is handed back.
     pub fn act<R: Wait>(&self, rt: &R, share: &mut Share<L>, event: Event) -> Result<Answer, Full>
         requires may { may share.old.caller event ≡ true }
@@ -71,7 +54,7 @@ impl<M: GuestMem, L: Ledger> LockedDevice<M, L> {
         ensures full { IfErr result (λ full. full.0 ≡ event) }
         ensures unchanged { OnErr result (share.new ≡ share.old) }
     {
-        self.enter(rt).record(share, event)
+        self.inner.lock(rt).record(share, event)
     }
 
     /// One [`Recorded::record_read`] under the lock: what an event's [`LockedDevice::act`] answers, in few words, with the
@@ -100,7 +83,7 @@ impl<M: GuestMem, L: Ledger> LockedDevice<M, L> {
             (answer_with (take (bytes_told taken.outcome) read.new) taken) share.old) }
         ensures unchanged { IfNone result ((share.new ≡ share.old) × (read.new ≡ read.old)) }
     {
-        self.enter(rt).record_read(share, request, frame, read)
+        self.inner.lock(rt).record_read(share, request, frame, read)
     }
 
     /// One [`Recorded::gather`] under the lock.
@@ -109,28 +92,28 @@ impl<M: GuestMem, L: Ledger> LockedDevice<M, L> {
         ensures some { IfSome result (λ tally. length shares.items ≡ 67) }
         ensures counts { IfSome result (λ tally. sum tally.entries ≡ sum_by count_of shares.items) }
     {
-        self.enter(rt).gather(shares)
+        self.inner.lock(rt).gather(shares)
     }
 
     /// One [`Recorded::kept`] under the lock.
     pub fn kept<R: Wait>(&self, rt: &R) -> usize
         ensures few { result ≤ 65536 }
     {
-        self.enter(rt).kept()
+        self.inner.lock(rt).kept()
     }
 
     /// One [`Recorded::folded`] under the lock.
     pub fn folded<R: Wait>(&self, rt: &R) -> usize
         ensures few { result ≤ 2 ^ 62 }
     {
-        self.enter(rt).folded()
+        self.inner.lock(rt).folded()
     }
 
     /// One [`Recorded::rebase`] under the lock.
     pub fn fold<R: Wait>(&self, rt: &R) -> Option<usize>
         ensures few { IfSome result (λ count. count ≤ 65536) }
     {
-        self.enter(rt).rebase()
+        self.inner.lock(rt).rebase()
     }
 
     /// One [`Recorded::replays`] under the lock: some kept calls are stepped through.
@@ -138,6 +121,6 @@ impl<M: GuestMem, L: Ledger> LockedDevice<M, L> {
         ensures { (kept : List Entry) × (device.new ≡ world_after device.old (events kept))
             × (IsTrue result ↔ (answers device.old (events kept) ≡ given kept)) }
     {
-        self.enter(rt).replays(device)
+        self.inner.lock(rt).replays(device)
     }
 }

@@ -337,6 +337,15 @@ static void finds_planted_differences(void)
     EQUAL(vfdev_replay(&device, &second), VFDEV_NO_OTHER);
     EQUAL(vfdev_kept(&second), 0);
     vfdev_free(&second);
+    /* guests may write memories that were lent, so such a device is not asked */
+    static uint8_t block[4096];
+    EQUAL(vfdev_lend(&second, (vfdev_block){block, sizeof block}), VFDEV_OK);
+    EQUAL(vfdev_replay(&device, &second), VFDEV_NO_OTHER);
+    EQUAL(vfdev_make_lent(&second, 1518), VFDEV_OK);
+    EQUAL(vfdev_replay(&device, &second), VFDEV_NO_OTHER);
+    EQUAL(vfdev_vf_read(&second, 0, VFDEV_VFLINKS).value, VFDEV_NOT_OPEN);
+    EQUAL(vfdev_replay(&second, &large), VFDEV_NOT_RECORDED);
+    vfdev_free(&second);
     vfdev_free(&large);
     vfdev_free(&small);
     vfdev_free(&strict);

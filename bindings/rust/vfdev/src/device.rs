@@ -338,8 +338,9 @@ impl<'m> Device<'m> {
     }
 
     /// Replays the recording on another device: gives it the recorded events in their order, and tells whether it gives each
-    /// recorded answer, that is the reply with its bytes, and all messages. A device that was just made, with as many functions,
-    /// memories of the same sizes and the same limit, does, and is then as this one is.
+    /// recorded answer, that is the reply with its bytes, and all messages. A device that [`Device::new`] just made, with as many
+    /// functions, memories of the same size and the same limit, does, and is then as this one is. One over blocks that were lent is not
+    /// asked: guests may write them meanwhile.
     ///
     /// ```
     /// use vfdev::{Device, Fault, Replayed};

@@ -203,6 +203,6 @@ pub enum Replayed {
     Different,
     /// The first device has no recording; the other was not asked.
     NotRecorded,
-    /// The other device's own calls are recorded; it was not asked.
+    /// The other device's own calls are recorded, or its memories were lent; it was not asked.
     NoOther,
 }

@@ -343,7 +343,7 @@ static void finds_planted_differences(void)
     EQUAL(vfdev_replay(&device, &second), VFDEV_NO_OTHER);
     EQUAL(vfdev_make_lent(&second, 1518), VFDEV_OK);
     EQUAL(vfdev_replay(&device, &second), VFDEV_NO_OTHER);
-    EQUAL(vfdev_vf_read(&second, 0, VFDEV_VFLINKS).value, VFDEV_NOT_OPEN);
+    REPLY(vfdev_vf_read(&second, 0, 0x10), VFDEV_REFUSED, VFDEV_NOT_OPEN);
     EQUAL(vfdev_replay(&second, &large), VFDEV_NOT_RECORDED);
     vfdev_free(&second);
     vfdev_free(&large);

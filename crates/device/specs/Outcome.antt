@@ -69,7 +69,7 @@ abbrev pub bytes_told : Outcome → ℕ
 bytes_told (Bytes span) = span.count
 bytes_told _ = 0
 
--- bytes that it names are so many
+-- an outcome that is a span of bytes has so many
 abbrev pub HasCount : ℕ → Outcome → Type 0
 HasCount count (Bytes span) = span.count ≡ count
 HasCount count _ = Unit

@@ -6,7 +6,7 @@ use Rattle.live_memory.specs.Traces.{Touches}
 use Rattle.mapped_memory.specs.Regions.{Regions}
 use Rattle.device.specs.Events.{Event}
 use Rattle.device.specs.declared.event.Reply.TheVariants.{Done, Value, Bytes, Idle, More, Sent, Dropped, Faulted, Refused}
-use Rattle.device.specs.Live.{told_world}
+use Rattle.device.specs.Live.{told_world, AreTraced}
 use Rattle.device.specs.Outcome.{Outcome, HasCount, HoldsIn, bytes_told, reply_in}
 use Rattle.device.specs.World.{World, Stepped, step}
 use Rattle.device.proofs.LiveLemmas.{length_told, told_world_none, untouched}
@@ -47,27 +47,33 @@ lent_more ms spans m address len is same = λ i. lent (blocks ms i) (spans ++ sp
 -- ---- the device over them
 
 -- the law holds of the world that a call met
-pub isolated_met : (w new : World) (before now : Touches) (e : Event) → new ≡ (step (told_world before now w) e).world
+isolated_met : (w new : World) (before now : Touches) (e : Event) → new ≡ (step (told_world before now w) e).world
     → ((v : World) (e : Event) → length v.functions ≡ length w.functions → IsolatedStep v e (step v e).world)
     → IsolatedStep (told_world before now w) e new
 isolated_met w new before now e is law =
     subst (λ v. IsolatedStep (told_world before now w) e v) (sym is) (law (told_world before now w) e (length_told before now w.functions))
+
+-- an event of which all accesses were kept
+pub takes_met : (w new : World) (before now : Touches) (e : Event) (reply : VfdevReply) (raised : List ℕ) → new ≡ (step (told_world before now w) e).world
+    → reply ≡ shown (step (told_world before now w) e).answer.reply → raised ≡ (step (told_world before now w) e).answer.raised → AreTraced true before now w
+    → ((v : World) (e : Event) → length v.functions ≡ length w.functions → IsolatedStep v e (step v e).world)
+    → TakesLent (lent_world w before) e (lent_world new now) reply raised
+takes_met w new before now e reply raised world replied raises traced law = record {
+  taken = ap (λ (v : World). lent_world v now) world;
+  replied = replied;
+  raises = raises;
+  isolated = isolated_met w new before now e world law;
+  once = traced;
+}
 
 -- an event that reads no memory and writes none by the device
 pub takes_quietly : (w new : World) (t : Touches) (e : Event) (reply : VfdevReply) (raised : List ℕ) → new ≡ (step w e).world → reply ≡ shown (step w e).answer.reply → raised ≡ (step w e).answer.raised
     → ((v : World) (e : Event) → length v.functions ≡ length w.functions → IsolatedStep v e (step v e).world)
     → TakesLent (lent_world w t) e (lent_world new t) reply raised
 takes_quietly w new t e reply raised world replied raises law =
-    let met : told_world t t w ≡ w = told_world_none t t w (λ r. refl) in
-    let stepped : step w e ≡ step (told_world t t w) e = ap (λ (v : World). step v e) (sym met) in
-    let after : new ≡ (step (told_world t t w) e).world = world ∙ ap (λ (s : Stepped). s.world) stepped in
-    record {
-      taken = ap (λ (v : World). lent_world v t) after;
-      replied = replied ∙ ap (λ (s : Stepped). shown s.answer.reply) stepped;
-      raises = raises ∙ ap (λ (s : Stepped). s.answer.raised) stepped;
-      isolated = isolated_met w new t t e after law;
-      once = untouched true t w;
-    }
+    let stepped : step w e ≡ step (told_world t t w) e = ap (λ (v : World). step v e) (sym (told_world_none t t w (λ r. refl))) in
+    takes_met w new t t e reply raised (world ∙ ap (λ (s : Stepped). s.world) stepped) (replied ∙ ap (λ (s : Stepped). shown s.answer.reply) stepped)
+    (raises ∙ ap (λ (s : Stepped). s.answer.raised) stepped) (untouched true t w) law
 
 -- ---- bytes that were read
 

@@ -6,8 +6,9 @@ ghost use Rattle.device.specs.Events.{Event};
 ghost use Rattle.device.specs.World.{World, step, fresh, is_frame_limit, is_makeable};
 ghost use Rattle.device.specs.Request.{event_of};
 ghost use Rattle.device.specs.Outcome.{left_by};
-ghost use Rattle.vfdev_c.specs.Handle.{shown, bytes_shown, frame_in, length_in, IsolatedStep, TakesLent};
-ghost use Rattle.vfdev_c.specs.LentWorld.{untouched, met_by, taken_by, AreOnce};
+ghost use Rattle.irq_causes.specs.Messages.{no_messages};
+ghost use Rattle.vfdev_c.specs.Handle.{bytes_shown, frame_in, length_in, IsolatedStep, TakesLent};
+ghost use Rattle.vfdev_c.specs.LentWorld.{untouched, met_by};
 
 use crate::handle_state::{done_or_refused, issued, lay, put_frame, value_or_refused};
 use crate::recorder::named;
@@ -21,14 +22,13 @@ use std::alloc::Global;
 use std::marker::Model;
 use wire_frame::{Fault, FrameBuf};
 
-/// A device over blocks that guests write while it works on them, with room for a frame that comes or goes, and for bytes that are
-/// read. A contract sees its world, and what it read of each function's memory, and wrote there, since it was made.
+/// A device over blocks that guests write while it works on them, with room for a frame that comes or goes. A contract sees its
+/// world, and what it read of each function's memory, and wrote there, since it was made.
 #[derive(Drop)]
 pub struct LentDevice {
     device: Device<LiveMem<'static>, Shared>,
     traces: Traces,
     frame: FrameBuf,
-    bytes: [u8; 2048],
 }
 
 impl Model for LentDevice {
@@ -61,21 +61,13 @@ impl LentDevice {
             device,
             traces: Touch::None.traces(),
             frame: FrameBuf::blank(),
-            bytes: [0; 2048],
         })
     }
 
     /// Gives it the event that a request stands for.
     #[inline(always)]
     pub fn take(&mut self, request: Request<'_>) -> (VfdevReply, Messages)
-        ensures taken { self.new ≡ taken_by (met_by self.old self.new) (event_of request.entry) }
-        ensures reply { result.0
-            ≡ shown (step (met_by self.old self.new).world (event_of request.entry)).answer.reply }
-        ensures messages { result.1
-            ≡ (step (met_by self.old self.new).world (event_of request.entry)).answer.raised }
-        ensures isolated { IsolatedStep (met_by self.old self.new).world
-            (event_of request.entry) self.new.world }
-        ensures once { AreOnce self.old self.new }
+        ensures { TakesLent self.old (event_of request.entry) self.new result.0 result.1 }
     {
         // By name, as where memories are the device's own.
         match request {
@@ -135,43 +127,27 @@ impl LentDevice {
 
     // The same, of any request.
     fn take_any(&mut self, request: Request<'_>) -> (VfdevReply, Messages)
-        ensures taken { self.new ≡ taken_by (met_by self.old self.new) (event_of request.entry) }
-        ensures reply { result.0
-            ≡ shown (step (met_by self.old self.new).world (event_of request.entry)).answer.reply }
-        ensures messages { result.1
-            ≡ (step (met_by self.old self.new).world (event_of request.entry)).answer.raised }
-        ensures isolated { IsolatedStep (met_by self.old self.new).world
-            (event_of request.entry) self.new.world }
-        ensures once { AreOnce self.old self.new }
+        ensures { TakesLent self.old (event_of request.entry) self.new result.0 result.1 }
     {
         let LentDevice {
             device,
             traces,
             frame,
-            bytes,
         } = self;
         isolates_any(device);
-        let taken = device.take_live(traces, request, frame, bytes);
+        let taken = device.take_unread(traces, request, frame);
         (VfdevReply::of(taken.outcome), taken.messages)
     }
 
     /// Gives it a frame from the wire.
     pub fn wire(&mut self, bytes: &[u8]) -> (VfdevReply, Messages)
         requires { is_frame 9018 bytes.now ≡ true }
-        ensures taken { self.new ≡ taken_by (met_by self.old self.new) (Wire bytes.now) }
-        ensures reply { result.0
-            ≡ shown (step (met_by self.old self.new).world (Wire bytes.now)).answer.reply }
-        ensures messages { result.1
-            ≡ (step (met_by self.old self.new).world (Wire bytes.now)).answer.raised }
-        ensures isolated { IsolatedStep (met_by self.old self.new).world
-            (Wire bytes.now) self.new.world }
-        ensures once { AreOnce self.old self.new }
+        ensures { TakesLent self.old (Wire bytes.now) self.new result.0 result.1 }
     {
         let LentDevice {
             device,
             traces,
             frame,
-            bytes: _,
         } = self;
         isolates_any(device);
         lay(frame, bytes);
@@ -180,24 +156,17 @@ impl LentDevice {
 
     /// Reads bytes of a guest's memory once, and fills `out` with them; where it is refused, `out` stays.
     pub fn mem_read(&mut self, function: u8, at: u64, out: &mut [u8]) -> VfdevReply
-        ensures taken { self.new
-            ≡ taken_by (met_by self.old self.new) (MemRead function at (length out.old)) }
-        ensures reply { result
-            ≡ shown
-            (step (met_by self.old self.new).world (MemRead function at (length out.old))).answer.reply }
+        ensures takes { TakesLent self.old (MemRead function at (length out.old)) self.new
+            result no_messages }
         ensures bytes { out.new
             ≡ bytes_shown
             (step (met_by self.old self.new).world (MemRead function at (length out.old))).answer.reply
             out.old }
-        ensures isolated { IsolatedStep (met_by self.old self.new).world
-            (MemRead function at (length out.old)) self.new.world }
-        ensures once { AreOnce self.old self.new }
     {
         let LentDevice {
             device,
             traces,
             frame: _,
-            bytes: _,
         } = self;
         isolates_any(device);
         let count = named(out.len());
@@ -215,24 +184,16 @@ impl LentDevice {
         left: &mut usize,
     ) -> (VfdevReply, Messages)
         requires { 9018 ≤ length out.old }
-        ensures taken { self.new ≡ taken_by (met_by self.old self.new) (Serve function queue) }
-        ensures reply { result.0
-            ≡ shown (step (met_by self.old self.new).world (Serve function queue)).answer.reply }
-        ensures messages { result.1
-            ≡ (step (met_by self.old self.new).world (Serve function queue)).answer.raised }
+        ensures takes { TakesLent self.old (Serve function queue) self.new result.0 result.1 }
         ensures frame { out.new
             ≡ frame_in (left_by (met_by self.old self.new).world (Serve function queue)) out.old }
         ensures left { left.new
             ≡ length_in (left_by (met_by self.old self.new).world (Serve function queue)) }
-        ensures isolated { IsolatedStep (met_by self.old self.new).world
-            (Serve function queue) self.new.world }
-        ensures once { AreOnce self.old self.new }
     {
         let LentDevice {
             device,
             traces,
             frame,
-            bytes: _,
         } = self;
         isolates_any(device);
         let taken = device.serve_live(traces, function, queue, frame);

@@ -1,5 +1,5 @@
 -- A read is one of no more bytes than an event names, which does the same.
-use Rattle.std.proofs.Common.{◌≡◌, ℕ, length, ◌∙◌, ap, subst}
+use Rattle.std.proofs.Common.{◌≡◌, ℕ, length, ◌∙◌, ap, refl, subst, sym}
 use Rattle.device.specs.Events.{Event}
 use Rattle.device.specs.declared.event.Answer.{Answer}
 use Rattle.device.specs.declared.event.Event.TheVariants.{MemRead}
@@ -7,10 +7,12 @@ use Rattle.device.specs.Live.{told_world}
 use Rattle.device.specs.Outcome.{bytes_in, reply_in, HasCount}
 use Rattle.device.specs.Replies.{Reply}
 use Rattle.device.specs.World.{World, Stepped, step, function_of}
-use Rattle.vfdev_c.specs.Handle.{IsolatedStep, shown, bytes_shown}
+use Rattle.irq_causes.specs.Messages.{no_messages}
+use Rattle.vfdev_c.specs.Handle.{TakesLent, shown, bytes_shown}
 use Rattle.vfdev_c.specs.LentWorld.{LentWorld, lent_world}
-use Rattle.vfdev_c.proofs.LentLemmas.{isolated_met, read_fills}
+use Rattle.vfdev_c.proofs.LentLemmas.{takes_met, read_fills}
 use Rattle.vfdev_c.proofs.RecordedLemmas.{step_alike}
+use Rattle.vfdev_c.proofs.Silence.{silent_step}
 use Rattle.vfdev_c.proofs.lent_device.LentDevice.mem_read.Goals as goal
 
 abbrev read : goal.After-of → Event
@@ -30,21 +32,16 @@ world c = c.mem_read_live-taken.ensures.takes.takes.world ∙ ap (λ (s : Steppe
 abbrev reply : (c : goal.After-of) → reply_in c.mem_read_live-taken.new.self c.mem_read_live-taken.result.outcome ≡ (step (met c) (read c)).answer.reply
 reply c = ap (λ (a : Answer). a.reply) c.mem_read_live-taken.ensures.takes.takes.answer ∙ ap (λ (s : Stepped). s.answer.reply) (stepped c)
 
-pub returns-clause-taken : goal.returns-clause-taken
-returns-clause-taken c = subst (λ (l : LentWorld). lent_world c.mem_read_live-taken.new.self c.mem_read_live-taken.new.traces.touches
-    ≡ lent_world (step (told_world l.touches c.mem_read_live-taken.new.traces.touches l.world) (read c)).world c.mem_read_live-taken.new.traces.touches) c.self.view_is
-    (ap (λ w. lent_world w c.mem_read_live-taken.new.traces.touches) (world c))
-
-pub returns-clause-reply : goal.returns-clause-reply
-returns-clause-reply c = subst (λ (l : LentWorld). c.of.result ≡ shown (step (told_world l.touches c.mem_read_live-taken.new.traces.touches l.world) (read c)).answer.reply) c.self.view_is
+pub returns-clause-takes : goal.returns-clause-takes
+returns-clause-takes c = subst (λ (l : LentWorld). TakesLent l (read c) (lent_world c.mem_read_live-taken.new.self c.mem_read_live-taken.new.traces.touches) c.of.result no_messages) c.self.view_is
+    (takes_met c.self.inside.device c.mem_read_live-taken.new.self c.self.inside.traces.touches c.mem_read_live-taken.new.traces.touches (read c) c.of.result no_messages
+    (world c)
     (c.of.ensures (λ span. bytes_in (function_of span.pool c.mem_read_live-taken.new.self) span) ∙ ap shown (reply c))
+    (sym (silent_step (met c) (read c) refl))
+    c.mem_read_live-taken.ensures.takes.traced c.isolates_any.ensures)
 
 pub returns-clause-bytes : goal.returns-clause-bytes
 returns-clause-bytes c = subst (λ (l : LentWorld). c.mem_read_live-taken.new.out ≡ bytes_shown (step (told_world l.touches c.mem_read_live-taken.new.traces.touches l.world) (read c)).answer.reply c.args.out.now) c.self.view_is
     (read_fills c.mem_read_live-taken.new.self c.mem_read_live-taken.result.outcome c.args.out.now c.mem_read_live-taken.new.out c.mem_read_live-taken.auto.out
     (subst (λ (n : ℕ). HasCount n c.mem_read_live-taken.result.outcome) c.named-count.ensures c.mem_read_live-taken.ensures.count) c.mem_read_live-taken.ensures.bytes c.mem_read_live-taken.ensures.rest
     ∙ ap (λ (r : Reply). bytes_shown r c.args.out.now) (reply c))
-
-pub returns-clause-isolated : goal.returns-clause-isolated
-returns-clause-isolated c = subst (λ (l : LentWorld). IsolatedStep (told_world l.touches c.mem_read_live-taken.new.traces.touches l.world) (read c) c.mem_read_live-taken.new.self) c.self.view_is
-    (isolated_met c.self.inside.device c.mem_read_live-taken.new.self c.self.inside.traces.touches c.mem_read_live-taken.new.traces.touches (read c) (world c) c.isolates_any.ensures)

@@ -1,4 +1,4 @@
 pub mod Regions
 pub mod Mapping
-pub mod Learns
+pub mod Known
 pub mod Whole

@@ -32,9 +32,7 @@
 //! answers for that.
 #![tactic(auto)]
 
-mod known;
 pub mod laws;
-mod learn;
 pub mod live_mem;
 pub mod map_error;
 mod region;

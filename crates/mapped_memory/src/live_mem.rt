@@ -7,8 +7,6 @@ ghost use Rattle.mapped_memory.specs.Regions.{bytes_at, written, cleared};
 ghost use Rattle.mapped_memory.specs.Whole.{bytes_whole};
 ghost use Rattle.mapped_memory.specs.Mapping.{AreMapped, refusal, with_part, bytes_from, parts_without};
 
-use crate::known::Known;
-use crate::learn::Learn;
 use crate::map_error::{MapError, Refused};
 use crate::region::Region;
 use crate::scans::{clear_all, is_any_met, place_of, read_all, write_all};
@@ -32,20 +30,22 @@ pub const MOST_REGIONS: usize = 64;
 pub struct LiveMem<'a> {
     size: u64,
     regions: Vec<Region<'a>>,
-    known: Known,
+    // those since it was made or cleared
+    accesses: Trace,
 }
 
 impl<'a> Model for LiveMem<'a> {
     ghost use Rattle.std.specs.Prelude.{◌≡◌, ◌≤◌, length, vec_capacity};
     ghost use Rattle.mapped_memory.specs.Regions.{Regions};
+    ghost use Rattle.mapped_memory.specs.Known.{known};
 
     ghost Value = { Regions };
 
     ghost use Rattle.mapped_memory.specs.Mapping.{AreMapped};
 
-    ghost view = { λ m. record { parts = m.regions.items; seen = m.known.bytes } };
+    ghost view = { λ m. record { parts = m.regions.items; seen = known m.size m.accesses.accesses } };
 
-    ghost invariant = { λ m. (m.size ≡ length m.known.bytes) × (m.size ≤ 16777216)
+    ghost invariant = { λ m. (m.size ≡ length (known m.size m.accesses.accesses)) × (m.size ≤ 16777216)
         × (length m.regions.items ≤ 64) × (64 ≤ vec_capacity m.regions)
         × AreMapped m.size m.regions.items };
 }
@@ -53,7 +53,7 @@ impl<'a> Model for LiveMem<'a> {
 impl<'a> LiveMem<'a> {
     /// A memory of `size` bytes with no region, and room for 64. A size outside the limits is [`Fault::BadMake`]; [`Fault::NoMemory`]
     /// comes only where the host refused the room. No later call takes memory.
-    #[tactic(auto, unfolding(crate::specs::Mapping::AreMapped))]
+    #[tactic(auto, unfolding(crate::specs::Mapping::AreMapped, crate::specs::Known::with_accesses))]
     pub fn new(alloc: Global, size: u64) -> Result<LiveMem<'a>, Fault>
         ensures ok { IfOk result (λ m. m ≡ record { parts = []; seen = replicate size 0 }) }
         ensures bad_make { (result ≡ Err Fault.BadMake) ↔ (is_memory_size size ≡ false) }
@@ -66,7 +66,7 @@ impl<'a> LiveMem<'a> {
         Ok(LiveMem {
             size,
             regions,
-            known: Learn::Fresh(size).known(),
+            accesses: Step::Begin.trace(),
         })
     }
 
@@ -154,6 +154,7 @@ impl Dma<Shared> for LiveMem<'_> {
         self.size
     }
 
+    #[tactic(auto, using(crate::proofs::KnownLemmas::read_last))]
     fn load(&mut self, trace: &mut Trace, addr: u64, out: &mut [u8])
         requires { addr + length out.old ≤ length self.old.seen }
         ensures out { out.new ≡ bytes_at self.old.parts addr (length out.old) }
@@ -165,10 +166,11 @@ impl Dma<Shared> for LiveMem<'_> {
         ensures parts { self.new.parts ≡ self.old.parts }
     {
         read_all(&self.regions, addr as usize, out);
-        self.known = Learn::Over(&self.known, addr, out).known();
-        *trace = Step::Reads(trace, addr, out).trace();
+        note_read(&mut self.accesses, addr, out);
+        note_read(trace, addr, out);
     }
 
+    #[tactic(auto, using(crate::proofs::KnownLemmas::written_last))]
     fn store(&mut self, trace: &mut Trace, addr: u64, source: &[u8])
         requires { addr + length source.now ≤ length self.old.seen }
         ensures seen { self.new.seen ≡ overwrite addr source.now self.old.seen }
@@ -177,16 +179,33 @@ impl Dma<Shared> for LiveMem<'_> {
         ensures parts { self.new.parts ≡ map (written addr source.now) self.old.parts }
     {
         write_all(&mut self.regions, addr as usize, source);
-        self.known = Learn::Over(&self.known, addr, source).known();
-        *trace = Step::Writes(trace, addr, source).trace();
+        note_written(&mut self.accesses, addr, source);
+        note_written(trace, addr, source);
     }
 
+    #[tactic(auto, unfolding(crate::specs::Known::with_accesses))]
     fn erase(&mut self)
         ensures seen { self.new.seen ≡ replicate (length self.old.seen) 0 }
         ensures size { length self.new.seen ≡ length self.old.seen }
         ensures parts { self.new.parts ≡ map cleared self.old.parts }
     {
         clear_all(&mut self.regions);
-        self.known = Learn::Fresh(self.size).known();
+        self.accesses = Step::Begin.trace();
     }
+}
+
+// One access more: these bytes were read from an address on.
+#[inline]
+fn note_read(trace: &mut Trace, addr: u64, bytes: &[u8])
+    ensures { trace.new.accesses ≡ noted true trace.old.accesses (Read addr bytes.now) }
+{
+    *trace = Step::Reads(trace, addr, bytes).trace();
+}
+
+// One access more: these bytes were written from an address on.
+#[inline]
+fn note_written(trace: &mut Trace, addr: u64, bytes: &[u8])
+    ensures { trace.new.accesses ≡ noted true trace.old.accesses (Wrote addr bytes.now) }
+{
+    *trace = Step::Writes(trace, addr, bytes).trace();
 }

@@ -15,8 +15,13 @@ use guest_memory::GuestMem;
 use recorder::{Full, Recorded, Share, Tally};
 use std::alloc::Global;
 use std::sync::ledger::Ledger;
-use std::sync::{Arc, Mutex, Wait};
+use std::sync::{Arc, Mutex, MutexGuard, Wait};
+use std::thread::yield_now;
 use wire_frame::{Fault, FrameBuf};
+
+// How often a caller that finds the lock taken lets another thread run before it sleeps. A call under the lock takes far less time than
+// a sleep and a wake.
+const YIELDS: u32 = 100;
 
 /// A recorded device that threads share: one call at a time is inside, and the others wait. Whenever nobody is inside, the
 /// law of [`Recorded::agrees`] holds.
@@ -46,6 +51,18 @@ impl<M: GuestMem, L: Ledger> LockedDevice<M, L> {
         }
     }
 
+    // Takes the lock. Asked a few times in vain, it waits in the lock's own way, which wakes sleepers in their turn.
+    #[inline]
+    fn enter<R: Wait>(&self, rt: &R) -> MutexGuard<'_, Recorded<M, L>> {
+        for _ in 0..YIELDS {
+            if let Some(guard) = self.inner.try_lock() {
+                return guard;
+            }
+            yield_now();
+        }
+        self.inner.lock(rt)
+    }
+
     /// One [`Recorded::record`] under the lock. The share has the call from then on, with the answer that is handed back.
     pub fn act<R: Wait>(&self, rt: &R, share: &mut Share<L>, event: Event) -> Result<Answer, Full>
         requires may { may share.old.caller event ≡ true }
@@ -54,7 +71,7 @@ impl<M: GuestMem, L: Ledger> LockedDevice<M, L> {
         ensures full { IfErr result (λ full. full.0 ≡ event) }
         ensures unchanged { OnErr result (share.new ≡ share.old) }
     {
-        self.inner.lock(rt).record(share, event)
+        self.enter(rt).record(share, event)
     }
 
     /// One [`Recorded::record_read`] under the lock: what an event's [`LockedDevice::act`] answers, in few words, with the
@@ -83,7 +100,7 @@ impl<M: GuestMem, L: Ledger> LockedDevice<M, L> {
             (answer_with (take (bytes_told taken.outcome) read.new) taken) share.old) }
         ensures unchanged { IfNone result ((share.new ≡ share.old) × (read.new ≡ read.old)) }
     {
-        self.inner.lock(rt).record_read(share, request, frame, read)
+        self.enter(rt).record_read(share, request, frame, read)
     }
 
     /// One [`Recorded::gather`] under the lock.
@@ -92,28 +109,28 @@ impl<M: GuestMem, L: Ledger> LockedDevice<M, L> {
         ensures some { IfSome result (λ tally. length shares.items ≡ 67) }
         ensures counts { IfSome result (λ tally. sum tally.entries ≡ sum_by count_of shares.items) }
     {
-        self.inner.lock(rt).gather(shares)
+        self.enter(rt).gather(shares)
     }
 
     /// One [`Recorded::kept`] under the lock.
     pub fn kept<R: Wait>(&self, rt: &R) -> usize
         ensures few { result ≤ 65536 }
     {
-        self.inner.lock(rt).kept()
+        self.enter(rt).kept()
     }
 
     /// One [`Recorded::folded`] under the lock.
     pub fn folded<R: Wait>(&self, rt: &R) -> usize
         ensures few { result ≤ 2 ^ 62 }
     {
-        self.inner.lock(rt).folded()
+        self.enter(rt).folded()
     }
 
     /// One [`Recorded::rebase`] under the lock.
     pub fn fold<R: Wait>(&self, rt: &R) -> Option<usize>
         ensures few { IfSome result (λ count. count ≤ 65536) }
     {
-        self.inner.lock(rt).rebase()
+        self.enter(rt).rebase()
     }
 
     /// One [`Recorded::replays`] under the lock: some kept calls are stepped through.
@@ -121,6 +138,6 @@ impl<M: GuestMem, L: Ledger> LockedDevice<M, L> {
         ensures { (kept : List Entry) × (device.new ≡ world_after device.old (events kept))
             × (IsTrue result ↔ (answers device.old (events kept) ≡ given kept)) }
     {
-        self.inner.lock(rt).replays(device)
+        self.enter(rt).replays(device)
     }
 }

@@ -176,6 +176,7 @@ impl Function {
         Some(function)
     }
 
+    // The function after it has asked for a version of the messages, or nothing where the host doesn't speak it.
     #[tactic(auto, unfolding(crate::specs::Function::granted))]
     fn with_version(self, api: u32) -> Option<Function>
         ensures { result ≡ granted [] 0 false self (NegotiateApi api) }
@@ -188,6 +189,7 @@ impl Function {
         Some(function)
     }
 
+    // The function after it has asked for a frame length, with the FCS, or nothing where that is above the device's limit.
     #[tactic(auto, unfolding(crate::specs::Function::granted))]
     fn with_length(self, limit: u16, length: u32) -> Option<Function>
         ensures { result ≡ granted [] limit false self (SetFrameLength length) }
@@ -200,6 +202,7 @@ impl Function {
         Some(function)
     }
 
+    // The function after a reset, or nothing where no policy names it.
     fn with_reset(self) -> Option<Function>
         ensures { result ≡ (if is_none self.permanent then None else Some (begun self)) }
     {
@@ -210,6 +213,7 @@ impl Function {
         }
     }
 
+    // The function after it has asked for so many multicast groups, in place of those before.
     fn with_groups(self, count: u32) -> Function
         ensures { result ≡ record self { groups = not (count == 0) } }
     {
@@ -218,6 +222,7 @@ impl Function {
         function
     }
 
+    // The function itself, where it speaks this version at least.
     fn if_version(self, least: u32) -> Option<Function>
         ensures { result ≡ (if nat_le least self.api then Some self else None) }
     {

@@ -110,6 +110,16 @@ pub trait Dma<K>: Drop {
         self.store(trace, addr, &bytes_of_two(low, high));
     }
 
+    /// Says that a device will soon read the word at `addr`, so that the memory may bring it into the processor's cache. It is no
+    /// access, and changes nothing. It does nothing where it isn't written anew, as it has to where the memory is shared: there each
+    /// byte that is read is an answer.
+    #[inline]
+    fn prefetch(&self, addr: u64)
+        requires { addr + 8 ≤ length (seen self.now) }
+    {
+        let _ = addr;
+    }
+
     /// Writes zero over every byte, as where a function is opened.
     fn erase(&mut self)
         ensures seen { seen self.new ≡ replicate (length (seen self.old)) 0 }

@@ -58,6 +58,12 @@ impl<M: GuestMem> Dma<Alone> for M {
         self.write_words(addr, low, high);
     }
 
+    // The word is read, and what it is doesn't matter.
+    #[inline]
+    fn prefetch(&self, addr: u64) {
+        let _ = self.read_word(addr);
+    }
+
     #[inline]
     fn erase(&mut self) {
         self.clear();

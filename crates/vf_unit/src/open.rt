@@ -291,6 +291,14 @@ impl<D: Dma<K>, K> OpenVf<D, K> {
         }
     }
 
+    /// Lets the memory bring descriptors that receive queue 0 takes soon into the processor's cache. Nothing changes.
+    #[inline]
+    pub fn prefetch(&self) {
+        if let Some(at) = self.receive_0.ring.slot_ahead() {
+            self.memory.prefetch(at);
+        }
+    }
+
     /// Places a frame in receive queue 0; the messages that this issues. `loopback` says that another pool sent it.
     #[inline]
     #[tactic(auto, unfolding(crate::specs::Function::delivered))]

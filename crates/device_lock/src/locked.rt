@@ -51,7 +51,7 @@ impl<M: GuestMem, L: Ledger> LockedDevice<M, L> {
         }
     }
 
-    // Takes the lock. Asked a few times in vain, it waits in the lock's own way, which wakes sleepers in their turn.
+    // Takes the lock. Asked in vain that many times, it waits as the lock does, whose order among those who wait isn't promised.
     #[inline]
     fn enter<R: Wait>(&self, rt: &R) -> MutexGuard<'_, Recorded<M, L>> {
         for _ in 0..YIELDS {

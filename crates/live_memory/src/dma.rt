@@ -110,9 +110,9 @@ pub trait Dma<K>: Drop {
         self.store(trace, addr, &bytes_of_two(low, high));
     }
 
-    /// Says that a device will soon read the word at `addr`, so that the memory may bring it into the processor's cache. It is no
-    /// access, and changes nothing. It does nothing where it isn't written anew, as it has to where the memory is shared: there each
-    /// byte that is read is an answer.
+    /// Tells the memory that a device will soon read the word at `addr`, so that it may bring the word into the processor's cache. It
+    /// isn't an access, and changes nothing. This body does nothing. A shared memory has to leave it so: the trace must show every read
+    /// of such a memory, and no trace is lent here.
     #[inline]
     fn prefetch(&self, addr: u64)
         requires { addr + 8 ≤ length (seen self.now) }

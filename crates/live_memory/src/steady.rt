@@ -58,7 +58,7 @@ impl<M: GuestMem> Dma<Alone> for M {
         self.write_words(addr, low, high);
     }
 
-    // The word is read, and what it is doesn't matter.
+    // Reading the word brings it into the processor's cache. Its value isn't used.
     #[inline]
     fn prefetch(&self, addr: u64) {
         let _ = self.read_word(addr);

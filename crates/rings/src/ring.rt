@@ -133,9 +133,9 @@ impl Ring {
         Some(self.base + 16 * u64::from(self.head))
     }
 
-    /// The address of the owned descriptor that is four after the head, at each head that is a multiple of four; else none. Four
-    /// descriptors take a line of 64 bytes of the processor's cache, so who has this one brought there as often as it is told has
-    /// brought all.
+    /// The address of the descriptor four after the head, where the head is a multiple of four and the device owns that descriptor.
+    /// It is there to be read ahead of time. A line of the processor's cache has 64 bytes, which is four descriptors, so one read at
+    /// every fourth head brings all descriptors into the cache.
     #[inline]
     pub fn slot_ahead(&self) -> Option<u64>
         ensures value { IfSome result

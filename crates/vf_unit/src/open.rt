@@ -291,7 +291,7 @@ impl<D: Dma<K>, K> OpenVf<D, K> {
         }
     }
 
-    /// Lets the memory bring descriptors that receive queue 0 takes soon into the processor's cache. Nothing changes.
+    /// Lets the memory bring descriptors that receive queue 0 will take soon into the processor's cache. Nothing changes.
     #[inline]
     pub fn prefetch(&self) {
         if let Some(at) = self.receive_0.ring.slot_ahead() {

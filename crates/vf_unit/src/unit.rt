@@ -113,8 +113,8 @@ impl<D: Dma<K>, K> VfUnit<D, K> {
         }
     }
 
-    /// Says that frames are coming, so that the memory may bring descriptors that receive queue 0 takes soon into the processor's
-    /// cache. Nothing changes.
+    /// Lets the memory of a function that is open bring descriptors that receive queue 0 will take soon into the processor's cache, for
+    /// frames that are about to be placed. Nothing changes.
     #[inline]
     pub fn prefetch(&self) {
         if self.is_open {

@@ -13,6 +13,8 @@ mod filter;
 #[cfg(test)]
 mod index;
 #[cfg(test)]
+mod reach;
+#[cfg(test)]
 mod sender;
 #[cfg(test)]
 mod switch;

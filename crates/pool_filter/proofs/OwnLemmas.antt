@@ -9,7 +9,7 @@ use Rattle.std.specs.List.Sorted.{IsStrictlyIncreasing}
 use Rattle.wire_frame.specs.Bits.{has_bit, has_bit_in}
 use Rattle.wire_frame.proofs.BitLemmas.{has_bit_zero}
 use Rattle.addr_tables.specs.Addresses.{initial_addresses, has_address, entry_address, entry_has_pool as address_has_pool}
-use Rattle.vlan_table.specs.Vlans.{initial_vlans, has_vlan, is_in_entries, entry_id, entry_has_pool as vlan_has_pool}
+use Rattle.vlan_table.specs.Vlans.{Vlans, initial_vlans, has_vlan, is_in_entries, entry_id, entry_has_pool as vlan_has_pool}
 use Rattle.pool_filter.specs.Settings.{Settings, initial_settings}
 use Rattle.pool_filter.specs.Own.{OwnSettings, own, contains, rising, addresses_of, vlan_ids_of, no_settings, same_settings, SaysSame}
 use Rattle.pool_filter.proofs.RisingLemmas.{contains-rising, IsRising-rising, IsStrictlyIncreasing-from_rising, equal_from_same_set}
@@ -34,12 +34,16 @@ pub contains_own_addresses : (s : Settings) (p address : ℕ) → contains (own 
 unfolding own has_address
 contains_own_addresses s p address = contains-rising (addresses_of s.addresses p) address ∙ contains-map-filter (entry_address s.addresses) (address_has_pool s.addresses p) address (range_with_len 0 128)
 
+pub contains_vlan_ids : (v : Vlans) (p id : ℕ) → contains (rising (vlan_ids_of v p)) id ≡ has_vlan v p id
+unfolding has_vlan is_in_entries
+contains_vlan_ids v p id =
+    contains-rising (vlan_ids_of v p) id
+    ∙ contains-filter (has_bit_in v.table) id (map (entry_id v) (filter (vlan_has_pool v p) (range_with_len 0 64)))
+    ∙ ap (λ b. has_bit_in v.table id && b) (contains-map-filter (entry_id v) (vlan_has_pool v p) id (range_with_len 0 64))
+
 pub contains_own_vlan_ids : (s : Settings) (p id : ℕ) → contains (own s p).vlan_ids id ≡ has_vlan s.vlans p id
-unfolding own has_vlan is_in_entries
-contains_own_vlan_ids s p id =
-    contains-rising (vlan_ids_of s.vlans p) id
-    ∙ contains-filter (has_bit_in s.vlans.table) id (map (entry_id s.vlans) (filter (vlan_has_pool s.vlans p) (range_with_len 0 64)))
-    ∙ ap (λ b. has_bit_in s.vlans.table id && b) (contains-map-filter (entry_id s.vlans) (vlan_has_pool s.vlans p) id (range_with_len 0 64))
+unfolding own
+contains_own_vlan_ids s p id = contains_vlan_ids s.vlans p id
 
 pub addresses_rise : (s : Settings) (p : ℕ) → IsStrictlyIncreasing (own s p).addresses
 unfolding own

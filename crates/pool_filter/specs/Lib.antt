@@ -2,6 +2,7 @@ pub mod Accepts
 pub mod Flags
 pub mod Map
 pub mod Own
+pub mod Reach
 pub mod Registers
 pub mod Settings
 pub use Rattle.wire_frame.specs.Bits

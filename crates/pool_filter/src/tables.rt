@@ -7,10 +7,12 @@ ghost use Rattle.vlan_table.specs.Vlans.{is_filtering, has_vlan};
 ghost use Rattle.pool_filter.specs.Settings.{initial_settings, pools_at, settings_at, pool_control_after, settings_after};
 ghost use Rattle.pool_filter.specs.Accepts.{flags_of, takes_untagged, takes_hashed, takes_broadcast, takes_multicast, default_pool, loops_back, may_receive};
 ghost use Rattle.pool_filter.specs.Own.{own, contains, port_vlan_of};
+ghost use Rattle.pool_filter.specs.Reach.{have_common};
 
 use crate::flags::PoolFlags;
 use crate::masks::FlagMasks;
 use crate::own::{Own, port_vlan_of, put_addresses, put_vlan_ids};
+use crate::reach::with_a_vlan_of;
 use crate::registers::{
     DEFAULT_POOL, DEFAULT_POOL_OFF, DEFAULT_POOL_SIZE, LOOPBACK, PF_VT_CTL, PF_VT_CTL_INITIAL,
     PF_VT_CTL_KEPT, PF_VT_CTL_SET, PFDTXGSWC, PFDTXGSWC_KEPT, PFVFRE, PFVFSPOOF, PFVFTE, VMVIR,
@@ -357,6 +359,14 @@ impl Tables {
         ensures { result ≡ contains (own self.now pool).vlan_ids id }
     {
         self.vlans.member(id, pool)
+    }
+
+    // The pools that have a VLAN id of the pool's.
+    pub(crate) fn with_a_vlan_of(&self, pool: PoolId) -> u64
+        ensures { (p : ℕ) → p < 64
+            → has_bit result p ≡ have_common (own self.now pool).vlan_ids (own self.now p).vlan_ids }
+    {
+        with_a_vlan_of(&self.vlans, pool)
     }
 
     /// What of the settings is the pool's own, left in `found`, whatever that held. It looks at every entry of the tables.

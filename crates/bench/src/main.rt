@@ -10,6 +10,7 @@
 
 use anyhow::{Result, anyhow};
 use guest_memory::{FlatMem, GuestMem};
+use live_memory::Traced;
 use rings::{Ring, RingRegister};
 use rx_desc::{Placed, RxConfig, place_in};
 use std::alloc::Global;
@@ -48,11 +49,12 @@ fn tail_at(turn: u32) -> u32 {
 
 // Places the frame in the buffer at address 0, which each descriptor names; how often it was put.
 #[inline(never)]
-fn place_many<M: GuestMem>(mut memory: M, frame: &FrameBuf, strip_tag: bool, turns: u32) -> u32 {
+fn place_many<M: GuestMem>(memory: M, frame: &FrameBuf, strip_tag: bool, turns: u32) -> u32 {
     let config = RxConfig {
         buffer_size: 2048,
         strip_tag,
     };
+    let mut memory = Traced::new(memory);
     let mut ring = Ring::new();
     ring.write(RingRegister::BaseLow, RING);
     ring.write(RingRegister::Length, 16 * COUNT);

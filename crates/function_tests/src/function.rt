@@ -100,6 +100,21 @@ fn do_step<M: GuestMem>(
     Ok(())
 }
 
+// Does some of the steps.
+fn do_part<M: GuestMem>(
+    rt: &impl Abort,
+    unit: &mut VfUnit<M>,
+    frame: &mut FrameBuf,
+    rule: PortVlan,
+    limit: FrameLimit,
+    steps: &[Step],
+) -> Result<(), Fail> {
+    for step in steps {
+        do_step(rt, unit, frame, rule, limit, *step)?;
+    }
+    Ok(())
+}
+
 // Opens the function and does the steps.
 fn do_steps<M: GuestMem>(
     rt: &impl Abort,
@@ -111,9 +126,7 @@ fn do_steps<M: GuestMem>(
     let mut frame = FrameBuf::blank();
     unit.open();
     for part in steps {
-        for step in part {
-            do_step(rt, &mut unit, &mut frame, rule, limit, *step)?;
-        }
+        do_part(rt, &mut unit, &mut frame, rule, limit, part)?;
     }
     Ok(())
 }

@@ -18,8 +18,6 @@ mod lent_blocks;
 #[cfg(test)]
 mod memory;
 #[cfg(test)]
-mod prefetching;
-#[cfg(test)]
 mod receiving;
 #[cfg(test)]
 mod ring;

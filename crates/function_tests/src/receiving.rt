@@ -5,7 +5,8 @@ ghost use Rattle.std.specs.Prelude.{◌≡◌, ◌+◌, ◌≤◌, length, IfOk}
 ghost use Rattle.rings.specs.Ring.{LiesInside};
 
 use crate::compare::{assert_equal, assert_equal_at};
-use guest_memory::{FlatMem, GuestMem, read_bytes, read_word, write_word};
+use guest_memory::{FlatMem, GuestMem, read_word, write_word};
+use live_memory::{Alone, Traced};
 use rings::{Ring, RingRegister};
 use rx_desc::laws::pieces_are_the_only_cut;
 use rx_desc::{Placed, RxConfig, place, place_in};
@@ -101,11 +102,11 @@ fn memory_of(
 }
 
 /// All bytes of a memory.
-fn image(alloc: Global, memory: &FlatMem) -> Result<Vec<u8>, Fail>
-    requires { length memory.now ≡ 65536 }
+fn image(alloc: Global, memory: &Traced<FlatMem, Alone>) -> Result<Vec<u8>, Fail>
+    requires { length memory.now.memory ≡ 65536 }
 {
     let mut bytes = vec![in alloc; 0; 65536]?;
-    read_bytes(memory, 0, bytes.as_mut_slice());
+    memory.look_at(0, bytes.as_mut_slice());
     Ok(bytes)
 }
 
@@ -124,7 +125,7 @@ fn two_pieces(rt: HostRuntime) -> Result<(), Fail> {
         (1, u64::MAX, Faulted, 0, 0, 7),
     ] {
         let mut ring = ring_of(8, 7, tail);
-        let mut memory = memory_of(&rt, rt.alloc(), 7, FIRST, second)?;
+        let mut memory = Traced::new(memory_of(&rt, rt.alloc(), 7, FIRST, second)?);
         let before = image(rt.alloc(), &memory)?;
         let frame = frame_of(PLAIN, 1518)?;
         let outcome = place_in(&mut memory, &mut ring, &queue(KEEP), &frame, false);
@@ -134,8 +135,8 @@ fn two_pieces(rt: HostRuntime) -> Result<(), Fail> {
             ring.is_enabled(),
             ring.read(RingRegister::Head),
             ring.read(RingRegister::Tail),
-            read_word(&memory, 0x1078),
-            read_word(&memory, 0x1008),
+            memory.load_word(0x1078),
+            memory.load_word(0x1008),
         );
         let wanted = (placed, placed != Faulted, head, tail, word, next_word);
         assert!(rt; after == wanted, "{tail}, {second:x}");
@@ -187,15 +188,15 @@ fn written_back(rt: HostRuntime) -> Result<(), Fail> {
         ),
     ] {
         let mut ring = ring_of(8, 0, 7);
-        let mut memory = memory_of(&rt, rt.alloc(), 0, FIRST, SECOND)?;
+        let mut memory = Traced::new(memory_of(&rt, rt.alloc(), 0, FIRST, SECOND)?);
         let frame = frame_of(start, len)?;
         let outcome = place_in(&mut memory, &mut ring, &queue(strip), &frame, loopback);
         assert_eq!(rt; memory.size(), 65536);
         let after = (
             outcome,
             ring.read(RingRegister::Head),
-            read_word(&memory, 0x1008),
-            read_word(&memory, 0x1018),
+            memory.load_word(0x1008),
+            memory.load_word(0x1018),
         );
         assert!(rt;
             after == (Placed::Put, head, word, next_word),
@@ -273,14 +274,14 @@ fn bytes_in_memory(rt: HostRuntime) -> Result<(), Fail> {
     ];
     for ((first, second, strip, start, len), words) in rows {
         let mut ring = ring_of(8, 0, 2);
-        let mut memory = memory_of(&rt, rt.alloc(), 0, first, second)?;
+        let mut memory = Traced::new(memory_of(&rt, rt.alloc(), 0, first, second)?);
         let frame = frame_of(start, len)?;
         let outcome = place_in(&mut memory, &mut ring, &queue(strip), &frame, false);
         assert_equal_at(&rt, outcome, Placed::Put, first);
         for (at, word) in words {
             assert_eq!(rt; memory.size(), 65536);
             assert!(rt; at <= SIZE - 8);
-            assert_eq!(rt; read_word(&memory, at), word, "{first:x}, {at:x}");
+            assert_eq!(rt; memory.load_word(at), word, "{first:x}, {at:x}");
         }
     }
     Ok(())
@@ -296,20 +297,23 @@ fn nine_pieces(rt: HostRuntime) -> Result<(), Fail> {
         (8, Placed::NoRoom, 0, 0, 0),
     ] {
         let mut ring = ring_of(16, 0, tail);
-        let mut memory = FlatMem::new(rt.alloc(), SIZE)?;
+        let mut flat = FlatMem::new(rt.alloc(), SIZE)?;
         for i in 0..9 {
-            assert_eq!(rt; memory.size(), 65536);
-            write_word(&mut memory, RING + 16 * i, FIRST + 1024 * i);
+            assert_eq!(rt; flat.size(), 65536);
+            write_word(&mut flat, RING + 16 * i, FIRST + 1024 * i);
         }
+        let mut memory = Traced::new(flat);
         assert_eq!(rt; memory.size(), 65536);
         let frame = frame_of(PLAIN, 9018)?;
         let outcome = place_in(&mut memory, &mut ring, &queue(KEEP), &frame, false);
         assert_equal(&rt, outcome, placed);
         assert_eq!(rt; memory.size(), 65536);
         for i in 0..8 {
-            assert_equal_at(&rt, read_word(&memory, RING + 16 * i + 8), word, i);
+            assert_eq!(rt; memory.size(), 65536);
+            assert_equal_at(&rt, memory.load_word(RING + 16 * i + 8), word, i);
         }
-        assert_equal(&rt, read_word(&memory, RING + 16 * 8 + 8), last_word);
+        assert_eq!(rt; memory.size(), 65536);
+        assert_equal(&rt, memory.load_word(RING + 16 * 8 + 8), last_word);
         assert_equal(&rt, ring.read(RingRegister::Head), head);
     }
     Ok(())

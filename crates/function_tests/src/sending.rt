@@ -5,12 +5,13 @@ ghost use Rattle.rings.specs.Ring.{LiesInside};
 
 use crate::compare::{assert_equal, assert_equal_at};
 use guest_memory::{FlatMem, GuestMem, read_bytes, read_word, write_bytes, write_words};
+use live_memory::Traced;
 use rings::{Ring, RingRegister};
 use std::alloc::Global;
 use std::iter;
 use std::process::Abort;
 use std::test::Fail;
-use tx_desc::{Fetched, Pending, Progress, fetch, fetch_in, fetch_into};
+use tx_desc::{Fetched, Pending, Progress, fetch, fetch_into};
 use wire_frame::{Fault, FrameBuf, FrameLimit, PortVlan};
 
 /// The size of the memory.
@@ -96,7 +97,7 @@ fn kinds_of_descriptors(rt: HostRuntime) -> Result<(), Fail> {
         (FIRST, 0x2920_003C, More, 0x2920_003C, 1),
     ];
     for (buffer, word, outcome, word_after, head) in rows {
-        let mut memory = memory_of(&rt, rt.alloc(), PLAIN, buffer, word)?;
+        let mut memory = Traced::new(memory_of(&rt, rt.alloc(), PLAIN, buffer, word)?);
         let mut ring = ring_of(1);
         let mut pending = Pending::new(rt.alloc())?;
         let mut frame = FrameBuf::blank();
@@ -114,7 +115,7 @@ fn kinds_of_descriptors(rt: HostRuntime) -> Result<(), Fail> {
         let after = (
             served.outcome,
             served.reported,
-            read_word(&memory, RING + 8),
+            memory.load_word(RING + 8),
             ring.read(RingRegister::Head),
             ring.is_enabled(),
         );
@@ -151,7 +152,7 @@ fn frames_under_port_rules(rt: HostRuntime) -> Result<(), Fail> {
         let mut ring = ring_of(1);
         let mut pending = Pending::new(rt.alloc())?;
         let limit = FrameLimit::standard();
-        match fetch_in(&mut memory, &mut ring, &mut pending, rule, limit) {
+        match fetch(&mut memory, &mut ring, &mut pending, rule, limit) {
             (Fetched::Frame(frame), true) => assert!(rt;
                 is_padded(&frame, start, len),
                 "{rule:?} {word:x}"
@@ -166,7 +167,7 @@ fn frames_under_port_rules(rt: HostRuntime) -> Result<(), Fail> {
 /// A descriptor may name its own 16 bytes: they are sent as the driver wrote them.
 #[test]
 fn a_descriptor_sends_itself(rt: HostRuntime) -> Result<(), Fail> {
-    let mut memory = memory_of(&rt, rt.alloc(), ZEROS, RING, 0x2930_0010)?;
+    let mut memory = Traced::new(memory_of(&rt, rt.alloc(), ZEROS, RING, 0x2930_0010)?);
     let mut ring = ring_of(1);
     let mut pending = Pending::new(rt.alloc())?;
     let mut frame = FrameBuf::blank();
@@ -184,7 +185,7 @@ fn a_descriptor_sends_itself(rt: HostRuntime) -> Result<(), Fail> {
     let expected = [0, 0x10, 0, 0, 0, 0, 0, 0, 0x10, 0, 0x30, 0x29, 0, 0, 0, 0];
     assert_equal(&rt, frame.bytes(), expected.as_slice());
     assert_eq!(rt; memory.size(), 65536);
-    assert_equal(&rt, read_word(&memory, RING + 8), 0x1_2930_0010);
+    assert_equal(&rt, memory.load_word(RING + 8), 0x1_2930_0010);
     Ok(())
 }
 
@@ -224,10 +225,11 @@ fn frames_over_their_descriptor(rt: HostRuntime) -> Result<(), Fail> {
     for (buffer, size) in rows {
         for lent in [FrameBuf::blank(), FrameBuf::from_bytes(&[1; 100])?] {
             let word = 0x0900_0000 + u64::from(size);
-            let mut memory = striped(&rt, rt.alloc(), buffer, word)?;
+            let flat = striped(&rt, rt.alloc(), buffer, word)?;
             let mut due = [0u8; 60];
             assert!(rt; buffer < 0x2000);
-            read_bytes(&memory, buffer, &mut due);
+            read_bytes(&flat, buffer, &mut due);
+            let mut memory = Traced::new(flat);
             let mut ring = ring_of(1);
             let mut pending = Pending::new(rt.alloc())?;
             let mut frame = lent;
@@ -254,21 +256,54 @@ fn two_descriptors(rt: HostRuntime) -> Result<(), Fail> {
     for (most, len) in [(1518, None), (9018, Some(1600))] {
         let limit = FrameLimit::new(most).ok_or("no limit")?;
         let rule = PortVlan::Descriptor;
-        let mut memory = memory_of(&rt, rt.alloc(), PLAIN, FIRST, 0x2830_03E8)?;
-        write_words(&mut memory, RING + 16, SECOND, 0x2930_0258);
+        let mut flat = memory_of(&rt, rt.alloc(), PLAIN, FIRST, 0x2830_03E8)?;
+        write_words(&mut flat, RING + 16, SECOND, 0x2930_0258);
+        let mut memory = Traced::new(flat);
         let mut ring = ring_of(2);
         let mut pending = Pending::new(rt.alloc())?;
-        let (first, reported) = fetch_in(&mut memory, &mut ring, &mut pending, rule, limit);
-        assert_equal_at(&rt, (first, reported), (Fetched::More, true), most);
-        let (second, reported) = fetch_in(&mut memory, &mut ring, &mut pending, rule, limit);
-        assert!(rt; reported, "under {most}");
-        match (second, len) {
-            (Fetched::Frame(frame), Some(len)) => assert!(rt; is_padded(&frame, PLAIN, len)),
-            (Fetched::Dropped, None) => {}
+        let mut frame = FrameBuf::blank();
+        let first = fetch_into(
+            &mut memory,
+            &mut ring,
+            &mut pending,
+            &mut frame,
+            rule,
+            limit,
+        );
+        assert_equal_at(
+            &rt,
+            (first.outcome, first.reported),
+            (Progress::More, true),
+            most,
+        );
+        let second = fetch_into(
+            &mut memory,
+            &mut ring,
+            &mut pending,
+            &mut frame,
+            rule,
+            limit,
+        );
+        assert!(rt; second.reported, "under {most}");
+        match (second.outcome, len) {
+            (Progress::Ended, Some(len)) => assert!(rt; is_padded(&frame, PLAIN, len)),
+            (Progress::Dropped, None) => {}
             _ => assert!(rt; false, "under {most}"),
         }
-        let (third, reported) = fetch_in(&mut memory, &mut ring, &mut pending, rule, limit);
-        assert_equal_at(&rt, (third, reported), (Fetched::Idle, false), most);
+        let third = fetch_into(
+            &mut memory,
+            &mut ring,
+            &mut pending,
+            &mut frame,
+            rule,
+            limit,
+        );
+        assert_equal_at(
+            &rt,
+            (third.outcome, third.reported),
+            (Progress::Idle, false),
+            most,
+        );
     }
     Ok(())
 }
@@ -279,8 +314,9 @@ fn two_descriptors(rt: HostRuntime) -> Result<(), Fail> {
 fn pending_bytes(rt: HostRuntime) -> Result<(), Fail> {
     for (is_forgotten, start, len) in [(false, PLAIN, 74), (true, ZEROS, 14)] {
         let limit = FrameLimit::standard();
-        let mut memory = memory_of(&rt, rt.alloc(), PLAIN, FIRST, 0x5_0000_4800_003C)?;
-        write_words(&mut memory, RING + 16, SECOND, 0x0900_000E);
+        let mut flat = memory_of(&rt, rt.alloc(), PLAIN, FIRST, 0x5_0000_4800_003C)?;
+        write_words(&mut flat, RING + 16, SECOND, 0x0900_000E);
+        let mut memory = Traced::new(flat);
         let mut ring = ring_of(2);
         let mut pending = Pending::new(rt.alloc())?;
         let mut frame = FrameBuf::blank();
@@ -319,23 +355,38 @@ fn frames_in_turn(rt: HostRuntime) -> Result<(), Fail> {
     let rule = PortVlan::Descriptor;
     let mut pending = Pending::new(rt.alloc())?;
     for (first, second, byte) in [(9000u16, 18u16, 0xA5), (14, 46, 0x11), (8000, 1018, 0x22)] {
-        let mut memory = FlatMem::new(rt.alloc(), SIZE)?;
-        assert_eq!(rt; memory.size(), 65536);
-        write_bytes(&mut memory, SECOND, &[byte; 9018]);
-        write_words(&mut memory, RING, SECOND, 0x2830_0000 + u64::from(first));
+        let mut flat = FlatMem::new(rt.alloc(), SIZE)?;
+        assert_eq!(rt; flat.size(), 65536);
+        write_bytes(&mut flat, SECOND, &[byte; 9018]);
+        write_words(&mut flat, RING, SECOND, 0x2830_0000 + u64::from(first));
         write_words(
-            &mut memory,
+            &mut flat,
             RING + 16,
             SECOND,
             0x2930_0000 + u64::from(second),
         );
+        let mut memory = Traced::new(flat);
+        assert_eq!(rt; memory.size(), 65536);
         let mut ring = ring_of(2);
-        let (more, _) = fetch_in(&mut memory, &mut ring, &mut pending, rule, limit);
-        assert_equal_at(&rt, more, Fetched::More, first);
-        let (ended, _) = fetch_in(&mut memory, &mut ring, &mut pending, rule, limit);
-        let Fetched::Frame(frame) = ended else {
-            return Err("no frame")?;
-        };
+        let mut frame = FrameBuf::blank();
+        let more = fetch_into(
+            &mut memory,
+            &mut ring,
+            &mut pending,
+            &mut frame,
+            rule,
+            limit,
+        );
+        assert_equal_at(&rt, more.outcome, Progress::More, first);
+        let ended = fetch_into(
+            &mut memory,
+            &mut ring,
+            &mut pending,
+            &mut frame,
+            rule,
+            limit,
+        );
+        assert_equal_at(&rt, ended.outcome, Progress::Ended, first);
         let len = usize::from(first) + usize::from(second);
         assert_equal(&rt, frame.bytes().len(), len);
         assert!(rt;

@@ -1,7 +1,7 @@
 -- Eight bytes, and the number that they are.
 use Rattle.std.proofs.Common.{◌≡◌, ℕ, ◌+◌, ◌/◌, ◌%◌, ◌<◌, List, [], ◌∷◌, ◌++◌, length, get_or, take, drop, ◌∙◌, arith, Fits, w8}
 use Rattle.std.proofs.lemmas.List.{places, take-append-drop}
-use Rattle.guest_memory.specs.Memory.{two_words}
+use Rattle.guest_memory.specs.Memory.{word_bytes, two_words}
 use Rattle.byteorder.specs.Endian.{little_number, little_bytes}
 
 eight : (a b c d e f g h : ℕ) → a < 256 → b < 256 → c < 256 → d < 256 → e < 256 → f < 256 → g < 256 → h < 256 → little_bytes 8 (little_number 8 (a ∷ b ∷ c ∷ d ∷ e ∷ f ∷ g ∷ h ∷ [])) ≡ a ∷ b ∷ c ∷ d ∷ e ∷ f ∷ g ∷ h ∷ []
@@ -36,6 +36,11 @@ first xs len fits =
 second : (xs : List ℕ) → length xs ≡ 16 → ((k : ℕ) → Fits w8 (get_or xs k 0)) → little_bytes 8 (little_number 8 (drop 8 xs)) ≡ drop 8 xs
 second xs len fits =
     bytes_back (drop 8 xs) (grind (arith, places, len)) (λ k low. let there : get_or (drop 8 xs) k 0 ≡ get_or xs (8 + k) 0 = grind (arith, places, len, low) in let small = (fits (8 + k)).fits in rw there small)
+
+-- the bytes of the word that 8 bytes are
+pub word_back : (xs : List ℕ) → length xs ≡ 8 → ((k : ℕ) → Fits w8 (get_or xs k 0)) → word_bytes (little_number 8 xs) ≡ xs
+unfolding word_bytes
+word_back xs len fits = bytes_back xs len (λ k low. (fits k).fits)
 
 -- the bytes of the two words that 16 bytes are
 pub words_back : (xs : List ℕ) → length xs ≡ 16 → ((k : ℕ) → Fits w8 (get_or xs k 0)) → two_words (little_number 8 (take 8 xs)) (little_number 8 (drop 8 xs)) ≡ xs

@@ -4,8 +4,7 @@ ghost use Rattle.guest_memory.specs.Memory.{overwrite, is_memory_size, word_at, 
 ghost use Rattle.guest_memory.specs.Pages.{place_in, reaching};
 
 use crate::GuestMem;
-use crate::words::{bytes_of, bytes_of_two, put_word, put_words, words_of};
-use byteorder::{ByteOrder, LittleEndian};
+use crate::words::{bytes_of, bytes_of_two, put_word, put_words, word_of, words_of};
 use std::alloc::Global;
 use std::marker::Model;
 use wire_frame::Fault;
@@ -117,11 +116,12 @@ impl FlatMem {
     #[tactic(auto, unfolding(crate::specs::Memory::word_at))]
     fn read_word_apart(&self, addr: u64) -> u64
         requires { addr + 8 ≤ length self.now }
-        ensures { result ≡ word_at addr self.now }
+        ensures value { result ≡ word_at addr self.now }
+        ensures spelled { word_bytes result ≡ slice_range self.now addr (addr + 8) }
     {
         let mut word = [0u8; 8];
         self.read_pages(addr as usize, &mut word);
-        LittleEndian::read_u64(&word)
+        word_of(&word)
     }
 
     // Two words that aren't in one stored page.
@@ -285,7 +285,7 @@ impl GuestMem for FlatMem {
     #[tactic(auto, unfolding(crate::specs::Memory::word_at))]
     fn read_word(&self, addr: u64) -> u64 {
         match self.stored_part(addr as usize, 8) {
-            Some(word) => LittleEndian::read_u64(word),
+            Some(word) => word_of(word),
             None => self.read_word_apart(addr),
         }
     }

@@ -49,6 +49,17 @@ pub(crate) fn bytes_of_two(low: u64, high: u64) -> [u8; 16]
     bytes
 }
 
+// The word of eight bytes.
+#[inline]
+#[tactic(auto, using(crate::proofs::EightBytes::word_back), unfolding(crate::specs::Memory::word_at))]
+pub(crate) fn word_of(bytes: &[u8]) -> u64
+    requires { length bytes.now ≡ 8 }
+    ensures value { result ≡ word_at 0 bytes.now }
+    ensures spelled { word_bytes result ≡ bytes.now }
+{
+    LittleEndian::read_u64(bytes)
+}
+
 // The two words of sixteen bytes.
 #[inline]
 #[tactic(auto, using(crate::proofs::EightBytes::words_back), unfolding(crate::specs::Memory::word_at))]

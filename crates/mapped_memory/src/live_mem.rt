@@ -1,8 +1,8 @@
 //! The memory, and what maps its regions.
-ghost use Rattle.std.specs.Prelude.{◌≡◌, ◌↔◌, ◌+◌, ◌≤◌, true, false, [], length, replicate, map, Some, None, IfOk, IfErr, OnOk, MatchOption};
+ghost use Rattle.std.specs.Prelude.{◌≡◌, ◌↔◌, ◌+◌, ◌≤◌, true, false, [], ◌∷◌, ◌++◌, length, replicate, map, Some, None, IfOk, IfErr, OnOk, MatchOption};
 ghost use Rattle.std.proofs.lemmas.Bool.{true≢false};
 ghost use Rattle.guest_memory.specs.Memory.{overwrite, is_memory_size};
-ghost use Rattle.live_memory.specs.Trace.{Read, Wrote, noted};
+ghost use Rattle.live_memory.specs.Trace.{Read, Wrote};
 ghost use Rattle.mapped_memory.specs.Regions.{bytes_at, written, cleared};
 ghost use Rattle.mapped_memory.specs.Whole.{bytes_whole};
 ghost use Rattle.mapped_memory.specs.Mapping.{AreMapped, refusal, with_part, bytes_from, parts_without};
@@ -22,8 +22,8 @@ pub const MOST_REGIONS: usize = 64;
 /// A memory of 4096 to 16,777,216 bytes, a multiple of 128, of which up to 64 regions of bytes are mapped. It reads as zero where
 /// none is. No two regions have an address in common.
 ///
-/// In contracts it is its regions, in the order in which they were mapped, and the bytes as a device knows them: zeros at first, and
-/// then what each access read or wrote, wherever it was. To map a region or to unmap it changes nothing of what a device knows.
+/// In contracts it is its regions, in the order in which they were mapped, the bytes as a device knows them, zeros at first, and
+/// then what each access read or wrote, wherever it was; and those accesses, since it was made or erased. To map a region or to unmap it changes nothing of what a device knows.
 ///
 /// An access looks at each region once, so it costs a few steps for each beside its bytes.
 #[derive(Drop)]
@@ -43,7 +43,11 @@ impl<'a> Model for LiveMem<'a> {
 
     ghost use Rattle.mapped_memory.specs.Mapping.{AreMapped};
 
-    ghost view = { λ m. record { parts = m.regions.items; seen = known m.size m.accesses.accesses } };
+    ghost view = { λ m. record {
+      parts = m.regions.items;
+      seen = known m.size m.accesses.accesses;
+      accesses = m.accesses.accesses;
+    } };
 
     ghost invariant = { λ m. (m.size ≡ length (known m.size m.accesses.accesses)) × (m.size ≤ 16777216)
         × (length m.regions.items ≤ 64) × (64 ≤ vec_capacity m.regions)
@@ -55,7 +59,7 @@ impl<'a> LiveMem<'a> {
     /// comes only where the host refused the room. No later call takes memory.
     #[tactic(auto, unfolding(crate::specs::Mapping::AreMapped, crate::specs::Known::with_accesses))]
     pub fn new(alloc: Global, size: u64) -> Result<LiveMem<'a>, Fault>
-        ensures ok { IfOk result (λ m. m ≡ record { parts = []; seen = replicate size 0 }) }
+        ensures ok { IfOk result (λ m. m ≡ record { parts = []; seen = replicate size 0; accesses = [] }) }
         ensures bad_make { (result ≡ Err Fault.BadMake) ↔ (is_memory_size size ≡ false) }
         ensures no_memory { IfErr result (λ e. is_memory_size size ≡ true → e ≡ Fault.NoMemory) }
     {
@@ -146,6 +150,8 @@ impl Dma<Shared> for LiveMem<'_> {
 
     ghost answer = { λ m at count. bytes_at m.parts at count };
 
+    ghost noted = { λ m. m.accesses };
+
     ghost whole = { λ m at count fits. bytes_whole m.parts at count };
 
     ghost steady = { λ m at count not. absurd (true≢false not) };
@@ -155,32 +161,30 @@ impl Dma<Shared> for LiveMem<'_> {
     }
 
     #[tactic(auto, using(crate::proofs::KnownLemmas::read_last))]
-    fn load(&mut self, trace: &mut Trace, addr: u64, out: &mut [u8])
+    fn load(&mut self, addr: u64, out: &mut [u8])
         requires { addr + length out.old ≤ length self.old.seen }
         ensures out { out.new ≡ bytes_at self.old.parts addr (length out.old) }
         ensures seen { self.new.seen
             ≡ overwrite addr (bytes_at self.old.parts addr (length out.old)) self.old.seen }
         ensures size { length self.new.seen ≡ length self.old.seen }
-        ensures traced { trace.new.accesses
-            ≡ noted true trace.old.accesses (Read addr (bytes_at self.old.parts addr (length out.old))) }
+        ensures noted { self.new.accesses
+            ≡ self.old.accesses ++ Read addr (bytes_at self.old.parts addr (length out.old)) ∷ [] }
         ensures parts { self.new.parts ≡ self.old.parts }
     {
         read_all(&self.regions, addr as usize, out);
         note_read(&mut self.accesses, addr, out);
-        note_read(trace, addr, out);
     }
 
     #[tactic(auto, using(crate::proofs::KnownLemmas::written_last))]
-    fn store(&mut self, trace: &mut Trace, addr: u64, source: &[u8])
+    fn store(&mut self, addr: u64, source: &[u8])
         requires { addr + length source.now ≤ length self.old.seen }
         ensures seen { self.new.seen ≡ overwrite addr source.now self.old.seen }
         ensures size { length self.new.seen ≡ length self.old.seen }
-        ensures traced { trace.new.accesses ≡ noted true trace.old.accesses (Wrote addr source.now) }
+        ensures noted { self.new.accesses ≡ self.old.accesses ++ Wrote addr source.now ∷ [] }
         ensures parts { self.new.parts ≡ map (written addr source.now) self.old.parts }
     {
         write_all(&mut self.regions, addr as usize, source);
         note_written(&mut self.accesses, addr, source);
-        note_written(trace, addr, source);
     }
 
     #[tactic(auto, unfolding(crate::specs::Known::with_accesses))]
@@ -197,7 +201,7 @@ impl Dma<Shared> for LiveMem<'_> {
 // One access more: these bytes were read from an address on.
 #[inline]
 fn note_read(trace: &mut Trace, addr: u64, bytes: &[u8])
-    ensures { trace.new.accesses ≡ noted true trace.old.accesses (Read addr bytes.now) }
+    ensures { trace.new.accesses ≡ trace.old.accesses ++ Read addr bytes.now ∷ [] }
 {
     *trace = Step::Reads(trace, addr, bytes).trace();
 }
@@ -205,7 +209,7 @@ fn note_read(trace: &mut Trace, addr: u64, bytes: &[u8])
 // One access more: these bytes were written from an address on.
 #[inline]
 fn note_written(trace: &mut Trace, addr: u64, bytes: &[u8])
-    ensures { trace.new.accesses ≡ noted true trace.old.accesses (Wrote addr bytes.now) }
+    ensures { trace.new.accesses ≡ trace.old.accesses ++ Wrote addr bytes.now ∷ [] }
 {
     *trace = Step::Writes(trace, addr, bytes).trace();
 }

@@ -133,25 +133,6 @@ impl Ring {
         Some(self.base + 16 * u64::from(self.head))
     }
 
-    /// The address of the descriptor four after the head, where the head is a multiple of four and the device owns that descriptor.
-    /// It is there to be read ahead of time. A line of the processor's cache has 64 bytes, which is four descriptors, so one read at
-    /// every fourth head brings all descriptors into the cache.
-    #[inline]
-    pub fn slot_ahead(&self) -> Option<u64>
-        ensures value { IfSome result
-            (λ a. a ≡ self.now.base + 16 * slice_index (owned self.now) 4) }
-        ensures fourth { IfSome result (λ a. self.now.head % 4 ≡ 0) }
-        ensures owned { IfSome result (λ a. 4 < length (owned self.now)) }
-        ensures none { IfNone result (self.now.head % 4 ≡ 0 → length (owned self.now) ≤ 4) }
-        ensures inside { IfSome result (λ a. a + 16 ≤ self.now.base + 16 * self.now.count) }
-        ensures on { IfSome result (λ a. self.now.enabled ≡ true) }
-    {
-        if self.head % 4 != 0 || self.available() <= 4 {
-            return None;
-        }
-        Some(self.slot(4))
-    }
-
     /// Gives the first `k` owned descriptors back to the guest.
     #[inline]
     pub fn advance(&mut self, k: u32)

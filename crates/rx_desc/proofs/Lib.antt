@@ -1,7 +1,6 @@
 pub mod Pieces
 pub mod CutLemmas
-pub mod Accessed
 pub mod Delivered
+pub mod Listed
 pub mod Slots
 pub mod WordsRead
-mod TwoWrites

@@ -36,7 +36,7 @@ pub write_all-none : (ws : List Write) (m : List ℕ) → ws ≡ [] → write_al
 unfolding write_all
 write_all-none ws m e = rw e refl
 
-write_all-more : (ws rest : List Write) (a : ℕ) (p m : List ℕ) → ws ≡ record { at = a; bytes = p } ∷ rest → write_all ws m ≡ write_all rest (overwrite a p m)
+pub write_all-more : (ws rest : List Write) (a : ℕ) (p m : List ℕ) → ws ≡ record { at = a; bytes = p } ∷ rest → write_all ws m ≡ write_all rest (overwrite a p m)
 unfolding write_all
 write_all-more ws rest a p m e = rw e refl
 
@@ -50,6 +50,7 @@ passes_end-more n ws rest a p e = rw e refl
 
 -- what a loop that has the writes from i on left knows of the piece at i and the pieces after it
 pub record StepsOn (places : List ℕ) (b n i : ℕ) (xs piece tail m m' : List ℕ) (a end : ℕ) : Type 0 where
+  pub first : rest_writes places b n i xs ≡ record { at = a; bytes = piece } ∷ rest_writes places b n (i + 1) tail
   pub written : write_all (rest_writes places b n (i + 1) tail) m' ≡ write_all (rest_writes places b n i xs) m
   pub passes : passes_end end (rest_writes places b n i xs) ≡ (nat_lt end (a + length piece) || passes_end end (rest_writes places b n (i + 1) tail))
 
@@ -59,11 +60,12 @@ steps_on places b n i mid xs piece tail m a end h k at middle front back =
     let t : tail ≡ drop b xs = back ∙ ap (λ (k : ℕ). drop k xs) middle ∙ drop_min b xs in
     let more = rest_writes-more places b n i xs h k in
     record {
+      first = rw (p, t, at) more;
       written = rw (p, t, at) (sym (write_all-more _ _ _ _ m more));
       passes = rw (p, t, at) (passes_end-more end _ _ _ _ more);
     }
 
-or_false : (x y : Bool) → (x || y) ≡ false → (x ≡ false) × (y ≡ false)
+pub or_false : (x y : Bool) → (x || y) ≡ false → (x ≡ false) × (y ≡ false)
 or_false true y e = cc
 or_false false y e = (refl, e)
 
@@ -108,11 +110,15 @@ rest_backs-more lb tag places b n i xs h k =
     let last = is_nil-cut b n i (drop b xs) h in
     ap (λ (k : ℕ). back_writes lb tag (drop i places) (cut b k xs)) e ∙ ap (λ (d : List ℕ). back_writes lb tag d (cut b (suc (n - (i + 1))) xs)) (drop_more places i 0 k) ∙ rw last refl
 
-pub back_on : (lb : Bool) (tag : Option ℕ) (places : List ℕ) (b n i mid : ℕ) (xs piece tail m : List ℕ) (a word : ℕ) → i < n → i < length places → a ≡ get_or places i 0 → mid ≡ min b (length xs) → piece ≡ take mid xs → tail ≡ drop mid xs → word ≡ status lb tag (eqb (i + 1) n) (length piece) → write_all (rest_backs lb tag places b n (i + 1) tail) (overwrite a (two_words 0 word) m) ≡ write_all (rest_backs lb tag places b n i xs) m
-back_on lb tag places b n i mid xs piece tail m a word h k at middle front back is =
+pub back_step : (lb : Bool) (tag : Option ℕ) (places : List ℕ) (b n i mid : ℕ) (xs piece tail : List ℕ) (a word : ℕ) → i < n → i < length places → a ≡ get_or places i 0 → mid ≡ min b (length xs) → piece ≡ take mid xs → tail ≡ drop mid xs → word ≡ status lb tag (eqb (i + 1) n) (length piece) → rest_backs lb tag places b n i xs ≡ record { at = a; bytes = two_words 0 word } ∷ rest_backs lb tag places b n (i + 1) tail
+back_step lb tag places b n i mid xs piece tail a word h k at middle front back is =
     let p : piece ≡ take b xs = front ∙ ap (λ (k : ℕ). take k xs) middle ∙ take_min b xs in
     let t : tail ≡ drop b xs = back ∙ ap (λ (k : ℕ). drop k xs) middle ∙ drop_min b xs in
-    rw (is, p, t, at) (sym (write_all-more _ _ _ _ m (rest_backs-more lb tag places b n i xs h k)))
+    rw (is, p, t, at) (rest_backs-more lb tag places b n i xs h k)
+
+pub back_on : (lb : Bool) (tag : Option ℕ) (places : List ℕ) (b n i mid : ℕ) (xs piece tail m : List ℕ) (a word : ℕ) → i < n → i < length places → a ≡ get_or places i 0 → mid ≡ min b (length xs) → piece ≡ take mid xs → tail ≡ drop mid xs → word ≡ status lb tag (eqb (i + 1) n) (length piece) → write_all (rest_backs lb tag places b n (i + 1) tail) (overwrite a (two_words 0 word) m) ≡ write_all (rest_backs lb tag places b n i xs) m
+back_on lb tag places b n i mid xs piece tail m a word h k at middle front back is =
+    sym (write_all-more _ _ _ _ m (back_step lb tag places b n i mid xs piece tail a word h k at middle front back is))
 
 -- where the descriptor at i stands
 pub get_or-slots : (r : RingState) (i : ℕ) → i < length (owned r) → get_or (slots r) i 0 ≡ r.base + 16 * get_or (owned r) i 0
@@ -129,7 +135,7 @@ zip_writes-take [] b (suc n) xs = refl
 zip_writes-take (a ∷ places) b (suc n) xs = ap (λ (ws : List Write). record { at = a; bytes = take b xs } ∷ ws) (zip_writes-take places b n (drop b xs))
 
 -- the words that stand at the places
-pub words_at : List ℕ → List ℕ → List ℕ
+unfoldable pub words_at : List ℕ → List ℕ → List ℕ
 words_at places m = map (λ s. word_at s m) places
 
 pub words_at-is : (places m : List ℕ) (b n : ℕ) (xs : List ℕ) → zip_writes (words_at places m) (cut b n xs) ≡ data_writes places (cut b n xs) m
@@ -169,7 +175,7 @@ passes_here places b n i xs piece tail m m' a end s h = s.passes ∙ rw (lt-ltb 
 pub passes_later : (places : List ℕ) (b n i : ℕ) (xs piece tail m m' : List ℕ) (a end : ℕ) → StepsOn places b n i xs piece tail m m' a end → a + length piece ≤ end → passes_end end (rest_writes places b n (i + 1) tail) ≡ passes_end end (rest_writes places b n i xs)
 passes_later places b n i xs piece tail m m' a end s h = sym (s.passes ∙ rw (le-ltb end (a + length piece) h) refl)
 
-length-cut : (b k : ℕ) (xs : List ℕ) → length (cut b k xs) ≡ k
+pub length-cut : (b k : ℕ) (xs : List ℕ) → length (cut b k xs) ≡ k
 unfolding cut
 length-cut b zero xs = refl
 length-cut b (suc k) xs = let e = length-cut b k (drop b xs) in omega (arith, e)

@@ -2,4 +2,4 @@ pub mod Parts
 pub mod Receive
 pub mod Cut
 pub mod Words
-pub mod Writing
+pub mod Accesses

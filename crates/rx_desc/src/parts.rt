@@ -1,10 +1,10 @@
 //! Bytes that stand in two parts.
-ghost use Rattle.std.specs.Prelude.{◌≡◌, ℕ, ◌+◌, ◌^◌, ◌<◌, ◌≤◌, length, take, drop};
+ghost use Rattle.std.specs.Prelude.{◌≡◌, ℕ, ◌+◌, ◌^◌, ◌<◌, ◌≤◌, [], ◌∷◌, ◌++◌, length, take, drop};
 ghost use Rattle.guest_memory.specs.Memory.{overwrite};
+ghost use Rattle.live_memory.specs.Trace.{Wrote};
 ghost use Rattle.rx_desc.specs.Parts.{text_of};
-ghost use Rattle.rx_desc.specs.Writing.{OnlyWrites};
 
-use live_memory::{Dma, Trace};
+use live_memory::{Dma, Traced};
 
 // Bytes that stand in two parts, one after the other: a frame without its tag is its addresses and what follows the tag.
 #[derive(Clone, Copy)]
@@ -52,35 +52,20 @@ impl<'a> Parts<'a> {
     }
 }
 
-// Writes the bytes over those of the memory from `at` on.
+// Writes the bytes over those of the memory from `at` on, each once.
 #[inline(always)]
-pub(crate) fn write_parts<D: Dma<K>, K>(memory: &mut D, trace: &mut Trace, at: u64, source: Parts)
-    requires inside { at + length (text_of source) ≤ length (D.seen memory.old) }
+pub(crate) fn write_parts<D: Dma<K>, K>(memory: &mut Traced<D, K>, at: u64, source: Parts)
+    requires inside { at + length (text_of source) ≤ length (D.seen memory.old.memory) }
     requires fits { at + length (text_of source) < 2 ^ 64 }
-    ensures written { D.seen memory.new
-        ≡ overwrite at (text_of source.entry) (D.seen memory.old) }
-    ensures writes { OnlyWrites D.shared (length (D.seen memory.old)) trace.old.accesses
-        trace.new.accesses }
-    ensures size { length (D.seen memory.new) ≡ length (D.seen memory.old) }
+    ensures written { D.seen memory.new.memory
+        ≡ overwrite at (text_of source.entry) (D.seen memory.old.memory) }
+    ensures listed { memory.new.accesses
+        ≡ memory.old.accesses ++ Wrote at (text_of source.entry) ∷ [] }
+    ensures size { length (D.seen memory.new.memory) ≡ length (D.seen memory.old.memory) }
 {
     if source.front.is_empty() {
-        memory.store(trace, at, source.back);
+        memory.store(at, source.back);
     } else {
-        write_both(memory, trace, at, source);
+        memory.store_parts(at, source.front, source.back);
     }
-}
-
-// Writes both parts, one behind the other. It isn't inlined, so that bytes in one part are written in few instructions.
-#[inline(never)]
-fn write_both<D: Dma<K>, K>(memory: &mut D, trace: &mut Trace, at: u64, source: Parts)
-    requires inside { at + length (text_of source) ≤ length (D.seen memory.old) }
-    requires fits { at + length (text_of source) < 2 ^ 64 }
-    ensures written { D.seen memory.new
-        ≡ overwrite at (text_of source.entry) (D.seen memory.old) }
-    ensures writes { OnlyWrites D.shared (length (D.seen memory.old)) trace.old.accesses
-        trace.new.accesses }
-    ensures size { length (D.seen memory.new) ≡ length (D.seen memory.old) }
-{
-    memory.store(trace, at, source.front);
-    memory.store(trace, at + source.front.len() as u64, source.back);
 }

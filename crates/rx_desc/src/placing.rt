@@ -1,16 +1,15 @@
 //! Placing a frame.
-ghost use Rattle.std.specs.Prelude.{◌≡◌, ℕ, ◌+◌, ◌*◌, ◌-◌, ◌^◌, ◌<◌, ◌≤◌, length, false, is_none, IfSome, IsTrue, [], ◌∷◌};
+ghost use Rattle.std.specs.Prelude.{◌≡◌, ℕ, ◌+◌, ◌*◌, ◌-◌, ◌^◌, ◌<◌, ◌≤◌, length, false, is_none, IfSome, IsTrue, [], ◌∷◌, ◌++◌, take};
 ghost use Rattle.guest_memory.specs.Memory.{write_all};
-ghost use Rattle.live_memory.specs.Trace.{met, IsTraced};
+ghost use Rattle.live_memory.specs.Trace.{met, wrotes, IsTraced};
 ghost use Rattle.rings.specs.Ring.{owned, IsRing, LiesInside};
 ghost use Rattle.rx_desc.specs.Parts.{text_of};
 ghost use Rattle.rx_desc.specs.Receive.{Delivers, deliver, deliver_pieces, data_of, tag_taken, cut, pieces, slots, zip_writes, data_writes, back_writes, passes_end, status as status_of};
-ghost use Rattle.rx_desc.specs.Writing.{OnlyWrites};
+ghost use Rattle.rx_desc.specs.Accesses.{deliver_accesses, pieces_accesses, descriptors_read, words_read};
 
 use crate::descriptor::RxDescriptor;
 use crate::parts::{Parts, write_parts};
-use guest_memory::GuestMem;
-use live_memory::{Dma, Step, Trace};
+use live_memory::{Dma, Traced};
 use rings::Ring;
 use wire_frame::FrameBuf;
 
@@ -52,67 +51,33 @@ pub enum Placed {
 /// Places `frame` in the buffers of the ring's next descriptors, and writes these back (82599 datasheet, advanced receive
 /// descriptors, read and write-back format). `loopback` says that another pool sent it. The memory's type is known where it is
 /// called; [`place`](crate::place) takes one of any kind behind a reference.
-#[inline]
-pub fn place_in<M: GuestMem>(
-    memory: &mut M,
-    ring: &mut Ring,
-    config: &RxConfig,
-    frame: &FrameBuf,
-    loopback: bool,
-) -> Placed
-    requires least { IsTrue ring.old.enabled → 1024 ≤ config.now.buffer_size }
-    requires most { IsTrue ring.old.enabled → config.now.buffer_size ≤ 16384 }
-    requires inside { LiesInside (length (M.bytes memory.old)) ring.old }
-    ensures placed { result
-        ≡ (deliver config.now loopback frame.now (M.bytes memory.old) ring.old).placed }
-    ensures written { M.bytes memory.new
-        ≡ (deliver config.now loopback frame.now (M.bytes memory.old) ring.old).memory }
-    ensures ring { ring.new
-        ≡ (deliver config.now loopback frame.now (M.bytes memory.old) ring.old).ring }
-    ensures size { length (M.bytes memory.new) ≡ length (M.bytes memory.old) }
-    ensures inside { LiesInside (length (M.bytes memory.new)) ring.new }
-    ensures on { IsTrue ring.new.enabled → IsTrue ring.old.enabled }
-{
-    let memory_size = memory.size();
-    let mut trace = Step::Begin.trace();
-    place_within(
-        memory,
-        &mut trace,
-        memory_size,
-        ring,
-        config,
-        frame,
-        loopback,
-    )
-}
-
-/// Places a frame as [`place_in`] does, in a memory that others may write meanwhile, and whose size the caller knows.
 ///
-/// It does what `deliver` says of the memory that it met: the one before, with all that was read written into it. No byte is
-/// read after it was read or written in this call. Where the memory is shared, `trace` grows by each access.
+/// Others may write the memory meanwhile. It does what `deliver` says of the memory that it met: the one before, with all that was
+/// read written into it. It makes just the accesses that `deliver_accesses` lists, in that order, so no byte is read after it was read
+/// or written.
 #[inline]
-#[tactic(auto, unfolding(crate::specs::Receive::deliver))]
-pub fn place_within<D: Dma<K>, K>(
-    memory: &mut D,
-    trace: &mut Trace,
-    memory_size: u64,
+#[tactic(auto, unfolding(crate::specs::Receive::deliver, crate::specs::Accesses::deliver_accesses))]
+pub fn place_in<D: Dma<K>, K>(
+    memory: &mut Traced<D, K>,
     ring: &mut Ring,
     config: &RxConfig,
     frame: &FrameBuf,
     loopback: bool,
 ) -> Placed
-    requires known { memory_size ≡ length (D.seen memory.old) }
     requires least { IsTrue ring.old.enabled → 1024 ≤ config.now.buffer_size }
     requires most { IsTrue ring.old.enabled → config.now.buffer_size ≤ 16384 }
-    requires inside { LiesInside (length (D.seen memory.old)) ring.old }
+    requires inside { LiesInside (length (D.seen memory.old.memory)) ring.old }
     ensures done { Delivers
         (deliver config.now loopback frame.now
-        (met trace.old.accesses trace.new.accesses (D.seen memory.old)) ring.old)
-        result (D.seen memory.new) ring.new }
-    ensures traced { IsTraced D.shared (length (D.seen memory.old)) trace.old.accesses
-        trace.new.accesses }
-    ensures size { length (D.seen memory.new) ≡ length (D.seen memory.old) }
-    ensures inside { LiesInside (length (D.seen memory.new)) ring.new }
+        (met memory.old.accesses memory.new.accesses (D.seen memory.old.memory)) ring.old)
+        result (D.seen memory.new.memory) ring.new }
+    ensures listed { memory.new.accesses ≡ memory.old.accesses
+        ++ deliver_accesses config.now loopback frame.now
+        (met memory.old.accesses memory.new.accesses (D.seen memory.old.memory)) ring.old }
+    ensures traced { IsTraced D.shared (D.seen memory.old.memory) memory.old.accesses
+        memory.new.accesses }
+    ensures size { length (D.seen memory.new.memory) ≡ length (D.seen memory.old.memory) }
+    ensures inside { LiesInside (length (D.seen memory.new.memory)) ring.new }
     ensures on { IsTrue ring.new.enabled → IsTrue ring.old.enabled }
 {
     if !ring.is_enabled() {
@@ -121,64 +86,47 @@ pub fn place_within<D: Dma<K>, K>(
     let size = config.buffer_size;
     let bytes = frame.bytes();
     if config.strip_tag || bytes.len() > size {
-        return place_frame(
-            memory,
-            trace,
-            memory_size,
-            ring,
-            size,
-            config.strip_tag,
-            frame,
-            loopback,
-        );
+        return place_frame(memory, ring, size, config.strip_tag, frame, loopback);
     }
     let source = Parts {
         front: &bytes[..0],
         back: bytes,
     };
-    place_one(memory, trace, memory_size, ring, source, loopback, None)
+    place_one(memory, ring, source, loopback, None)
 }
 
 // Places a frame, without its tag where tags are stripped. It isn't inlined, so that a whole frame in one buffer is placed in few
 // instructions.
 #[inline(never)]
 fn place_frame<D: Dma<K>, K>(
-    memory: &mut D,
-    trace: &mut Trace,
-    memory_size: u64,
+    memory: &mut Traced<D, K>,
     ring: &mut Ring,
     size: usize,
     strip_tag: bool,
     frame: &FrameBuf,
     loopback: bool,
 ) -> Placed
-    requires known { memory_size ≡ length (D.seen memory.old) }
     requires least { 1024 ≤ size }
     requires most { size ≤ 16384 }
     requires valid { IsRing ring.old }
-    requires inside { LiesInside (length (D.seen memory.old)) ring.old }
+    requires inside { LiesInside (length (D.seen memory.old.memory)) ring.old }
     ensures done { Delivers
         (deliver_pieces loopback (tag_taken strip_tag frame.now)
         (pieces size (data_of strip_tag frame.now))
-        (met trace.old.accesses trace.new.accesses (D.seen memory.old)) ring.old)
-        result (D.seen memory.new) ring.new }
-    ensures traced { IsTraced D.shared (length (D.seen memory.old)) trace.old.accesses
-        trace.new.accesses }
-    ensures size { length (D.seen memory.new) ≡ length (D.seen memory.old) }
-    ensures inside { LiesInside (length (D.seen memory.new)) ring.new }
+        (met memory.old.accesses memory.new.accesses (D.seen memory.old.memory)) ring.old)
+        result (D.seen memory.new.memory) ring.new }
+    ensures listed { memory.new.accesses ≡ memory.old.accesses
+        ++ pieces_accesses loopback (tag_taken strip_tag frame.now)
+        (pieces size (data_of strip_tag frame.now))
+        (met memory.old.accesses memory.new.accesses (D.seen memory.old.memory)) ring.old }
+    ensures traced { IsTraced D.shared (D.seen memory.old.memory) memory.old.accesses
+        memory.new.accesses }
+    ensures size { length (D.seen memory.new.memory) ≡ length (D.seen memory.old.memory) }
+    ensures inside { LiesInside (length (D.seen memory.new.memory)) ring.new }
     ensures on { IsTrue ring.new.enabled → IsTrue ring.old.enabled }
 {
     let (source, tag) = without_tag(strip_tag, frame);
-    place_data(
-        memory,
-        trace,
-        memory_size,
-        ring,
-        size,
-        source,
-        loopback,
-        tag,
-    )
+    place_data(memory, ring, size, source, loopback, tag)
 }
 
 // The bytes of a frame that are placed, and the tag that was taken off it, where it is to be stripped and has one.
@@ -209,89 +157,79 @@ pub(crate) fn without_tag(strip_tag: bool, frame: &FrameBuf) -> (Parts<'_>, Opti
 // Places `source` in the buffers of the ring's next descriptors; `tag` was taken off it.
 #[inline]
 fn place_data<D: Dma<K>, K>(
-    memory: &mut D,
-    trace: &mut Trace,
-    memory_size: u64,
+    memory: &mut Traced<D, K>,
     ring: &mut Ring,
     size: usize,
     source: Parts,
     loopback: bool,
     tag: Option<u16>,
 ) -> Placed
-    requires known { memory_size ≡ length (D.seen memory.old) }
     requires least { 1024 ≤ size }
     requires most { size ≤ 16384 }
     requires some { 1 ≤ length (text_of source) }
     requires short { length (text_of source) ≤ 9018 }
     requires valid { IsRing ring.old }
-    requires inside { LiesInside (length (D.seen memory.old)) ring.old }
+    requires inside { LiesInside (length (D.seen memory.old.memory)) ring.old }
     ensures done { Delivers
         (deliver_pieces loopback tag (pieces size (text_of source.entry))
-        (met trace.old.accesses trace.new.accesses (D.seen memory.old)) ring.old)
-        result (D.seen memory.new) ring.new }
-    ensures traced { IsTraced D.shared (length (D.seen memory.old)) trace.old.accesses
-        trace.new.accesses }
-    ensures size { length (D.seen memory.new) ≡ length (D.seen memory.old) }
-    ensures inside { LiesInside (length (D.seen memory.new)) ring.new }
+        (met memory.old.accesses memory.new.accesses (D.seen memory.old.memory)) ring.old)
+        result (D.seen memory.new.memory) ring.new }
+    ensures listed { memory.new.accesses ≡ memory.old.accesses
+        ++ pieces_accesses loopback tag (pieces size (text_of source.entry))
+        (met memory.old.accesses memory.new.accesses (D.seen memory.old.memory)) ring.old }
+    ensures traced { IsTraced D.shared (D.seen memory.old.memory) memory.old.accesses
+        memory.new.accesses }
+    ensures size { length (D.seen memory.new.memory) ≡ length (D.seen memory.old.memory) }
+    ensures inside { LiesInside (length (D.seen memory.new.memory)) ring.new }
     ensures on { IsTrue ring.new.enabled → IsTrue ring.old.enabled }
 {
     if source.len() <= size {
-        return place_one(memory, trace, memory_size, ring, source, loopback, tag);
+        return place_one(memory, ring, source, loopback, tag);
     }
     let count = (source.len() + size - 1) / size;
     if count > ring.available() as usize {
         return Placed::NoRoom;
     }
-    place_many(
-        memory,
-        trace,
-        memory_size,
-        ring,
-        size,
-        source,
-        count,
-        loopback,
-        tag,
-    )
+    place_many(memory, ring, size, source, count, loopback, tag)
 }
 
 // Places `source` in one buffer. Nothing is kept beside the word of its descriptor. It is inlined, and calls the memory itself: a
 // call through a table is followed by a test for each inlined function around it.
 #[inline(always)]
 fn place_one<D: Dma<K>, K>(
-    memory: &mut D,
-    trace: &mut Trace,
-    memory_size: u64,
+    memory: &mut Traced<D, K>,
     ring: &mut Ring,
     source: Parts,
     loopback: bool,
     tag: Option<u16>,
 ) -> Placed
-    requires known { memory_size ≡ length (D.seen memory.old) }
     requires short { length (text_of source) ≤ 9018 }
-    requires inside { LiesInside (length (D.seen memory.old)) ring.old }
+    requires inside { LiesInside (length (D.seen memory.old.memory)) ring.old }
     ensures done { Delivers
         (deliver_pieces loopback tag (text_of source.entry ∷ [])
-        (met trace.old.accesses trace.new.accesses (D.seen memory.old)) ring.old)
-        result (D.seen memory.new) ring.new }
-    ensures traced { IsTraced D.shared (length (D.seen memory.old)) trace.old.accesses
-        trace.new.accesses }
-    ensures size { length (D.seen memory.new) ≡ length (D.seen memory.old) }
-    ensures inside { LiesInside (length (D.seen memory.new)) ring.new }
+        (met memory.old.accesses memory.new.accesses (D.seen memory.old.memory)) ring.old)
+        result (D.seen memory.new.memory) ring.new }
+    ensures listed { memory.new.accesses ≡ memory.old.accesses
+        ++ pieces_accesses loopback tag (text_of source.entry ∷ [])
+        (met memory.old.accesses memory.new.accesses (D.seen memory.old.memory)) ring.old }
+    ensures traced { IsTraced D.shared (D.seen memory.old.memory) memory.old.accesses
+        memory.new.accesses }
+    ensures size { length (D.seen memory.new.memory) ≡ length (D.seen memory.old.memory) }
+    ensures inside { LiesInside (length (D.seen memory.new.memory)) ring.new }
     ensures on { IsTrue ring.new.enabled → IsTrue ring.old.enabled }
 {
     let Some(at) = ring.head_slot() else {
         return Placed::NoRoom;
     };
-    let buffer = memory.load_word(trace, at);
+    let buffer = memory.load_word(at);
     let descriptor = RxDescriptor { at, buffer };
     let count = source.len() as u64;
-    if !descriptor.holds(count, memory_size) {
+    if !descriptor.holds(count, memory.size()) {
         ring.disable();
         return Placed::Faulted;
     }
-    write_parts(memory, trace, buffer, source);
-    memory.store_words(trace, at, 0, status(count, loopback, tag, true));
+    write_parts(memory, buffer, source);
+    memory.store_words(at, 0, status(count, loopback, tag, true));
     ring.advance(1);
     Placed::Put
 }
@@ -299,9 +237,7 @@ fn place_one<D: Dma<K>, K>(
 // Places `source` in the buffers of as many descriptors as it has pieces, which are owned.
 #[inline(never)]
 fn place_many<D: Dma<K>, K>(
-    memory: &mut D,
-    trace: &mut Trace,
-    memory_size: u64,
+    memory: &mut Traced<D, K>,
     ring: &mut Ring,
     size: usize,
     source: Parts,
@@ -309,68 +245,75 @@ fn place_many<D: Dma<K>, K>(
     loopback: bool,
     tag: Option<u16>,
 ) -> Placed
-    requires known { memory_size ≡ length (D.seen memory.old) }
     requires nine { count ≤ 9 }
     requires short { length (text_of source) ≤ 9018 }
     requires room { count ≤ length (owned ring.old) }
     requires valid { IsRing ring.old }
-    requires inside { LiesInside (length (D.seen memory.old)) ring.old }
+    requires inside { LiesInside (length (D.seen memory.old.memory)) ring.old }
     ensures done { Delivers
         (deliver_pieces loopback tag (cut size count (text_of source.entry))
-        (met trace.old.accesses trace.new.accesses (D.seen memory.old)) ring.old)
-        result (D.seen memory.new) ring.new }
-    ensures traced { IsTraced D.shared (length (D.seen memory.old)) trace.old.accesses
-        trace.new.accesses }
-    ensures size { length (D.seen memory.new) ≡ length (D.seen memory.old) }
-    ensures inside { LiesInside (length (D.seen memory.new)) ring.new }
+        (met memory.old.accesses memory.new.accesses (D.seen memory.old.memory)) ring.old)
+        result (D.seen memory.new.memory) ring.new }
+    ensures listed { memory.new.accesses ≡ memory.old.accesses
+        ++ pieces_accesses loopback tag (cut size count (text_of source.entry))
+        (met memory.old.accesses memory.new.accesses (D.seen memory.old.memory)) ring.old }
+    ensures traced { IsTraced D.shared (D.seen memory.old.memory) memory.old.accesses
+        memory.new.accesses }
+    ensures size { length (D.seen memory.new.memory) ≡ length (D.seen memory.old.memory) }
+    ensures inside { LiesInside (length (D.seen memory.new.memory)) ring.new }
     ensures on { IsTrue ring.new.enabled → IsTrue ring.old.enabled }
 {
-    let Some(addresses) = buffers(memory, trace, memory_size, ring, size, source, count) else {
+    let Some(addresses) = buffers(memory, ring, size, source, count) else {
         ring.disable();
         return Placed::Faulted;
     };
-    write_pieces(memory, trace, &addresses, size, source, count);
-    write_back(memory, trace, ring, size, source, count, loopback, tag);
+    write_pieces(memory, &addresses, size, source, count);
+    write_back(memory, ring, size, source, count, loopback, tag);
     ring.advance(count as u32);
     Placed::Put
 }
 
 // The addresses of the buffers of the first descriptors; none where some piece would pass the memory's end.
 fn buffers<D: Dma<K>, K>(
-    memory: &mut D,
-    trace: &mut Trace,
-    memory_size: u64,
+    memory: &mut Traced<D, K>,
     ring: &Ring,
     size: usize,
     source: Parts,
     count: usize,
 ) -> Option<[u64; MOST_PIECES]>
-    requires known { memory_size ≡ length (D.seen memory.old) }
     requires nine { count ≤ 9 }
     requires room { count ≤ length (owned ring.now) }
     requires valid { IsRing ring.now }
-    requires inside { LiesInside (length (D.seen memory.old)) ring.now }
-    ensures met { D.seen memory.new
-        ≡ met trace.old.accesses trace.new.accesses (D.seen memory.old) }
-    ensures traced { IsTraced D.shared (length (D.seen memory.old)) trace.old.accesses
-        trace.new.accesses }
-    ensures size { length (D.seen memory.new) ≡ length (D.seen memory.old) }
-    ensures small { length (D.seen memory.new) < 2 ^ 64 }
-    ensures variant { is_none result
-        ≡ passes_end (length (D.seen memory.new))
+    requires inside { LiesInside (length (D.seen memory.old.memory)) ring.now }
+    ensures met { D.seen memory.new.memory
+        ≡ met memory.old.accesses memory.new.accesses (D.seen memory.old.memory) }
+    ensures listed { memory.new.accesses ≡ memory.old.accesses
+        ++ words_read
+        (take
+        (descriptors_read (length (D.seen memory.new.memory))
         (data_writes (slots ring.now) (cut size count (text_of source.entry))
-        (D.seen memory.new)) }
+        (D.seen memory.new.memory)))
+        (slots ring.now)) (D.seen memory.new.memory) }
+    ensures traced { IsTraced D.shared (D.seen memory.old.memory) memory.old.accesses
+        memory.new.accesses }
+    ensures size { length (D.seen memory.new.memory) ≡ length (D.seen memory.old.memory) }
+    ensures small { length (D.seen memory.new.memory) < 2 ^ 64 }
+    ensures variant { is_none result
+        ≡ passes_end (length (D.seen memory.new.memory))
+        (data_writes (slots ring.now) (cut size count (text_of source.entry))
+        (D.seen memory.new.memory)) }
     ensures value { IfSome result
         (λ xs. zip_writes xs (cut size count (text_of source.entry))
         ≡ data_writes (slots ring.now) (cut size count (text_of source.entry))
-        (D.seen memory.new)) }
+        (D.seen memory.new.memory)) }
 {
+    let memory_size = memory.size();
     let mut addresses = [0u64; MOST_PIECES];
     let mut rest = source;
     for i in 0..count {
         let (piece, tail) = rest.split_at(size.min(rest.len()));
         let at = ring.slot(i as u32);
-        let buffer = memory.load_word(trace, at);
+        let buffer = memory.load_word(at);
         let descriptor = RxDescriptor { at, buffer };
         if !descriptor.holds(piece.len() as u64, memory_size) {
             return None;
@@ -383,36 +326,34 @@ fn buffers<D: Dma<K>, K>(
 
 // Writes each piece at its address.
 fn write_pieces<D: Dma<K>, K>(
-    memory: &mut D,
-    trace: &mut Trace,
+    memory: &mut Traced<D, K>,
     addresses: &[u64; MOST_PIECES],
     size: usize,
     source: Parts,
     count: usize,
 )
     requires nine { count ≤ 9 }
-    requires small { length (D.seen memory.old) < 2 ^ 64 }
-    requires fits { passes_end (length (D.seen memory.old))
+    requires small { length (D.seen memory.old.memory) < 2 ^ 64 }
+    requires fits { passes_end (length (D.seen memory.old.memory))
         (zip_writes addresses.now (cut size count (text_of source))) ≡ false }
-    ensures written { D.seen memory.new
+    ensures written { D.seen memory.new.memory
         ≡ write_all (zip_writes addresses.now (cut size count (text_of source.entry)))
-        (D.seen memory.old) }
-    ensures writes { OnlyWrites D.shared (length (D.seen memory.old)) trace.old.accesses
-        trace.new.accesses }
-    ensures size { length (D.seen memory.new) ≡ length (D.seen memory.old) }
+        (D.seen memory.old.memory) }
+    ensures listed { memory.new.accesses ≡ memory.old.accesses
+        ++ wrotes (zip_writes addresses.now (cut size count (text_of source.entry))) }
+    ensures size { length (D.seen memory.new.memory) ≡ length (D.seen memory.old.memory) }
 {
     let mut rest = source;
     for i in 0..count {
         let (piece, tail) = rest.split_at(size.min(rest.len()));
-        write_parts(memory, trace, addresses[i], piece);
+        write_parts(memory, addresses[i], piece);
         rest = tail;
     }
 }
 
 // Writes back the first descriptors.
 fn write_back<D: Dma<K>, K>(
-    memory: &mut D,
-    trace: &mut Trace,
+    memory: &mut Traced<D, K>,
     ring: &Ring,
     size: usize,
     source: Parts,
@@ -421,23 +362,24 @@ fn write_back<D: Dma<K>, K>(
     tag: Option<u16>,
 )
     requires room { count ≤ length (owned ring.now) }
-    requires inside { LiesInside (length (D.seen memory.old)) ring.now }
+    requires inside { LiesInside (length (D.seen memory.old.memory)) ring.now }
     requires short { length (text_of source) ≤ 9018 }
     requires nine { count ≤ 9 }
-    ensures written { D.seen memory.new
+    ensures written { D.seen memory.new.memory
         ≡ write_all
         (back_writes loopback tag (slots ring.now) (cut size count (text_of source.entry)))
-        (D.seen memory.old) }
-    ensures writes { OnlyWrites D.shared (length (D.seen memory.old)) trace.old.accesses
-        trace.new.accesses }
-    ensures size { length (D.seen memory.new) ≡ length (D.seen memory.old) }
+        (D.seen memory.old.memory) }
+    ensures listed { memory.new.accesses ≡ memory.old.accesses
+        ++ wrotes
+        (back_writes loopback tag (slots ring.now) (cut size count (text_of source.entry))) }
+    ensures size { length (D.seen memory.new.memory) ≡ length (D.seen memory.old.memory) }
 {
     let mut rest = source;
     for i in 0..count {
         let (piece, tail) = rest.split_at(size.min(rest.len()));
         let len = piece.len();
         let word = status(len as u64, loopback, tag, i + 1 == count);
-        memory.store_words(trace, ring.slot(i as u32), 0, word);
+        memory.store_words(ring.slot(i as u32), 0, word);
         rest = tail;
     }
 }

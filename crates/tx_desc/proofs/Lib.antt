@@ -1,4 +1,6 @@
 pub mod Unread
 pub mod Around
+pub mod Listing
+pub mod PortTags
 pub mod Taking
 pub mod Joining

@@ -1,63 +1,40 @@
 -- Taking a descriptor: what is met by its accesses, and what is due on that.
-use Rattle.std.proofs.Common.{◌≡◌, ℕ, ◌+◌, ◌-◌, ◌^◌, ◌<◌, ◌≤◌, Bool, false, List, [], length, take, drop, slice_range, Some, None, refl, sym, ap, subst, ◌∙◌, arith, append-nil}
+use Rattle.std.proofs.Common.{◌≡◌, ℕ, ◌+◌, ◌-◌, ◌^◌, ◌<◌, ◌≤◌, Bool, List, [], ◌∷◌, ◌++◌, length, take, drop, slice_range, Some, None, refl, sym, ap, subst, ◌∙◌, arith, append-nil}
 use Rattle.std.proofs.lemmas.List.{places, same_lists, drop-take, drop-drop}
 use Rattle.byteorder.specs.Endian.{little_number, little_bytes}
 use Rattle.byteorder.specs.Numbers.{little_number-reads_back}
-use Rattle.guest_memory.specs.Memory.{overwrite, word_at, word_bytes, two_words}
-use Rattle.live_memory.specs.Trace.{Access, Read, Wrote, noted, since, reads, met, NotRead, IsTraced}
-use Rattle.live_memory.proofs.Accesses.{since_none, since_join, met_join, met_none, met_still, unread_write, traced_write, traced_read, met_read}
-use Rattle.live_memory.proofs.Once.{not_read_append, not_read_none, traced_writes, traced_then}
-use Rattle.live_memory.proofs.Written.{size_written, same_written}
+use Rattle.guest_memory.specs.Memory.{word_at, two_words}
+use Rattle.live_memory.specs.Trace.{Access, Read, since, reads, met, IsTraced, HasRead}
+use Rattle.live_memory.proofs.Accesses.{since_is, since_join, met_join, met_still, listed_then}
+use Rattle.live_memory.proofs.Once.{not_read_append, not_read_none, traced_writes, met_writes, traced_then, Later}
 use Rattle.rings.specs.Ring.{RingState, head_slot}
 use Rattle.wire_frame.specs.declared.vlan.PortVlan.{PortVlan}
 use Rattle.tx_desc.specs.declared.descriptor.Kind.{Kind}
 use Rattle.tx_desc.specs.declared.descriptor.TxDescriptor.{TxDescriptor}
 use Rattle.tx_desc.specs.declared.outcome.Served.{Served}
 use Rattle.tx_desc.specs.Transmit.{Fetching, Gathering, fetch, fetch_next, taken, kind_of, descriptor_at}
-use Rattle.tx_desc.specs.Fetches.{Fetches, Holds, HeadRead, ReadsApart, KeepsApart}
-use Rattle.tx_desc.proofs.Unread.{later_read}
+use Rattle.tx_desc.specs.Fetches.{Fetches, Holds, ReadsApart, KeepsApart}
+use Rattle.tx_desc.specs.Accesses.{report_write, taken_accesses, fetch_accesses}
+use Rattle.tx_desc.proofs.Listing.{report_unread, report_once, accesses_some}
 
 -- what is due by another name
 pub fetches_as : (due same : Fetching) (served : Served) (bytes : List ℕ) (state : RingState) (gathered : Gathering) (lent filled : List ℕ) → due ≡ same → Fetches same served bytes state gathered lent filled → Fetches due served bytes state gathered lent filled
 fetches_as due same served bytes state gathered lent filled is done = subst (λ (d : Fetching). Fetches d served bytes state gathered lent filled) (sym is) done
 
--- where no access was kept, the memory that was met is the memory itself
-pub fetches_still : (limit : ℕ) (rule : PortVlan) (before now : List Access) (m : List ℕ) (ring : RingState) (pending : Gathering) (served : Served) (bytes : List ℕ) (state : RingState) (gathered : Gathering) (lent filled : List ℕ) → now ≡ before → Fetches (fetch limit rule (met before now m) ring pending) served bytes state gathered lent filled → Fetches (fetch limit rule m ring pending) served bytes state gathered lent filled
-fetches_still limit rule before now m ring pending served bytes state gathered lent filled same done =
-    fetches_as _ _ served bytes state gathered lent filled (ap (λ (l : List ℕ). fetch limit rule l ring pending) (sym (met_still before now m same))) done
-
--- ---- one write, or none
-
-pub length_word_bytes : (word : ℕ) → length (word_bytes word) ≡ 8
-unfolding word_bytes
-length_word_bytes word = refl
-
-pub wrote_size : (at word : ℕ) (old new : List ℕ) → new ≡ overwrite at (word_bytes word) old → at + 8 ≤ length old → length new ≡ length old
-wrote_size at word old new seen fits = ap length seen ∙ size_written at (word_bytes word) old (rw (length_word_bytes word) fits)
-
-pub wrote_traced : (shared : Bool) (n at word : ℕ) (before now : List Access) → now ≡ noted shared before (Wrote at (word_bytes word)) → at + 8 ≤ n → IsTraced shared n before now
-wrote_traced shared n at word before now is fits = rw is (traced_write shared n before at (word_bytes word) (rw (length_word_bytes word) fits))
-
-pub wrote_unread : (shared : Bool) (at : ℕ) (bytes : List ℕ) (before now : List Access) → now ≡ noted shared before (Wrote at bytes) → reads (since before now) ≡ []
-wrote_unread shared at bytes before now is = rw is (unread_write shared before at bytes)
-
-pub still_unread : (before : List Access) → reads (since before before) ≡ []
-unfolding reads
-still_unread before = ap reads (since_none before)
-
 -- ---- reads, and writes behind them
 
-pub met_report : (shared : Bool) (place : ℕ) (t0 t1 t2 : List Access) (m0 m1 : List ℕ) → ReadsApart shared place t0 t1 m0 m1 → IsTraced shared (length m1) t1 t2 → reads (since t1 t2) ≡ [] → met t0 t2 m0 ≡ m1
-met_report shared place t0 t1 t2 m0 m1 one two none =
-    met_join t0 t1 t2 m0 one.traced.grown two.grown ∙ ap (met t1 t2) (sym one.met) ∙ met_none t1 t2 m1 none
+pub met_report : (shared : Bool) (place : ℕ) (t0 t1 t2 : List Access) (m0 m1 : List ℕ) (d : TxDescriptor) → ReadsApart shared place t0 t1 m0 m1 → t2 ≡ t1 ++ report_write d → met t0 t2 m0 ≡ m1
+met_report shared place t0 t1 t2 m0 m1 d one two = met_writes shared t0 t1 t2 (report_write d) m0 m1 one.read.met_is one.read.traced two (report_unread d)
 
-pub keeps_report : (shared : Bool) (place : ℕ) (t0 t1 t2 : List Access) (m0 m1 : List ℕ) → ReadsApart shared place t0 t1 m0 m1 → IsTraced shared (length m1) t1 t2 → reads (since t1 t2) ≡ [] → KeepsApart shared place t0 t2 m0
-keeps_report shared place t0 t1 t2 m0 m1 one two none =
-    let is = met_report shared place t0 t1 t2 m0 m1 one two none in
+pub keeps_report : (shared : Bool) (place : ℕ) (t0 t1 t2 : List Access) (m0 m1 : List ℕ) (d : TxDescriptor) → ReadsApart shared place t0 t1 m0 m1 → t2 ≡ t1 ++ report_write d → d.at + 16 ≤ length m0 → KeepsApart shared place t0 t2 m0
+keeps_report shared place t0 t1 t2 m0 m1 d one two inside =
+    let is = met_report shared place t0 t1 t2 m0 m1 d one two in
+    let own : since t1 t2 ≡ report_write d = since_is t1 t2 (report_write d) two in
+    let grown : t2 ≡ t1 ++ since t1 t2 = two ∙ ap (λ (t : List Access). t1 ++ t) (sym own) in
     record {
-      traced = traced_writes shared (length m0) t0 t1 t2 one.traced (subst (λ (n : ℕ). IsTraced shared n t1 t2) one.size two) none;
-      apart = rw (since_join t0 t1 t2 one.traced.grown two.grown) (not_read_append place 16 (since t0 t1) (since t1 t2) one.apart (not_read_none place 16 (since t1 t2) none));
-      size = ap length is ∙ one.size;
+      traced = traced_writes shared t0 t1 t2 (report_write d) m0 one.read.traced two (report_unread d) (report_once (length m0) d inside);
+      apart = rw (since_join t0 t1 t2 one.read.traced.grown grown) (not_read_append place 16 (since t0 t1) (since t1 t2) one.apart (not_read_none place 16 (since t1 t2) (ap reads own ∙ report_unread d)));
+      size = ap length is ∙ one.read.size;
       kept = ap (λ (l : List ℕ). slice_range l place (place + 16)) is ∙ one.kept;
     }
 
@@ -108,25 +85,26 @@ due_none limit rule before m ring pending slot =
 
 -- ---- the read of the descriptor, and what comes after it
 
-pub head_read : (shared : Bool) (place : ℕ) (before now : List Access) (bytes old new : List ℕ) → now ≡ noted shared before (Read place bytes) → new ≡ overwrite place bytes old → length bytes ≡ 16 → place + 16 ≤ length old → (shared ≡ false → bytes ≡ slice_range old place (place + 16)) → HeadRead shared place before now old new
-head_read shared place before now bytes old new is seen len fits steady =
-    let fits' : place + length bytes ≤ length old = rw len fits in
-    record {
-      traced = rw is (traced_read shared (length old) before place bytes fits');
-      met = seen ∙ sym (ap (λ (t : List Access). met before t old) is ∙ met_read shared before place bytes old (λ not. ap (λ (l : List ℕ). overwrite place l old) (steady not) ∙ same_written place 16 old fits));
-      size = ap length seen ∙ size_written place bytes old fits';
-      bytes = bytes;
-      sixteen = len;
-      noted = is;
-    }
-
 pub at_place : (shared : Bool) (place at : ℕ) (before now : List Access) (old : List ℕ) → place ≡ at → KeepsApart shared place before now old → KeepsApart shared at before now old
 at_place shared place at before now old is keeps = subst (λ (p : ℕ). KeepsApart shared p before now old) is keeps
 
-pub met_after : (shared : Bool) (place : ℕ) (t0 t1 t2 : List Access) (m0 m1 : List ℕ) → HeadRead shared place t0 t1 m0 m1 → KeepsApart shared place t1 t2 m1 → met t0 t2 m0 ≡ met t1 t2 m1
-met_after shared place t0 t1 t2 m0 m1 one two = met_join t0 t1 t2 m0 one.traced.grown two.traced.grown ∙ ap (met t1 t2) (sym one.met)
+pub met_after : (shared : Bool) (place : ℕ) (t0 t1 t2 : List Access) (m0 m1 : List ℕ) → HasRead shared m0 m1 t0 t1 → KeepsApart shared place t1 t2 m1 → met t0 t2 m0 ≡ met t1 t2 m1
+met_after shared place t0 t1 t2 m0 m1 one two = met_join t0 t1 t2 m0 one.traced.grown two.traced.grown ∙ ap (met t1 t2) (sym one.met_is)
 
-pub traced_after : (shared : Bool) (place : ℕ) (t0 t1 t2 : List Access) (m0 m1 : List ℕ) → HeadRead shared place t0 t1 m0 m1 → KeepsApart shared place t1 t2 m1 → IsTraced shared (length m0) t0 t2
-traced_after shared place t0 t1 t2 m0 m1 one two =
-    traced_then shared (length m0) t0 t1 t2 one.traced (subst (λ (n : ℕ). IsTraced shared n t1 t2) one.size two.traced)
-    (later_read shared place one.bytes t0 t1 (since t1 t2) one.noted (subst (λ (n : ℕ). NotRead place n (since t1 t2)) (sym one.sixteen) two.apart))
+sixteen : (low high : ℕ) → length (two_words low high) ≡ 16
+unfolding two_words
+sixteen low high = refl
+
+pub traced_after : (shared : Bool) (place low high : ℕ) (t0 t1 t2 : List Access) (m0 m1 : List ℕ) → t1 ≡ t0 ++ Read place (two_words low high) ∷ [] → HasRead shared m0 m1 t0 t1 → KeepsApart shared place t1 t2 m1 → IsTraced shared m0 t0 t2
+unfolding Later
+traced_after shared place low high t0 t1 t2 m0 m1 head one two =
+    traced_then shared t0 t1 t2 m0 m1 one.met_is one.size one.traced two.traced
+    (rw (since_is t0 t1 (Read place (two_words low high) ∷ []) head) (rw (sixteen low high) two.apart, tt))
+
+-- ---- the accesses
+
+pub listed_some : (limit : ℕ) (found m : List ℕ) (ring : RingState) (pending : Gathering) (at n : ℕ) (d : TxDescriptor) (kind : Kind) (t0 t1 t2 : List Access) → found ≡ m → Some at ≡ head_slot ring → d.at ≡ at → Holds m d → d.buffer < 2 ^ 64 → d.word < 2 ^ 64 → d.at + 16 ≤ length m → length m ≡ n → kind ≡ kind_of n d → t1 ≡ t0 ++ Read at (two_words d.buffer d.word) ∷ [] → t2 ≡ t1 ++ taken_accesses kind limit m pending d → t2 ≡ t0 ++ fetch_accesses limit found ring pending
+listed_some limit found m ring pending at n d kind t0 t1 t2 same slot place holds low high fits len is one two =
+    let there : descriptor_at at m ≡ d = ap (λ (s : ℕ). descriptor_at s m) (sym place) ∙ descriptor_there d.at d.buffer d.word m low high fits holds in
+    listed_then t0 t1 t2 (Read d.at (two_words d.buffer d.word) ∷ []) (taken_accesses kind limit m pending d) (one ∙ ap (λ (s : ℕ). t0 ++ Read s (two_words d.buffer d.word) ∷ []) (sym place)) two
+    ∙ ap (λ (t : List Access). t0 ++ t) (sym (accesses_some limit found m ring pending at n d kind same slot there len is))

@@ -1,7 +1,7 @@
 -- What a call that takes a descriptor does, where others may write the memory.
 use Rattle.std.specs.Prelude.{◌≡◌, ℕ, ◌+◌, ◌^◌, ◌<◌, ◌≤◌, Bool, false, List, length, slice_range, None}
 use Rattle.guest_memory.specs.Memory.{two_words}
-use Rattle.live_memory.specs.Trace.{Access, Read, noted, since, met, NotRead, IsTraced}
+use Rattle.live_memory.specs.Trace.{Access, since, met, NotRead, IsTraced, HasRead}
 use Rattle.rings.specs.Ring.{RingState}
 use Rattle.wire_frame.specs.declared.vlan.PortVlan.{PortVlan}
 use Rattle.tx_desc.specs.declared.descriptor.TxDescriptor.{TxDescriptor}
@@ -34,26 +34,15 @@ pub record Stands (memory : List ℕ) (d : TxDescriptor) : Type 0 where
   pub inside : d.buffer + length_of d.word ≤ length memory
   pub small : length memory < 2 ^ 64
 
--- a call read the 16 bytes from a place on, by one access
-pub record HeadRead (shared : Bool) (place : ℕ) (before now : List Access) (old new : List ℕ) : Type 0 where
-  pub traced : IsTraced shared (length old) before now
-  pub met : new ≡ met before now old
-  pub size : length new ≡ length old
-  pub bytes : List ℕ
-  pub sixteen : length bytes ≡ 16
-  pub noted : now ≡ noted shared before (Read place bytes)
-
 -- a call read bytes of a memory, each once and none of the 16 from a place on, which are as they were
 pub record ReadsApart (shared : Bool) (place : ℕ) (before now : List Access) (old new : List ℕ) : Type 0 where
-  pub traced : IsTraced shared (length old) before now
+  pub read : HasRead shared old new before now
   pub apart : NotRead place 16 (since before now)
-  pub met : new ≡ met before now old
-  pub size : length new ≡ length old
   pub kept : slice_range new place (place + 16) ≡ slice_range old place (place + 16)
 
 -- a call made accesses to a memory, and read none of the 16 bytes from a place on: they stand in the memory that it met
 pub record KeepsApart (shared : Bool) (place : ℕ) (before now : List Access) (old : List ℕ) : Type 0 where
-  pub traced : IsTraced shared (length old) before now
+  pub traced : IsTraced shared old before now
   pub apart : NotRead place 16 (since before now)
   pub size : length (met before now old) ≡ length old
   pub kept : slice_range (met before now old) place (place + 16) ≡ slice_range old place (place + 16)

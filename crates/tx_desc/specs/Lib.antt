@@ -2,3 +2,4 @@ pub mod Transmit
 pub mod Lent
 pub mod Words
 pub mod Fetches
+pub mod Accesses

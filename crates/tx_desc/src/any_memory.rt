@@ -14,8 +14,8 @@ use wire_frame::{FrameBuf, FrameLimit, PortVlan};
 /// Takes the one descriptor at the head of the ring, if there is one, and answers what came of it and whether the
 /// descriptor was written back.
 ///
-/// It means what [`fetch_in`](crate::fetch_in) does, of a memory of any kind behind one reference, and each access is a call
-/// through its table. Every frame is gathered first.
+/// It means what [`fetch_into`](crate::fetch_into) does, of a memory of any kind behind one reference that nobody else writes, and each
+/// access is a call through its table. Every frame is gathered first.
 #[tactic(auto, unfolding(crate::specs::Transmit::fetch))]
 pub fn fetch(
     memory: &mut dyn GuestMem,

@@ -3,12 +3,13 @@ ghost use Rattle.std.specs.Prelude.{◌≡◌, ◌↔◌, IsTrue, ℕ, ◌+◌, 
 ghost use Rattle.tx_desc.specs.Transmit.{Gathering, Gathered, Overlong, joined, ended, refuses, length_of};
 ghost use Rattle.tx_desc.specs.Fetches.{Stands, ReadsApart, data_of};
 ghost use Rattle.tx_desc.specs.Lent.{lent_after};
+ghost use Rattle.tx_desc.specs.Accesses.{joined_reads, data_reads};
 ghost use Rattle.tx_desc.specs.declared.outcome.Fetched.TheVariants.{Frame, Dropped};
 
 use crate::descriptor::TxDescriptor;
 use crate::reading::read_data;
 use guest_memory::GuestMem;
-use live_memory::{Dma, Trace};
+use live_memory::{Dma, Traced};
 use std::alloc::{AllocError, Global};
 use std::marker::Model;
 use wire_frame::{FrameBuf, FrameLimit, PortVlan, is_tagged};
@@ -70,19 +71,20 @@ impl Pending {
 
     // Joins the bytes of a descriptor, unless there are more than `limit` then. If they are too many, none is read.
     #[inline]
-    #[tactic(auto, using(crate::proofs::Unread::reads_none), unfolding(crate::specs::Transmit::joined))]
+    #[tactic(auto, using(crate::proofs::Unread::reads_none), unfolding(crate::specs::Transmit::joined, crate::specs::Accesses::joined_reads))]
     pub(crate) fn join<D: Dma<K>, K>(
         &mut self,
-        memory: &mut D,
-        trace: &mut Trace,
+        memory: &mut Traced<D, K>,
         descriptor: TxDescriptor,
         limit: FrameLimit,
     )
-        requires { Stands (D.seen memory.old) descriptor }
+        requires { Stands (D.seen memory.old.memory) descriptor }
         ensures joined { self.new
-            ≡ joined limit self.old (data_of (D.seen memory.new) descriptor) }
+            ≡ joined limit self.old (data_of (D.seen memory.new.memory) descriptor) }
+        ensures listed { memory.new.accesses ≡ memory.old.accesses
+            ++ joined_reads limit self.old descriptor (D.seen memory.new.memory) }
         ensures reads { ReadsApart D.shared descriptor.at
-            trace.old.accesses trace.new.accesses (D.seen memory.old) (D.seen memory.new) }
+            memory.old.accesses memory.new.accesses (D.seen memory.old.memory) (D.seen memory.new.memory) }
     {
         let most = usize::from(limit.get());
         let size = descriptor.length() as usize;
@@ -91,7 +93,7 @@ impl Pending {
             return;
         }
         let end = self.len + size;
-        read_behind(memory, trace, descriptor, &mut self.cells, self.len, end);
+        read_behind(memory, descriptor, &mut self.cells, self.len, end);
         self.len = end;
     }
 
@@ -151,28 +153,29 @@ impl Pending {
 // Reads the bytes of a descriptor into the cells from `start` up to `end`. There is room, so nothing is allocated.
 #[inline]
 fn read_behind<D: Dma<K>, K>(
-    memory: &mut D,
-    trace: &mut Trace,
+    memory: &mut Traced<D, K>,
     descriptor: TxDescriptor,
     cells: &mut Vec<u8>,
     start: usize,
     end: usize,
 )
-    requires stands { Stands (D.seen memory.old) descriptor }
+    requires stands { Stands (D.seen memory.old.memory) descriptor }
     requires start { start ≤ length cells.old.items }
     requires end { end ≡ start + length_of descriptor.word }
     requires room { end ≤ vec_capacity cells.old }
     ensures len { end ≤ length cells.new.items }
     ensures capacity { vec_capacity cells.old ≤ vec_capacity cells.new }
     ensures cells { take end cells.new.items
-        ≡ take start cells.old.items ++ data_of (D.seen memory.new) descriptor }
+        ≡ take start cells.old.items ++ data_of (D.seen memory.new.memory) descriptor }
+    ensures listed { memory.new.accesses ≡ memory.old.accesses
+        ++ data_reads descriptor (D.seen memory.new.memory) }
     ensures reads { ReadsApart D.shared descriptor.at
-        trace.old.accesses trace.new.accesses (D.seen memory.old) (D.seen memory.new) }
+        memory.old.accesses memory.new.accesses (D.seen memory.old.memory) (D.seen memory.new.memory) }
 {
     if end > cells.len() {
         reach(cells, end);
     }
-    read_data(memory, trace, descriptor, &mut cells[start..end]);
+    read_data(memory, descriptor, &mut cells[start..end]);
 }
 
 // Makes the cells that long, by zeros behind those that there are. There is room, so nothing is allocated.

@@ -1,30 +1,29 @@
 //! Reading a descriptor and its bytes, no byte twice.
-ghost use Rattle.std.specs.Prelude.{◌≡◌, ℕ, ◌+◌, ◌-◌, ◌^◌, ◌<◌, ◌≤◌, ◌&&◌, length, slice_range, nat_lt};
+ghost use Rattle.std.specs.Prelude.{◌≡◌, ℕ, ◌+◌, ◌-◌, ◌^◌, ◌<◌, ◌≤◌, [], ◌∷◌, ◌++◌, length, slice_range};
 ghost use Rattle.guest_memory.specs.Memory.{overwrite, two_words};
-ghost use Rattle.live_memory.specs.Trace.{Read, noted};
+ghost use Rattle.live_memory.specs.Trace.{Read, HasRead};
 ghost use Rattle.tx_desc.specs.Transmit.{length_of};
-ghost use Rattle.tx_desc.specs.Fetches.{Holds, HeadRead, Stands, ReadsApart, data_of};
+ghost use Rattle.tx_desc.specs.Fetches.{Holds, Stands, ReadsApart, data_of};
+ghost use Rattle.tx_desc.specs.Accesses.{part_read, data_reads};
 
 use crate::descriptor::TxDescriptor;
 use byteorder::{ByteOrder, LittleEndian};
-use live_memory::{Dma, Trace};
+use live_memory::{Dma, Traced};
 
 // Reads the descriptor that stands at an address, by one access.
 #[inline]
-pub(crate) fn read_descriptor<D: Dma<K>, K>(
-    memory: &mut D,
-    trace: &mut Trace,
-    at: u64,
-) -> TxDescriptor
-    requires { at + 16 ≤ length (D.seen memory.old) }
+pub(crate) fn read_descriptor<D: Dma<K>, K>(memory: &mut Traced<D, K>, at: u64) -> TxDescriptor
+    requires { at + 16 ≤ length (D.seen memory.old.memory) }
     ensures at { result.at ≡ at }
     ensures buffer { result.buffer < 2 ^ 64 }
     ensures word { result.word < 2 ^ 64 }
-    ensures holds { Holds (D.seen memory.new) result }
-    ensures head { HeadRead D.shared at
-        trace.old.accesses trace.new.accesses (D.seen memory.old) (D.seen memory.new) }
+    ensures holds { Holds (D.seen memory.new.memory) result }
+    ensures read { HasRead D.shared (D.seen memory.old.memory) (D.seen memory.new.memory)
+        memory.old.accesses memory.new.accesses }
+    ensures listed { memory.new.accesses ≡ memory.old.accesses
+        ++ Read at (two_words result.buffer result.word) ∷ [] }
 {
-    let (buffer, word) = memory.load_words(trace, at);
+    let (buffer, word) = memory.load_words(at);
     TxDescriptor { at, buffer, word }
 }
 
@@ -32,49 +31,47 @@ pub(crate) fn read_descriptor<D: Dma<K>, K>(
 // aren't read again.
 #[inline]
 pub(crate) fn read_data<D: Dma<K>, K>(
-    memory: &mut D,
-    trace: &mut Trace,
+    memory: &mut Traced<D, K>,
     descriptor: TxDescriptor,
     out: &mut [u8],
 )
-    requires stands { Stands (D.seen memory.old) descriptor }
+    requires stands { Stands (D.seen memory.old.memory) descriptor }
     requires all { length out.old ≡ length_of descriptor.word }
-    ensures out { out.new ≡ data_of (D.seen memory.new) descriptor }
+    ensures out { out.new ≡ data_of (D.seen memory.new.memory) descriptor }
+    ensures listed { memory.new.accesses ≡ memory.old.accesses
+        ++ data_reads descriptor (D.seen memory.new.memory) }
     ensures reads { ReadsApart D.shared descriptor.at
-        trace.old.accesses trace.new.accesses (D.seen memory.old) (D.seen memory.new) }
+        memory.old.accesses memory.new.accesses (D.seen memory.old.memory) (D.seen memory.new.memory) }
 {
     if descriptor.lies_apart() {
-        memory.load(trace, descriptor.buffer, out);
+        read_part(memory, descriptor.buffer, out);
     } else {
-        read_around(memory, trace, descriptor, out);
+        read_around(memory, descriptor, out);
     }
 }
 
 // Reads the bytes before the descriptor and those behind it, and takes those between from its words.
 #[cold]
 #[inline(never)]
-fn read_around<D: Dma<K>, K>(
-    memory: &mut D,
-    trace: &mut Trace,
-    descriptor: TxDescriptor,
-    out: &mut [u8],
-)
-    requires stands { Stands (D.seen memory.old) descriptor }
+fn read_around<D: Dma<K>, K>(memory: &mut Traced<D, K>, descriptor: TxDescriptor, out: &mut [u8])
+    requires stands { Stands (D.seen memory.old.memory) descriptor }
     requires all { length out.old ≡ length_of descriptor.word }
     requires over { descriptor.at < descriptor.buffer + length_of descriptor.word }
     requires under { descriptor.buffer < descriptor.at + 16 }
-    ensures out { out.new ≡ data_of (D.seen memory.new) descriptor }
+    ensures out { out.new ≡ data_of (D.seen memory.new.memory) descriptor }
+    ensures listed { memory.new.accesses ≡ memory.old.accesses
+        ++ data_reads descriptor (D.seen memory.new.memory) }
     ensures reads { ReadsApart D.shared descriptor.at
-        trace.old.accesses trace.new.accesses (D.seen memory.old) (D.seen memory.new) }
+        memory.old.accesses memory.new.accesses (D.seen memory.old.memory) (D.seen memory.new.memory) }
 {
     let low = gap(descriptor.at, descriptor.buffer);
     let skip = gap(descriptor.buffer, descriptor.at);
     let high = gap(descriptor.at + 16, descriptor.buffer).min(out.len());
     let (before, rest) = out.split_at_mut(low);
     let (own, behind) = rest.split_at_mut(high - low);
-    read_part(memory, trace, descriptor.buffer, before);
+    read_part(memory, descriptor.buffer, before);
     copy_own(descriptor, skip, own);
-    read_part(memory, trace, descriptor.at + 16, behind);
+    read_part(memory, descriptor.at + 16, behind);
 }
 
 // How far one address is behind another, 0 where it is before.
@@ -85,15 +82,20 @@ fn gap(to: u64, from: u64) -> usize
 }
 
 // Reads bytes by one access, or by none where there are none.
-fn read_part<D: Dma<K>, K>(memory: &mut D, trace: &mut Trace, at: u64, out: &mut [u8])
-    requires { at + length out.old ≤ length (D.seen memory.old) }
-    ensures out { out.new ≡ D.answer memory.old at (length out.old) }
-    ensures seen { D.seen memory.new ≡ overwrite at (D.answer memory.old at (length out.old)) (D.seen memory.old) }
-    ensures traced { trace.new.accesses
-        ≡ noted (D.shared && nat_lt 0 (length out.old)) trace.old.accesses (Read at (D.answer memory.old at (length out.old))) }
+#[inline]
+#[tactic(auto, unfolding(crate::specs::Accesses::part_read))]
+fn read_part<D: Dma<K>, K>(memory: &mut Traced<D, K>, at: u64, out: &mut [u8])
+    requires { at + length out.old ≤ length (D.seen memory.old.memory) }
+    ensures out { out.new
+        ≡ slice_range (D.seen memory.new.memory) at (at + length out.old) }
+    ensures seen { D.seen memory.new.memory ≡ overwrite at out.new (D.seen memory.old.memory) }
+    ensures read { HasRead D.shared (D.seen memory.old.memory) (D.seen memory.new.memory)
+        memory.old.accesses memory.new.accesses }
+    ensures listed { memory.new.accesses ≡ memory.old.accesses
+        ++ part_read at (at + length out.old) (D.seen memory.new.memory) }
 {
     if !out.is_empty() {
-        memory.load(trace, at, out);
+        memory.load(at, out);
     }
 }
 

@@ -5,9 +5,12 @@ use Rattle.wire_frame.specs.declared.vlan.PortVlan.{PortVlan}
 use Rattle.live_memory.specs.Trace.{Access, met}
 use Rattle.rings.specs.Ring.{no_ring, LiesInside}
 use Rattle.tx_desc.specs.Transmit.{Gathered, Fetching, fetch}
+use Rattle.tx_desc.specs.Accesses.{fetch_accesses}
 use Rattle.rx_desc.specs.declared.placing.Placed.{Placed}
 use Rattle.rx_desc.specs.declared.placing.Placed.TheVariants.{Put, NoRoom, Faulted}
+use Rattle.rx_desc.specs.declared.placing.RxConfig.{RxConfig}
 use Rattle.rx_desc.specs.Receive.{Delivery, deliver}
+use Rattle.rx_desc.specs.Accesses.{deliver_accesses}
 use Rattle.irq_causes.specs.Causes.{CauseState, Change, no_causes, silent, raised_by}
 use Rattle.vf_unit.specs.Words.{BUFFER_SIZES, RECEIVE_VECTOR_0, TRANSMIT_VECTOR_0, TRANSMIT_VECTOR_1, VECTOR_SIZE}
 use Rattle.vf_unit.specs.declared.registers.Queue.{Queue}
@@ -63,6 +66,11 @@ pub record IsTied (s : State) : Type 0 where
   pub transmit_0 : LiesInside (length s.memory) s.transmit_0.ring
   pub transmit_1 : LiesInside (length s.memory) s.transmit_1.ring
 
+-- an open function, with all accesses that were made to its memory, the oldest first
+pub record TracedState : Type 0 where
+  pub state : State
+  pub accesses : List Access
+
 -- ---- the queues by their numbers
 
 abbrev pub receive_of : State → Queue → ReceiveQueue
@@ -113,10 +121,17 @@ after_placing s d =
     (record s { memory = d.memory; receive_0 = record s.receive_0 { ring = d.ring }; frames_received = counted d.placed s.frames_received })
     (announced d.placed s.queue_vectors s.causes)
 
+-- how receive queue 0 places frames
+abbrev pub receive_config : State → RxConfig
+receive_config s = record { buffer_size = 1024 * (s.receive_0.buffers % BUFFER_SIZES); strip_tag = s.receive_0.strips_tag }
+
 -- a frame comes to the function, from the wire or from another pool; it goes to receive queue 0
 unfoldable pub delivered : Bool → List ℕ → State → Change State
-delivered loopback frame s =
-    after_placing s (deliver (record { buffer_size = 1024 * (s.receive_0.buffers % BUFFER_SIZES); strip_tag = s.receive_0.strips_tag }) loopback frame s.memory s.receive_0.ring)
+delivered loopback frame s = after_placing s (deliver (receive_config s) loopback frame s.memory s.receive_0.ring)
+
+-- the accesses to its memory that this makes
+abbrev pub delivered_accesses : Bool → List ℕ → State → List Access
+delivered_accesses loopback frame s = deliver_accesses (receive_config s) loopback frame s.memory s.receive_0.ring
 
 -- ---- the service of a transmit queue
 
@@ -128,6 +143,10 @@ transmit_vector vectors Q1 = field vectors TRANSMIT_VECTOR_1 VECTOR_SIZE
 -- one descriptor taken
 abbrev pub fetched_from : ℕ → PortVlan → State → Queue → Fetching
 fetched_from limit rule s q = fetch limit rule s.memory (transmit_of s q).ring (transmit_of s q).pending
+
+-- the accesses to the memory that this makes
+abbrev pub fetched_accesses : ℕ → State → Queue → List Access
+fetched_accesses limit s q = fetch_accesses limit s.memory (transmit_of s q).ring (transmit_of s q).pending
 
 -- the state with what the descriptor left
 abbrev pub with_fetching : State → Queue → Fetching → State

@@ -1,13 +1,13 @@
 -- A virtual function, closed or open: what each call does to it and answers.
-use Rattle.std.specs.Prelude.{ℕ, ◌+◌, ◌%◌, ◌^◌, Bool, true, false, nat_le, List, length, replicate, slice_range, Option, Some, None, if◌then◌else◌}
+use Rattle.std.specs.Prelude.{◌≡◌, ℕ, ◌+◌, ◌%◌, ◌^◌, Bool, true, false, nat_le, List, [], ◌∷◌, ◌++◌, length, replicate, slice_range, Option, Some, None, if◌then◌else◌}
 use Rattle.guest_memory.specs.Memory.{overwrite}
-use Rattle.live_memory.specs.Trace.{Access}
+use Rattle.live_memory.specs.Trace.{Access, Read, Wrote, since, ReadOnce}
 use Rattle.wire_frame.specs.declared.vlan.PortVlan.{PortVlan}
 use Rattle.tx_desc.specs.declared.outcome.Fetched.{Fetched}
 use Rattle.tx_desc.specs.Lent.{lent_after}
 use Rattle.irq_causes.specs.Causes.{Change, silent}
 use Rattle.vf_unit.specs.declared.registers.Queue.{Queue}
-use Rattle.vf_unit.specs.Function.{State, initial, told, delivered, after_fetching, fetched_from}
+use Rattle.vf_unit.specs.Function.{State, initial, told, delivered, delivered_accesses, after_fetching, fetched_from, fetched_accesses}
 use Rattle.vf_unit.specs.Access.{word_at_offset, after_read_at, written_at}
 
 -- closed, with a memory of that size, or open
@@ -23,10 +23,26 @@ abbrev pub is_open : Function → Bool
 is_open (Closed size) = false
 is_open (Open s) = true
 
+-- a function, with all accesses that were made to its memory, the oldest first
+pub record TracedFunction : Type 0 where
+  pub function : Function
+  pub accesses : List Access
+
 -- with all that was read from its memory meanwhile written into it
 unfoldable pub told_of : List Access → List Access → Function → Function
 told_of before now (Closed size) = Closed size
 told_of before now (Open s) = Open (told before now s)
+
+-- the function as it was met, between what it was and what it is
+abbrev pub met_function : TracedFunction → TracedFunction → Function
+met_function before after = told_of before.accesses after.accesses before.function
+
+-- a call made accesses to the memory of a function: all before stays, and no byte is read after it was read or written; where
+-- nobody else writes the memory, the function that was met is the one that was there
+pub record IsMet (shared : Bool) (f : Function) (before now : List Access) : Type 0 where
+  pub grown : now ≡ before ++ since before now
+  pub once : ReadOnce (size_of f) (since before now)
+  pub still : shared ≡ false → told_of before now f ≡ f
 
 -- ---- opening, ending, reset
 
@@ -68,6 +84,11 @@ written f offset x = changed f (λ s. written_at s offset x)
 abbrev pub given : Bool → List ℕ → Function → Change Function
 given loopback frame f = changed f (λ s. delivered loopback frame s)
 
+-- the accesses that it makes
+abbrev pub given_accesses : Bool → List ℕ → Function → List Access
+given_accesses loopback frame (Closed size) = []
+given_accesses loopback frame (Open s) = delivered_accesses loopback frame s
+
 -- the service of a transmit queue, and what came of it where the function is open
 abbrev pub serviced : ℕ → PortVlan → Function → Queue → Change Function
 serviced limit rule f q = changed f (λ s. after_fetching limit rule s q)
@@ -75,6 +96,11 @@ serviced limit rule f q = changed f (λ s. after_fetching limit rule s q)
 abbrev pub service_outcome : ℕ → PortVlan → Function → Queue → Option Fetched
 service_outcome limit rule (Closed size) q = None
 service_outcome limit rule (Open s) q = Some (fetched_from limit rule s q).outcome
+
+-- the accesses of the service
+abbrev pub service_accesses : ℕ → Function → Queue → List Access
+service_accesses limit (Closed size) q = []
+service_accesses limit (Open s) q = fetched_accesses limit s q
 
 -- the frame that the caller lends, afterwards
 abbrev pub lent_to : Option Fetched → List ℕ → List ℕ
@@ -104,3 +130,11 @@ unfoldable pub memory_written : Function → ℕ → List ℕ → Function
 memory_written (Closed size) address bytes = Closed size
 memory_written (Open s) address bytes =
     if nat_le (address + length bytes) (length s.memory) then Open (record s { memory = overwrite address bytes s.memory }) else Open s
+
+-- the access that reads n bytes there, and the one that writes bytes: none where they don't lie inside
+abbrev pub load_accesses : Function → ℕ → ℕ → List Access
+load_accesses (Closed size) address n = []
+load_accesses (Open s) address n = if nat_le (address + n) (length s.memory) then Read address (slice_range s.memory address (address + n)) ∷ [] else []
+
+abbrev pub store_accesses : Function → ℕ → List ℕ → List Access
+store_accesses f address bytes = if has_range f address (length bytes) then Wrote address bytes ∷ [] else []

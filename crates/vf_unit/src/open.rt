@@ -1,11 +1,11 @@
 //! An open virtual function.
-ghost use Rattle.std.specs.Prelude.{◌≡◌, ℕ, ◌+◌, ◌≤◌, ◌<◌, ◌^◌, ◌%◌, length, slice_range, replicate, IfOk};
+ghost use Rattle.std.specs.Prelude.{◌≡◌, ℕ, ◌+◌, ◌≤◌, ◌<◌, ◌^◌, ◌%◌, [], ◌∷◌, ◌++◌, length, slice_range, replicate, IfOk};
 ghost use Rattle.wire_frame.specs.Bits.{field};
 ghost use Rattle.guest_memory.specs.Memory.{overwrite};
-ghost use Rattle.live_memory.specs.Trace.{IsTraced};
+ghost use Rattle.live_memory.specs.Trace.{Read, Wrote, IsTraced};
 ghost use Rattle.rings.specs.Ring.{ring_written};
 ghost use Rattle.tx_desc.specs.Lent.{fetched_in, lent_after};
-ghost use Rattle.vf_unit.specs.Function.{State, initial, receive_of, transmit_of, with_receive, with_transmit, with_fetching, fetched_from, after_fetching, delivered, told};
+ghost use Rattle.vf_unit.specs.Function.{State, initial, receive_of, transmit_of, with_receive, with_transmit, with_fetching, fetched_from, fetched_accesses, after_fetching, delivered, delivered_accesses, told};
 ghost use Rattle.vf_unit.specs.Access.{word, after_read, buffers_written, receive_switched, transmit_switched, register_written, word_at_offset, after_read_at, written_at};
 
 use crate::offsets::{
@@ -14,14 +14,14 @@ use crate::offsets::{
 };
 use crate::queues::{ReceiveQueue, TransmitQueue};
 use crate::registers::{Queue, Register, register_of};
-use guest_memory::{GuestMem, read_bytes};
+use guest_memory::GuestMem;
 use irq_causes::{Causes, Vectors};
-use live_memory::{Alone, Dma, Step, Trace};
+use live_memory::{Alone, Dma, Traced};
 use rings::RingRegister;
-use rx_desc::{Placed, RxConfig, place_within};
+use rx_desc::{Placed, RxConfig, place_in};
 use std::alloc::{AllocError, Global};
-use std::marker::{Model, PhantomData};
-use tx_desc::{Progress, Served, fetch_within};
+use std::marker::Model;
+use tx_desc::{Progress, Served, fetch_into};
 use wire_frame::{FrameBuf, FrameLimit, PortVlan, field, has_bit};
 
 /// What SRRCTL always reads, beside what is kept of it.
@@ -40,9 +40,7 @@ pub struct Service {
 #[derive(Drop)]
 pub struct OpenVf<D: Dma<K>, K = Alone> {
     // what a frame that comes concerns stands side by side
-    memory: D,
-    memory_size: u64,
-    kind: PhantomData<K>,
+    memory: Traced<D, K>,
     receive_0: ReceiveQueue,
     causes: Causes,
     queue_vectors: u32,
@@ -55,28 +53,29 @@ pub struct OpenVf<D: Dma<K>, K = Alone> {
 }
 
 impl<D: Dma<K>, K> Model for OpenVf<D, K> {
-    ghost use Rattle.std.specs.Prelude.{◌≡◌, length};
-    ghost use Rattle.vf_unit.specs.Function.{State, IsTied};
+    ghost use Rattle.vf_unit.specs.Function.{State, TracedState, IsTied};
 
-    ghost Value = { State };
+    ghost Value = { TracedState };
 
     ghost view = { λ f. record {
-      memory = D.seen f.memory;
-      receive_0 = f.receive_0;
-      receive_1 = f.receive_1;
-      transmit_0 = f.transmit_0;
-      transmit_1 = f.transmit_1;
-      causes = f.causes;
-      queue_vectors = f.queue_vectors;
-      other_vector = f.other_vector;
-      frames_received = f.frames_received;
-      frames_sent = f.frames_sent;
+      state = record {
+        memory = D.seen f.memory.memory;
+        receive_0 = f.receive_0;
+        receive_1 = f.receive_1;
+        transmit_0 = f.transmit_0;
+        transmit_1 = f.transmit_1;
+        causes = f.causes;
+        queue_vectors = f.queue_vectors;
+        other_vector = f.other_vector;
+        frames_received = f.frames_received;
+        frames_sent = f.frames_sent;
+      };
+      accesses = f.memory.accesses;
     } };
 
-    ghost invariant = { λ f. (f.memory_size ≡ length (D.seen f.memory))
-        × IsTied
+    ghost invariant = { λ f. IsTied
         (record {
-          memory = D.seen f.memory;
+          memory = D.seen f.memory.memory;
           receive_0 = f.receive_0;
           receive_1 = f.receive_1;
           transmit_0 = f.transmit_0;
@@ -92,15 +91,13 @@ impl<D: Dma<K>, K> Model for OpenVf<D, K> {
 impl<D: Dma<K>, K> OpenVf<D, K> {
     /// A function over this memory, with every register initial.
     pub fn new(alloc: Global, memory: D) -> Result<OpenVf<D, K>, AllocError>
-        ensures { IfOk result (λ f. f ≡ initial (D.seen memory)) }
+        ensures state { IfOk result (λ f. f.state ≡ initial (D.seen memory)) }
+        ensures none { IfOk result (λ f. f.accesses ≡ []) }
     {
-        let memory_size = memory.extent();
         let transmit_0 = TransmitQueue::new(alloc)?;
         let transmit_1 = TransmitQueue::new(alloc)?;
         Ok(OpenVf {
-            memory,
-            memory_size,
-            kind: PhantomData,
+            memory: Traced::new(memory),
             receive_0: ReceiveQueue::new(),
             receive_1: ReceiveQueue::new(),
             transmit_0,
@@ -115,8 +112,9 @@ impl<D: Dma<K>, K> OpenVf<D, K> {
 
     /// Makes every register initial. The memory stays.
     pub fn reset(&mut self)
-        ensures state { self.new ≡ initial self.old.memory }
-        ensures size { length self.new.memory ≡ length self.old.memory }
+        ensures state { self.new.state ≡ initial self.old.state.memory }
+        ensures size { length self.new.state.memory ≡ length self.old.state.memory }
+        ensures accesses { self.new.accesses ≡ self.old.accesses }
     {
         self.receive_0.reset();
         self.receive_1.reset();
@@ -131,8 +129,9 @@ impl<D: Dma<K>, K> OpenVf<D, K> {
 
     /// Makes every register initial and every byte of the memory zero.
     pub fn reopen(&mut self)
-        ensures state { self.new ≡ initial (replicate (length self.old.memory) 0) }
-        ensures size { length self.new.memory ≡ length self.old.memory }
+        ensures state { self.new.state ≡ initial (replicate (length self.old.state.memory) 0) }
+        ensures size { length self.new.state.memory ≡ length self.old.state.memory }
+        ensures accesses { self.new.accesses ≡ self.old.accesses }
     {
         self.reset();
         self.memory.erase();
@@ -140,18 +139,20 @@ impl<D: Dma<K>, K> OpenVf<D, K> {
 
     /// Reads the register at an offset.
     pub fn reg_read(&mut self, offset: u32) -> u32
-        ensures value { result ≡ word_at_offset self.old offset }
-        ensures state { self.new ≡ after_read_at self.old offset }
-        ensures size { length self.new.memory ≡ length self.old.memory }
+        ensures value { result ≡ word_at_offset self.old.state offset }
+        ensures state { self.new.state ≡ after_read_at self.old.state offset }
+        ensures size { length self.new.state.memory ≡ length self.old.state.memory }
+        ensures accesses { self.new.accesses ≡ self.old.accesses }
     {
         self.read(register_of(offset))
     }
 
     /// Writes the register at an offset; the messages that this issues.
     pub fn reg_write(&mut self, offset: u32, x: u32) -> Vectors
-        ensures state { self.new ≡ (written_at self.old offset x).state }
-        ensures messages { result ≡ (written_at self.old offset x).messages }
-        ensures size { length self.new.memory ≡ length self.old.memory }
+        ensures state { self.new.state ≡ (written_at self.old.state offset x).state }
+        ensures messages { result ≡ (written_at self.old.state offset x).messages }
+        ensures size { length self.new.state.memory ≡ length self.old.state.memory }
+        ensures accesses { self.new.accesses ≡ self.old.accesses }
     {
         self.write(register_of(offset), x)
     }
@@ -159,9 +160,10 @@ impl<D: Dma<K>, K> OpenVf<D, K> {
     // Reads a register.
     #[tactic(auto, unfolding(crate::specs::Access::word, crate::specs::Access::after_read))]
     fn read(&mut self, register: Register) -> u32
-        ensures value { result ≡ word self.old register }
-        ensures state { self.new ≡ after_read self.old register }
-        ensures size { length self.new.memory ≡ length self.old.memory }
+        ensures value { result ≡ word self.old.state register }
+        ensures state { self.new.state ≡ after_read self.old.state register }
+        ensures size { length self.new.state.memory ≡ length self.old.state.memory }
+        ensures accesses { self.new.accesses ≡ self.old.accesses }
     {
         match register {
             Register::Links => LINK_UP,
@@ -189,9 +191,10 @@ impl<D: Dma<K>, K> OpenVf<D, K> {
     // Writes a register; the messages that this issues.
     #[tactic(auto, unfolding(crate::specs::Access::register_written))]
     fn write(&mut self, register: Register, x: u32) -> Vectors
-        ensures state { self.new ≡ (register_written self.old register x).state }
-        ensures messages { result ≡ (register_written self.old register x).messages }
-        ensures size { length self.new.memory ≡ length self.old.memory }
+        ensures state { self.new.state ≡ (register_written self.old.state register x).state }
+        ensures messages { result ≡ (register_written self.old.state register x).messages }
+        ensures size { length self.new.state.memory ≡ length self.old.state.memory }
+        ensures accesses { self.new.accesses ≡ self.old.accesses }
     {
         match register {
             Register::CauseSet => return self.causes.ics(x),
@@ -219,14 +222,15 @@ impl<D: Dma<K>, K> OpenVf<D, K> {
 
     // Writes a register of a receive ring.
     fn write_receive(&mut self, queue: Queue, register: RingRegister, x: u32)
-        ensures state { self.new
-            ≡ with_receive self.old queue
+        ensures state { self.new.state
+            ≡ with_receive self.old.state queue
             (record
-            (receive_of self.old queue) {
+            (receive_of self.old.state queue) {
               ring = ring_written
-                  (receive_of self.old queue).ring register x;
+                  (receive_of self.old.state queue).ring register x;
             }) }
-        ensures size { length self.new.memory ≡ length self.old.memory }
+        ensures size { length self.new.state.memory ≡ length self.old.state.memory }
+        ensures accesses { self.new.accesses ≡ self.old.accesses }
     {
         match queue {
             Queue::Q0 => self.receive_0.write_ring(register, x),
@@ -236,9 +240,10 @@ impl<D: Dma<K>, K> OpenVf<D, K> {
 
     // Writes SRRCTL.
     fn write_receive_buffers(&mut self, queue: Queue, x: u32)
-        ensures state { self.new
-            ≡ with_receive self.old queue (buffers_written (receive_of self.old queue) x) }
-        ensures size { length self.new.memory ≡ length self.old.memory }
+        ensures state { self.new.state
+            ≡ with_receive self.old.state queue (buffers_written (receive_of self.old.state queue) x) }
+        ensures size { length self.new.state.memory ≡ length self.old.state.memory }
+        ensures accesses { self.new.accesses ≡ self.old.accesses }
     {
         match queue {
             Queue::Q0 => self.receive_0.write_buffers(x),
@@ -248,12 +253,13 @@ impl<D: Dma<K>, K> OpenVf<D, K> {
 
     // Writes RXDCTL.
     fn write_receive_control(&mut self, queue: Queue, x: u32)
-        ensures state { self.new
-            ≡ with_receive self.old queue
-            (receive_switched (length self.old.memory) (receive_of self.old queue) x) }
-        ensures size { length self.new.memory ≡ length self.old.memory }
+        ensures state { self.new.state
+            ≡ with_receive self.old.state queue
+            (receive_switched (length self.old.state.memory) (receive_of self.old.state queue) x) }
+        ensures size { length self.new.state.memory ≡ length self.old.state.memory }
+        ensures accesses { self.new.accesses ≡ self.old.accesses }
     {
-        let memory_size = self.memory_size;
+        let memory_size = self.memory.size();
         match queue {
             Queue::Q0 => self.receive_0.write_control(x, memory_size),
             Queue::Q1 => self.receive_1.write_control(x, memory_size),
@@ -262,14 +268,15 @@ impl<D: Dma<K>, K> OpenVf<D, K> {
 
     // Writes a register of a transmit ring.
     fn write_transmit(&mut self, queue: Queue, register: RingRegister, x: u32)
-        ensures state { self.new
-            ≡ with_transmit self.old queue
+        ensures state { self.new.state
+            ≡ with_transmit self.old.state queue
             (record
-            (transmit_of self.old queue) {
+            (transmit_of self.old.state queue) {
               ring = ring_written
-                  (transmit_of self.old queue).ring register x;
+                  (transmit_of self.old.state queue).ring register x;
             }) }
-        ensures size { length self.new.memory ≡ length self.old.memory }
+        ensures size { length self.new.state.memory ≡ length self.old.state.memory }
+        ensures accesses { self.new.accesses ≡ self.old.accesses }
     {
         match queue {
             Queue::Q0 => self.transmit_0.ring.write(register, x),
@@ -279,48 +286,41 @@ impl<D: Dma<K>, K> OpenVf<D, K> {
 
     // Writes TXDCTL.
     fn write_transmit_control(&mut self, queue: Queue, x: u32)
-        ensures state { self.new
-            ≡ with_transmit self.old queue
-            (transmit_switched (length self.old.memory) (transmit_of self.old queue) x) }
-        ensures size { length self.new.memory ≡ length self.old.memory }
+        ensures state { self.new.state
+            ≡ with_transmit self.old.state queue
+            (transmit_switched (length self.old.state.memory) (transmit_of self.old.state queue) x) }
+        ensures size { length self.new.state.memory ≡ length self.old.state.memory }
+        ensures accesses { self.new.accesses ≡ self.old.accesses }
     {
-        let memory_size = self.memory_size;
+        let memory_size = self.memory.size();
         match queue {
             Queue::Q0 => self.transmit_0.write_control(x, memory_size),
             Queue::Q1 => self.transmit_1.write_control(x, memory_size),
         }
     }
 
-    /// Lets the memory bring descriptors that receive queue 0 will take soon into the processor's cache. Nothing changes.
-    #[inline]
-    pub fn prefetch(&self) {
-        if let Some(at) = self.receive_0.ring.slot_ahead() {
-            self.memory.prefetch(at);
-        }
-    }
-
     /// Places a frame in receive queue 0; the messages that this issues. `loopback` says that another pool sent it.
     #[inline]
     #[tactic(auto, unfolding(crate::specs::Function::delivered))]
-    pub fn deliver(&mut self, trace: &mut Trace, frame: &FrameBuf, loopback: bool) -> Vectors
-        ensures state { self.new
+    pub fn deliver(&mut self, frame: &FrameBuf, loopback: bool) -> Vectors
+        ensures state { self.new.state
             ≡ (delivered loopback frame.now
-            (told trace.old.accesses trace.new.accesses self.old)).state }
+            (told self.old.accesses self.new.accesses self.old.state)).state }
         ensures messages { result
             ≡ (delivered loopback frame.now
-            (told trace.old.accesses trace.new.accesses self.old)).messages }
-        ensures size { length self.new.memory ≡ length self.old.memory }
-        ensures traced { IsTraced D.shared
-            (length self.old.memory) trace.old.accesses trace.new.accesses }
+            (told self.old.accesses self.new.accesses self.old.state)).messages }
+        ensures size { length self.new.state.memory ≡ length self.old.state.memory }
+        ensures listed { self.new.accesses ≡ self.old.accesses
+            ++ delivered_accesses loopback frame.now
+            (told self.old.accesses self.new.accesses self.old.state) }
+        ensures traced { IsTraced D.shared self.old.state.memory self.old.accesses self.new.accesses }
     {
         let config = RxConfig {
             buffer_size: 1024 * (self.receive_0.buffers % BUFFER_SIZES) as usize,
             strip_tag: self.receive_0.strips_tag,
         };
-        let placed = place_within(
+        let placed = place_in(
             &mut self.memory,
-            trace,
-            self.memory_size,
             &mut self.receive_0.ring,
             &config,
             frame,
@@ -339,30 +339,31 @@ impl<D: Dma<K>, K> OpenVf<D, K> {
     #[tactic(auto, unfolding(crate::specs::Function::after_fetching))]
     pub fn serve(
         &mut self,
-        trace: &mut Trace,
         queue: Queue,
         frame: &mut FrameBuf,
         rule: PortVlan,
         limit: FrameLimit,
     ) -> Service
-        ensures state { self.new
+        ensures state { self.new.state
             ≡ (after_fetching limit rule
-            (told trace.old.accesses trace.new.accesses self.old) queue).state }
+            (told self.old.accesses self.new.accesses self.old.state) queue).state }
         ensures messages { result.messages
             ≡ (after_fetching limit rule
-            (told trace.old.accesses trace.new.accesses self.old) queue).messages }
+            (told self.old.accesses self.new.accesses self.old.state) queue).messages }
         ensures outcome { fetched_in result.outcome frame.new
             ≡ (fetched_from limit rule
-            (told trace.old.accesses trace.new.accesses self.old) queue).outcome }
+            (told self.old.accesses self.new.accesses self.old.state) queue).outcome }
         ensures frame { frame.new
             ≡ lent_after
             (fetched_from limit rule
-            (told trace.old.accesses trace.new.accesses self.old) queue).outcome frame.old }
-        ensures size { length self.new.memory ≡ length self.old.memory }
-        ensures traced { IsTraced D.shared
-            (length self.old.memory) trace.old.accesses trace.new.accesses }
+            (told self.old.accesses self.new.accesses self.old.state) queue).outcome frame.old }
+        ensures size { length self.new.state.memory ≡ length self.old.state.memory }
+        ensures listed { self.new.accesses ≡ self.old.accesses
+            ++ fetched_accesses limit
+            (told self.old.accesses self.new.accesses self.old.state) queue }
+        ensures traced { IsTraced D.shared self.old.state.memory self.old.accesses self.new.accesses }
     {
-        let served = self.fetch_from(trace, queue, frame, rule, limit);
+        let served = self.fetch_from(queue, frame, rule, limit);
         let messages = if served.reported {
             let vector = match queue {
                 Queue::Q0 => vector_at(self.queue_vectors, TRANSMIT_VECTOR_0),
@@ -381,46 +382,43 @@ impl<D: Dma<K>, K> OpenVf<D, K> {
     // Takes the descriptor at the head of a transmit queue, and raises nothing.
     fn fetch_from(
         &mut self,
-        trace: &mut Trace,
         queue: Queue,
         frame: &mut FrameBuf,
         rule: PortVlan,
         limit: FrameLimit,
     ) -> Served
-        ensures state { self.new
+        ensures state { self.new.state
             ≡ with_fetching
-            (told trace.old.accesses trace.new.accesses self.old) queue
+            (told self.old.accesses self.new.accesses self.old.state) queue
             (fetched_from limit rule
-            (told trace.old.accesses trace.new.accesses self.old) queue) }
+            (told self.old.accesses self.new.accesses self.old.state) queue) }
         ensures reported { result.reported
             ≡ (fetched_from limit rule
-            (told trace.old.accesses trace.new.accesses self.old) queue).reported }
+            (told self.old.accesses self.new.accesses self.old.state) queue).reported }
         ensures outcome { fetched_in result.outcome frame.new
             ≡ (fetched_from limit rule
-            (told trace.old.accesses trace.new.accesses self.old) queue).outcome }
+            (told self.old.accesses self.new.accesses self.old.state) queue).outcome }
         ensures frame { frame.new
             ≡ lent_after
             (fetched_from limit rule
-            (told trace.old.accesses trace.new.accesses self.old) queue).outcome frame.old }
-        ensures size { length self.new.memory ≡ length self.old.memory }
-        ensures traced { IsTraced D.shared
-            (length self.old.memory) trace.old.accesses trace.new.accesses }
+            (told self.old.accesses self.new.accesses self.old.state) queue).outcome frame.old }
+        ensures size { length self.new.state.memory ≡ length self.old.state.memory }
+        ensures listed { self.new.accesses ≡ self.old.accesses
+            ++ fetched_accesses limit
+            (told self.old.accesses self.new.accesses self.old.state) queue }
+        ensures traced { IsTraced D.shared self.old.state.memory self.old.accesses self.new.accesses }
     {
         match queue {
-            Queue::Q0 => fetch_within(
+            Queue::Q0 => fetch_into(
                 &mut self.memory,
-                trace,
-                self.memory_size,
                 &mut self.transmit_0.ring,
                 &mut self.transmit_0.pending,
                 frame,
                 rule,
                 limit,
             ),
-            Queue::Q1 => fetch_within(
+            Queue::Q1 => fetch_into(
                 &mut self.memory,
-                trace,
-                self.memory_size,
                 &mut self.transmit_1.ring,
                 &mut self.transmit_1.pending,
                 frame,
@@ -432,9 +430,10 @@ impl<D: Dma<K>, K> OpenVf<D, K> {
 
     /// Counts one more frame sent, modulo 2^32.
     pub fn sent(&mut self)
-        ensures state { self.new
-            ≡ record self.old { frames_sent = (self.old.frames_sent + 1) % 2 ^ 32 } }
-        ensures size { length self.new.memory ≡ length self.old.memory }
+        ensures state { self.new.state
+            ≡ record self.old.state { frames_sent = (self.old.state.frames_sent + 1) % 2 ^ 32 } }
+        ensures size { length self.new.state.memory ≡ length self.old.state.memory }
+        ensures accesses { self.new.accesses ≡ self.old.accesses }
     {
         self.frames_sent = self.frames_sent.wrapping_add(1);
     }
@@ -442,40 +441,42 @@ impl<D: Dma<K>, K> OpenVf<D, K> {
     /// The size of the memory, in bytes.
     #[inline]
     pub fn memory_size(&self) -> u64
-        ensures { result ≡ length self.now.memory }
+        ensures { result ≡ length self.now.state.memory }
     {
-        self.memory_size
+        self.memory.size()
     }
 
     /// Reads bytes of the memory.
-    pub fn mem_load(&mut self, trace: &mut Trace, at: u64, out: &mut [u8])
-        requires { at + length out.old ≤ length self.old.memory }
-        ensures state { self.new ≡ told trace.old.accesses trace.new.accesses self.old }
-        ensures bytes { out.new ≡ slice_range self.new.memory at (at + length out.old) }
-        ensures traced { IsTraced D.shared
-            (length self.old.memory) trace.old.accesses trace.new.accesses }
+    pub fn mem_load(&mut self, at: u64, out: &mut [u8])
+        requires { at + length out.old ≤ length self.old.state.memory }
+        ensures state { self.new.state ≡ told self.old.accesses self.new.accesses self.old.state }
+        ensures bytes { out.new ≡ slice_range self.new.state.memory at (at + length out.old) }
+        ensures size { length self.new.state.memory ≡ length self.old.state.memory }
+        ensures listed { self.new.accesses ≡ self.old.accesses ++ Read at out.new ∷ [] }
+        ensures traced { IsTraced D.shared self.old.state.memory self.old.accesses self.new.accesses }
     {
-        self.memory.load(trace, at, out);
+        self.memory.load(at, out);
     }
 
     /// Writes bytes of the memory.
     pub fn mem_write(&mut self, at: u64, source: &[u8])
-        requires { at + length source.now ≤ length self.old.memory }
-        ensures state { self.new
-            ≡ record self.old { memory = overwrite at source.now self.old.memory } }
-        ensures size { length self.new.memory ≡ length self.old.memory }
+        requires { at + length source.now ≤ length self.old.state.memory }
+        ensures state { self.new.state
+            ≡ record self.old.state { memory = overwrite at source.now self.old.state.memory } }
+        ensures listed { self.new.accesses ≡ self.old.accesses ++ Wrote at source.now ∷ [] }
+        ensures size { length self.new.state.memory ≡ length self.old.state.memory }
     {
-        self.memory.store(&mut Step::Begin.trace(), at, source);
+        self.memory.store(at, source);
     }
 }
 
 impl<M: GuestMem> OpenVf<M> {
     /// Copies bytes of the memory.
     pub fn mem_read(&self, at: u64, out: &mut [u8])
-        requires { at + length out.old ≤ length self.now.memory }
-        ensures { out.new ≡ slice_range self.now.memory at (at + length out.old) }
+        requires { at + length out.old ≤ length self.now.state.memory }
+        ensures { out.new ≡ slice_range self.now.state.memory at (at + length out.old) }
     {
-        read_bytes(&self.memory, at, out);
+        self.memory.look_at(at, out);
     }
 }
 

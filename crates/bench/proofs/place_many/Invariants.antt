@@ -4,4 +4,4 @@ use Rattle.rings.specs.Ring.{LiesInside}
 use Rattle.bench.proofs.place_many.Given as goal
 
 abbrev pub invariant-loop-turn : goal.invariant-loop-turn
-invariant-loop-turn g l = LiesInside (length (g.M.GuestMem.bytes l.memory)) l.ring
+invariant-loop-turn g l = LiesInside (length (g.M.GuestMem.bytes l.memory.memory)) l.ring

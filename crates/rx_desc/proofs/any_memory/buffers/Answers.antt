@@ -21,7 +21,7 @@ returns-then-not-holds-clause-variant g c =
     let inside : c.loop-i.i < length (slots c.args.ring.now) = omega (arith, length-slots c.args.ring.now) in
     let count : c.loop-i.i < length words = omega (arith, length-words_at (slots c.args.ring.now) now) in
     let at : c.read_word-buffer.result ≡ get_or words c.loop-i.i 0 =
-    c.read_word-buffer.ensures ∙ ap (λ (s : ℕ). word_at s now) (c.slot-at.ensures.value ∙ sym (get_or-slots c.args.ring.now c.loop-i.i room)) ∙ sym (get_or-words_at (slots c.args.ring.now) now c.loop-i.i inside) in
+    c.read_word-buffer.ensures.0 ∙ ap (λ (s : ℕ). word_at s now) (c.slot-at.ensures.value ∙ sym (get_or-slots c.args.ring.now c.loop-i.i room)) ∙ sym (get_or-words_at (slots c.args.ring.now) now c.loop-i.i inside) in
     let s = steps_on words c.args.size c.args.count c.loop-i.i _ (text_of c.loop-i.rest) _ _ [] _ (length now) (omega arith) count at (c.min.ensures ∙ ap (min c.args.size) c.len.ensures) c.split_at.ensures.front c.split_at.ensures.back in
     let no : nat_le (c.read_word-buffer.result + c.len-in-loop-i.result) c.args.memory_size ≡ false = sym c.holds.ensures ∙ c.if-not-holds.true in
     let past : length now < c.read_word-buffer.result + length (text_of c.split_at.result.0) = grind (arith, nat_tests) in
@@ -35,7 +35,7 @@ loop-i-preserved g c =
     let inside : c.loop-i.i < length (slots c.args.ring.now) = omega (arith, length-slots c.args.ring.now) in
     let count : c.loop-i.i < length words = omega (arith, length-words_at (slots c.args.ring.now) now) in
     let at : c.read_word-buffer.result ≡ get_or words c.loop-i.i 0 =
-    c.read_word-buffer.ensures ∙ ap (λ (s : ℕ). word_at s now) (c.slot-at.ensures.value ∙ sym (get_or-slots c.args.ring.now c.loop-i.i room)) ∙ sym (get_or-words_at (slots c.args.ring.now) now c.loop-i.i inside) in
+    c.read_word-buffer.ensures.0 ∙ ap (λ (s : ℕ). word_at s now) (c.slot-at.ensures.value ∙ sym (get_or-slots c.args.ring.now c.loop-i.i room)) ∙ sym (get_or-words_at (slots c.args.ring.now) now c.loop-i.i inside) in
     let s = steps_on words c.args.size c.args.count c.loop-i.i _ (text_of c.loop-i.rest) _ _ [] _ (length now) (omega arith) count at (c.min.ensures ∙ ap (min c.args.size) c.len.ensures) c.split_at.ensures.front c.split_at.ensures.back in
     let yes : nat_le (c.read_word-buffer.result + c.len-in-loop-i.result) c.args.memory_size ≡ true = sym c.holds.ensures ∙ c.if-not-holds.false in
     let fits : c.read_word-buffer.result + c.len-in-loop-i.result ≤ c.args.memory_size = grind (arith, nat_tests) in

@@ -1,7 +1,7 @@
 -- Two writes, one where the other ends, are one write of both.
 use Rattle.std.proofs.Common.{◌+◌, length, arith, ap, ◌∙◌, length-append}
 use Rattle.guest_memory.specs.Memory.{overwrite}
-use Rattle.rx_desc.proofs.TwoWrites.{two_writes}
+use Rattle.guest_memory.proofs.TwoWrites.{two_writes}
 use Rattle.rx_desc.proofs.any_memory.write_parts.Goals as goal
 
 pub returns-clause-written : goal.returns-clause-written

@@ -1,18 +1,30 @@
--- A memory that nobody else writes is met as it stands, so what is placed is the definition's on it.
-use Rattle.std.proofs.Common.{ℕ, List, refl}
-use Rattle.rx_desc.specs.Receive.{Delivers, deliver}
-use Rattle.rx_desc.proofs.Delivered.{alone}
-use Rattle.rx_desc.proofs.placing.place_in.Given as given
+-- A frame that keeps its tag and fits one buffer is placed as one piece.
+use Rattle.std.proofs.Common.{◌≡◌, ◌≤◌, List, ◌++◌, length, sym, ap, true, arith, subst, ◌∙◌}
+use Rattle.live_memory.specs.Trace.{Access, met}
+use Rattle.rx_desc.specs.Receive.{Delivery, Delivers}
+use Rattle.live_memory.proofs.Accesses.{traced_none}
+use Rattle.rx_desc.proofs.Delivered.{off_still}
+use Rattle.rx_desc.proofs.Listed.{whole_accesses}
+use Rattle.rx_desc.proofs.Pieces.{deliver-whole}
 use Rattle.rx_desc.proofs.placing.place_in.Goals as goal
 
-whole : (g : given.Over) (c : goal.After-place_within g) → Delivers (deliver c.args.config.now c.args.loopback c.args.frame.now (g.M.GuestMem.bytes c.args.memory.now) c.args.ring.now) c.place_within.result (g.M.GuestMem.bytes c.place_within.new.memory) c.place_within.new.ring
-whole g c = alone (λ (m : List ℕ). deliver c.args.config.now c.args.loopback c.args.frame.now m c.args.ring.now) _ _ _ _ _ _ _ _ refl c.place_within.ensures.traced c.place_within.ensures.done
+pub returns-clause-done : goal.returns-clause-done
+returns-clause-done g c =
+    let on : c.args.ring.now.enabled ≡ true = sym c.is_enabled.ensures.value ∙ c.if-not-is_enabled.false in
+    let some : 1 ≤ length c.args.frame.now = omega (arith, c.bytes-bytes.ensures.frame) in
+    let fits : length c.bytes-bytes.result.now ≤ c.args.config.now.buffer_size = omega (arith, c.if-bytes-size.false) in
+    let whole = deliver-whole c.args.config.now c.args.loopback c.args.frame.now _ (met c.args.memory.now.accesses c.place_one.new.memory.accesses (g.D.Dma.seen c.args.memory.now.memory)) c.args.ring.now on c.if-config.false some fits c.bytes-bytes.ensures.value in
+    subst (λ (due : Delivery). Delivers due c.place_one.result (g.D.Dma.seen c.place_one.new.memory.memory) c.place_one.new.ring) (sym whole) c.place_one.ensures.done
 
-pub returns-clause-placed : goal.returns-clause-placed
-returns-clause-placed g c = (whole g c).placed
+pub returns-clause-listed : goal.returns-clause-listed
+returns-clause-listed g c =
+    let on : c.args.ring.now.enabled ≡ true = sym c.is_enabled.ensures.value ∙ c.if-not-is_enabled.false in
+    let some : 1 ≤ length c.args.frame.now = omega (arith, c.bytes-bytes.ensures.frame) in
+    let fits : length c.bytes-bytes.result.now ≤ c.args.config.now.buffer_size = omega (arith, c.if-bytes-size.false) in
+    c.place_one.ensures.listed ∙ ap (λ (t : List Access). c.args.memory.now.accesses ++ t) (sym (whole_accesses c.args.config.now c.args.loopback c.args.frame.now _ (met c.args.memory.now.accesses c.place_one.new.memory.accesses (g.D.Dma.seen c.args.memory.now.memory)) c.args.ring.now on c.if-config.false some fits c.bytes-bytes.ensures.value))
 
-pub returns-clause-written : goal.returns-clause-written
-returns-clause-written g c = (whole g c).memory
+pub returns-then-not-is_enabled-clause-done : goal.returns-then-not-is_enabled-clause-done
+returns-then-not-is_enabled-clause-done g c = off_still _ _ _ _ _ _ (sym c.is_enabled.ensures.value ∙ c.if-not-is_enabled.true)
 
-pub returns-clause-ring : goal.returns-clause-ring
-returns-clause-ring g c = (whole g c).ring
+pub returns-then-not-is_enabled-clause-traced : goal.returns-then-not-is_enabled-clause-traced
+returns-then-not-is_enabled-clause-traced g c = traced_none _ _ _

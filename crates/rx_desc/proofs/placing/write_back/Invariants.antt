@@ -1,19 +1,19 @@
--- The write-backs that are left lead from the memory now to the one that all write-backs give. Nothing was read.
-use Rattle.std.proofs.Common.{◌≡◌, ◌≤◌, length}
+-- The write-backs that are left lead from the memory now to the one that all write-backs give. What was written and what is left are all accesses.
+use Rattle.std.proofs.Common.{◌≡◌, ◌≤◌, ◌++◌, length}
 use Rattle.rx_desc.specs.Receive.{cut, slots, back_writes}
 use Rattle.rx_desc.specs.Parts.{text_of}
-use Rattle.rx_desc.specs.Writing.{OnlyWrites}
+use Rattle.live_memory.specs.Trace.{wrotes}
 use Rattle.guest_memory.specs.Memory.{write_all}
 use Rattle.rx_desc.proofs.Pieces.{rest_backs}
 use Rattle.rx_desc.proofs.placing.write_back.Given as goal
 
 abbrev pub invariant-loop-i : goal.invariant-loop-i
 invariant-loop-i g l =
-    let now = g.D.Dma.seen l.memory in
-    let first = g.D.Dma.seen l.initial.memory in
+    let now = g.D.Dma.seen l.memory.memory in
+    let first = g.D.Dma.seen l.initial.memory.memory in
     record {
       size : length now ≡ length first;
       short : length (text_of l.rest) ≤ 9018;
       written : write_all (rest_backs l.loopback l.tag (slots l.ring) l.size l.count l.i (text_of l.rest)) now ≡ write_all (back_writes l.loopback l.tag (slots l.ring) (cut l.size l.count (text_of l.source))) first;
-      writes : OnlyWrites g.D.Dma.shared (length first) l.initial.trace.accesses l.trace.accesses;
+      listed : l.memory.accesses ++ wrotes (rest_backs l.loopback l.tag (slots l.ring) l.size l.count l.i (text_of l.rest)) ≡ l.initial.memory.accesses ++ wrotes (back_writes l.loopback l.tag (slots l.ring) (cut l.size l.count (text_of l.source)));
     }

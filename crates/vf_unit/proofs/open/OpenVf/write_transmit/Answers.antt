@@ -2,23 +2,17 @@
 use Rattle.vf_unit.proofs.open.OpenVf.write_transmit.Goals as goal
 
 pub invariant_of-self : goal.invariant_of-self
-invariant_of-self g c = (
-  c.self.invariant.0,
-  record {
-    receive_0 = c.self.invariant.1.receive_0;
-    receive_1 = c.self.invariant.1.receive_1;
-    transmit_0 = c.write.ensures.inside _ c.self.invariant.1.transmit_0;
-    transmit_1 = c.self.invariant.1.transmit_1;
-  },
-)
+invariant_of-self g c = record {
+  receive_0 = c.self.invariant.receive_0;
+  receive_1 = c.self.invariant.receive_1;
+  transmit_0 = c.write.ensures.inside _ c.self.invariant.transmit_0;
+  transmit_1 = c.self.invariant.transmit_1;
+}
 
 pub invariant_of-self-in-Q1 : goal.invariant_of-self-in-Q1
-invariant_of-self-in-Q1 g c = (
-  c.self.invariant.0,
-  record {
-    receive_0 = c.self.invariant.1.receive_0;
-    receive_1 = c.self.invariant.1.receive_1;
-    transmit_0 = c.self.invariant.1.transmit_0;
-    transmit_1 = c.write-in-Q1.ensures.inside _ c.self.invariant.1.transmit_1;
-  },
-)
+invariant_of-self-in-Q1 g c = record {
+  receive_0 = c.self.invariant.receive_0;
+  receive_1 = c.self.invariant.receive_1;
+  transmit_0 = c.self.invariant.transmit_0;
+  transmit_1 = c.write-in-Q1.ensures.inside _ c.self.invariant.transmit_1;
+}

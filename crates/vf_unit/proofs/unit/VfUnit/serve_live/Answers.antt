@@ -1,6 +1,6 @@
 -- Nothing is done with the memory of a function that is closed.
-use Rattle.live_memory.proofs.Accesses.{traced_none}
+use Rattle.vf_unit.proofs.Told.{met_nothing}
 use Rattle.vf_unit.proofs.unit.VfUnit.serve_live.Goals as goal
 
-pub returns-else-self-clause-traced : goal.returns-else-self-clause-traced
-returns-else-self-clause-traced g c = traced_none _ _ _
+pub returns-else-self-clause-met : goal.returns-else-self-clause-met
+returns-else-self-clause-met g c = met_nothing _ _ _

@@ -1,16 +1,26 @@
+pub mod AccessSteps
+pub mod AlikeSteps
+pub mod Apartness
 pub mod Append
 pub mod Arrivals
+mod Called
+pub mod Confinement
+mod Deliveries
 mod Inside
 pub mod LiveLemmas
 mod LiveServes
 mod LiveSteps
 mod Loads
 pub mod LiveWrites
+pub mod NextSettings
 pub mod Refusals
 mod Sizes
 mod SizesStay
 mod SlotLemmas
 pub mod Unread
+mod Views
+pub mod Written
 pub mod Steps
 pub mod Shape
 pub mod Unwinding
+pub mod WithoutGroup

@@ -1,25 +1,21 @@
 -- Steps of a world in which functions' memories hold what they answered.
-use Rattle.std.proofs.Common.{◌≡◌, ◌≢◌, ◌≤◌, ◌<◌, ◌⊎◌, inl, inr, ℕ, Bool, true, false, eqb, nat_lt, List, [], ◌∷◌, ◌++◌, Option, Some, None, length, map, get_or, set, arith, refl, sym, ap, subst, ◌∙◌}
+use Rattle.std.proofs.Common.{◌≡◌, ◌≢◌, ◌<◌, ◌⊎◌, inl, inr, ℕ, Bool, true, false, eqb, nat_lt, List, [], ◌++◌, length, get_or, set, append-nil, refl, sym, ap, subst, ◌∙◌}
 use Rattle.std.proofs.lemmas.Bool.Decides.{eqb_tells}
 use Rattle.std.specs.Prelude.{if◌then◌else◌}
-use Rattle.std.specs.List.{range_with_len}
 use Rattle.std.proofs.lemmas.List.{length-set, get_or-set_same, get_or-set_other, get_or_default}
 use Rattle.std.proofs.lemmas.List.FromFn.{fill_by_all}
 use Rattle.wire_frame.specs.declared.fault.Fault.TheVariants.{NoSuchVf}
-use Rattle.live_memory.specs.Trace.{Access, IsTraced}
-use Rattle.live_memory.specs.Traces.{Touches, trace_of}
-use Rattle.live_memory.proofs.Touched.{trace_other}
+use Rattle.live_memory.specs.Trace.{Access}
 use Rattle.vf_unit.specs.declared.registers.Queue.{Queue}
-use Rattle.vf_unit.specs.Unit.{Function, Closed, size_of, told_of}
-use Rattle.vf_unit.proofs.Told.{told_still}
+use Rattle.vf_unit.specs.Unit.{Function, Closed, IsMet, told_of}
+use Rattle.vf_unit.proofs.Told.{told_still, met_nothing}
 use Rattle.pool_filter.specs.Settings.{Settings}
 use Rattle.pool_filter.specs.Own.{own}
-use Rattle.local_switch.specs.declared.ways.Source.TheVariants.{Pool}
 use Rattle.device.specs.Events.{Event}
-use Rattle.device.specs.Act.{Acted, Service, act, serve}
-use Rattle.device.specs.World.{World, function_of, with_function, own_step, acted, refused, service}
-use Rattle.device.specs.Live.{told_at, told_functions, told_world, told_service, AreTraced}
-use Rattle.device.proofs.LiveLemmas.{length_told, get_told, told_here, traced_there}
+use Rattle.device.specs.Act.{act, serve}
+use Rattle.device.specs.World.{World, function_of, own_step, acted, refused, service}
+use Rattle.device.specs.Live.{trace_of, told_at, told_functions, told_world, told_service, AreMet, AreListed}
+use Rattle.device.proofs.LiveLemmas.{length_told, get_told}
 
 -- ---- one pool's memory was touched
 
@@ -30,7 +26,7 @@ same_each xs ys len each =
     ∙ sym (fill_by_all (λ r. get_or xs r (Closed 0)) xs (length xs) (Closed 0) refl (λ r below. refl))
 
 -- where the other memories weren't, a change of that pool's function hides what its memory answered
-pub set_told : (before now : Touches) (fs : List Function) (p : ℕ) (f : Function) → ((r : ℕ) → r ≢ p → trace_of now r ≡ trace_of before r) → set (told_functions before now fs) p f ≡ set fs p f
+pub set_told : (before now : List (List Access)) (fs : List Function) (p : ℕ) (f : Function) → ((r : ℕ) → r ≢ p → trace_of now r ≡ trace_of before r) → set (told_functions before now fs) p f ≡ set fs p f
 set_told before now fs p f others =
     same_each (set fs p f) (set (told_functions before now fs) p f) (length-set (told_functions before now fs) p f ∙ length_told before now fs ∙ sym (length-set fs p f)) each
   where
@@ -48,41 +44,53 @@ set_told before now fs p f others =
             ∙ told_still (trace_of before r) (trace_of now r) (get_or fs r (Closed 0)) (others r other.1)
             ∙ sym (get_or-set_other fs p r f (Closed 0) other.1)
 
-pub others_stay : (before now : Touches) (p : ℕ) (mine : List Access) → now ≡ before ++ (p, mine) ∷ [] → (r : ℕ) → r ≢ p → trace_of now r ≡ trace_of before r
-others_stay before now p mine became r other = ap (λ (t : Touches). trace_of t r) became ∙ trace_other before p r mine other
+-- the trace of that pool, and those of others
+pub others_stay : (before now : List (List Access)) (p : ℕ) (mine : List Access) → now ≡ set before p mine → (r : ℕ) → r ≢ p → trace_of now r ≡ trace_of before r
+others_stay before now p mine became r other = ap (λ (t : List (List Access)). trace_of t r) became ∙ get_or-set_other before p r mine [] other
 
-pub told_is : (before now : Touches) (fs : List Function) (p : ℕ) (trace mine : List Access) → trace ≡ [] → now ≡ before ++ (p, mine) ∷ [] → told_at before now fs p ≡ told_of trace mine (get_or fs p (Closed 0))
-told_is before now fs p trace mine begun became =
-    ap (λ (t : Touches). told_at before t fs p) became ∙ told_here before before fs p mine refl ∙ ap (λ (t : List Access). told_of t mine (get_or fs p (Closed 0))) (sym begun)
+pub mine_is : (before now : List (List Access)) (p : ℕ) (mine : List Access) → p < length before → now ≡ set before p mine → trace_of now p ≡ mine
+mine_is before now p mine below became = ap (λ (t : List (List Access)). trace_of t p) became ∙ get_or-set_same before p mine [] below
 
-pub all_traced : (shared : Bool) (before now : Touches) (w : World) (p : ℕ) (trace mine : List Access) → trace ≡ [] → now ≡ before ++ (p, mine) ∷ [] → ((r : ℕ) → IsTraced shared (size_of (function_of r w)) (trace_of before r) (trace_of before r)) → IsTraced shared (size_of (function_of p w)) trace mine
-    → AreTraced shared before now w
-all_traced shared before now w p trace mine begun became none traced = λ r.
-    traced_there shared (size_of (function_of r w)) before before now p r mine became refl
-    (λ here. subst (λ (k : ℕ). IsTraced shared (size_of (function_of k w)) [] mine) (sym here) (subst (λ (t : List Access). IsTraced shared (size_of (function_of p w)) t mine) begun traced)) (none r)
+pub told_is : (before now : List (List Access)) (fs : List Function) (p : ℕ) (trace mine : List Access) → p < length before → trace ≡ trace_of before p → now ≡ set before p mine → told_at before now fs p ≡ told_of trace mine (get_or fs p (Closed 0))
+told_is before now fs p trace mine below begun became =
+    (λ i. told_of (sym begun i) (mine_is before now p mine below became i) (get_or fs p (Closed 0)))
+
+pub all_met : (shared : Bool) (before now : List (List Access)) (w : World) (p : ℕ) (trace mine : List Access) → p < length before → trace ≡ trace_of before p → now ≡ set before p mine → IsMet shared (function_of p w) trace mine → AreMet shared before now w
+all_met shared before now w p trace mine below begun became met = λ r. at r (eqb_tells r p)
+  where
+    at : (r : ℕ) → ((eqb r p ≡ true) × (r ≡ p)) ⊎ ((eqb r p ≡ false) × (r ≢ p)) → IsMet shared (function_of r w) (trace_of before r) (trace_of now r)
+    at r (inl is) = subst (λ (k : ℕ). IsMet shared (function_of k w) (trace_of before k) (trace_of now k)) (sym is.1) (subst (IsMet shared (function_of p w) (trace_of before p)) (sym (mine_is before now p mine below became)) (subst (λ (t : List Access). IsMet shared (function_of p w) t mine) begun met))
+    at r (inr other) = subst (IsMet shared (function_of r w) (trace_of before r)) (sym (others_stay before now p mine became r other.1)) (met_nothing shared (function_of r w) (trace_of before r))
+
+pub all_listed : (before now : List (List Access)) (p : ℕ) (trace mine list : List Access) (own : ℕ → List Access) → p < length before → trace ≡ trace_of before p → now ≡ set before p mine → mine ≡ trace ++ list → list ≡ own p → ((r : ℕ) → r ≢ p → own r ≡ []) → AreListed own before now
+all_listed before now p trace mine list own below begun became is here elsewhere = λ r. at r (eqb_tells r p)
+  where
+    at : (r : ℕ) → ((eqb r p ≡ true) × (r ≡ p)) ⊎ ((eqb r p ≡ false) × (r ≢ p)) → trace_of now r ≡ trace_of before r ++ own r
+    at r (inl is_p) = subst (λ (k : ℕ). trace_of now k ≡ trace_of before k ++ own k) (sym is_p.1) (mine_is before now p mine below became ∙ is ∙ (λ i. begun i ++ here i))
+    at r (inr other) = others_stay before now p mine became r other.1 ∙ sym (append-nil (trace_of before r)) ∙ ap (λ (t : List Access). trace_of before r ++ t) (sym (elsewhere r other.1))
 
 -- an event of that pool's own
-pub own_step_told : (before now : Touches) (w : World) (p : ℕ) (e : Event) (trace mine : List Access) → trace ≡ [] → now ≡ before ++ (p, mine) ∷ []
+pub own_step_told : (before now : List (List Access)) (w : World) (p : ℕ) (e : Event) (trace mine : List Access) → p < length before → trace ≡ trace_of before p → now ≡ set before p mine
     → own_step (told_world before now w) p e ≡ (if nat_lt p (length w.functions) then acted w p (act (told_of trace mine (function_of p w)) e) else refused (told_world before now w) NoSuchVf)
-own_step_told before now w p e trace mine begun became =
+own_step_told before now w p e trace mine below begun became =
     ap (λ (n : ℕ). if nat_lt p n then acted (told_world before now w) p (act (function_of p (told_world before now w)) e) else refused (told_world before now w) NoSuchVf) (length_told before now w.functions)
-    ∙ ap (λ (f : Function). if nat_lt p (length w.functions) then acted (told_world before now w) p (act f e) else refused (told_world before now w) NoSuchVf) (get_told before now w.functions p ∙ told_is before now w.functions p trace mine begun became)
+    ∙ ap (λ (f : Function). if nat_lt p (length w.functions) then acted (told_world before now w) p (act f e) else refused (told_world before now w) NoSuchVf) (get_told before now w.functions p ∙ told_is before now w.functions p trace mine below begun became)
     ∙ ap (λ (fs : List Function). if nat_lt p (length w.functions) then record { world = record w { functions = fs }; answer = (acted w p (act (told_of trace mine (function_of p w)) e)).answer } else refused (told_world before now w) NoSuchVf)
     (set_told before now w.functions p (act (told_of trace mine (function_of p w)) e).function (others_stay before now p mine became))
 
 -- ---- a service
 
-pub service_told : (before now : Touches) (w : World) (p : ℕ) (q : Queue) → service (told_world before now w) p q ≡ told_service before now w p q
+pub service_told : (before now : List (List Access)) (w : World) (p : ℕ) (q : Queue) → service (told_world before now w) p q ≡ told_service before now w p q
 service_told before now w p q = ap (λ (f : Function). serve w.limit (own w.settings p) f q) (get_told before now w.functions p)
 
-pub told_service_is : (before now : Touches) (w : World) (p : ℕ) (q : Queue) (trace mine : List Access) → trace ≡ [] → now ≡ before ++ (p, mine) ∷ [] → told_service before now w p q ≡ serve w.limit (own w.settings p) (told_of trace mine (function_of p w)) q
-told_service_is before now w p q trace mine begun became = ap (λ (f : Function). serve w.limit (own w.settings p) f q) (told_is before now w.functions p trace mine begun became)
+pub told_service_is : (before now : List (List Access)) (w : World) (p : ℕ) (q : Queue) (trace mine : List Access) → p < length before → trace ≡ trace_of before p → now ≡ set before p mine → told_service before now w p q ≡ serve w.limit (own w.settings p) (told_of trace mine (function_of p w)) q
+told_service_is before now w p q trace mine below begun became = ap (λ (f : Function). serve w.limit (own w.settings p) f q) (told_is before now w.functions p trace mine below begun became)
 
 -- the sender's memory was read first, and then those of others
-pub told_service_later : (first mid last : Touches) (w : World) (p : ℕ) (q : Queue) → trace_of last p ≡ trace_of mid p → told_service first last w p q ≡ told_service first mid w p q
+pub told_service_later : (first mid last : List (List Access)) (w : World) (p : ℕ) (q : Queue) → trace_of last p ≡ trace_of mid p → told_service first last w p q ≡ told_service first mid w p q
 told_service_later first mid last w p q same = ap (λ (t : List Access). serve w.limit (own w.settings p) (told_of (trace_of first p) t (function_of p w)) q) same
 
-pub told_in_turn : (first mid last : Touches) (fs : List Function) (p : ℕ) (f : Function) → trace_of last p ≡ trace_of mid p → ((r : ℕ) → r ≢ p → trace_of mid r ≡ trace_of first r) → told_functions mid last (set fs p f) ≡ set (told_functions first last fs) p f
+pub told_in_turn : (first mid last : List (List Access)) (fs : List Function) (p : ℕ) (f : Function) → trace_of last p ≡ trace_of mid p → ((r : ℕ) → r ≢ p → trace_of mid r ≡ trace_of first r) → told_functions mid last (set fs p f) ≡ set (told_functions first last fs) p f
 told_in_turn first mid last fs p f same others =
     same_each (set (told_functions first last fs) p f) (told_functions mid last (set fs p f)) (length_told mid last (set fs p f) ∙ length-set fs p f ∙ sym (length-set (told_functions first last fs) p f ∙ length_told first last fs)) each
   where
@@ -108,7 +116,7 @@ told_in_turn first mid last fs p f same others =
 pub unit_is : (fs : List Function) (i p : ℕ) (f : Function) → f ≡ get_or fs i f → i ≡ p → p < length fs → f ≡ get_or fs p (Closed 0)
 unit_is fs i p f here place below = here ∙ ap (λ (k : ℕ). get_or fs k f) place ∙ get_or_default fs p f (Closed 0) below
 
-pub told_service_by : (before now : Touches) (w : World) (p : ℕ) (q : Queue) (trace mine : List Access) (settings : Settings) (f : Function) → trace ≡ [] → now ≡ before ++ (p, mine) ∷ [] → settings ≡ w.settings → f ≡ function_of p w
+pub told_service_by : (before now : List (List Access)) (w : World) (p : ℕ) (q : Queue) (trace mine : List Access) (settings : Settings) (f : Function) → p < length before → trace ≡ trace_of before p → now ≡ set before p mine → settings ≡ w.settings → f ≡ function_of p w
     → serve w.limit (own settings p) (told_of trace mine f) q ≡ told_service before now w p q
-told_service_by before now w p q trace mine settings f begun became same unit =
-    (λ i. serve w.limit (own (same i) p) (told_of trace mine (unit i)) q) ∙ sym (told_service_is before now w p q trace mine begun became)
+told_service_by before now w p q trace mine settings f below begun became same unit =
+    (λ i. serve w.limit (own (same i) p) (told_of trace mine (unit i)) q) ∙ sym (told_service_is before now w p q trace mine below begun became)

@@ -1,19 +1,18 @@
 -- A world in which functions' memories hold what they answered is the world after each function wrote just that.
-use Rattle.std.proofs.Common.{◌≡◌, ℕ, zero, suc, ◌+◌, ◌<◌, ◌≤◌, ◌⊎◌, inl, inr, Bool, true, false, nat_lt, nat_le, List, [], ◌∷◌, ◌++◌, length, map, get_or, set, arith, refl, sym, ap, subst, ◌∙◌}
+use Rattle.std.proofs.Common.{◌≡◌, ℕ, zero, suc, ◌+◌, ◌<◌, ◌≤◌, ◌⊎◌, inl, inr, Bool, true, false, nat_lt, nat_le, List, [], ◌∷◌, length, map, get_or, set, arith, refl, sym, ap, subst, ◌∙◌}
 use Rattle.std.specs.List.{range_with_len}
 use Rattle.std.proofs.lemmas.List.{set-get_or, length-set, get_or-set_same, get_or-set_other}
 use Rattle.std.proofs.lemmas.Bool.{cases_lt}
 use Rattle.guest_memory.specs.Memory.{Write, overwrite, write_all}
-use Rattle.live_memory.specs.Trace.{Access, Read, Wrote, since, reads, met, ReadOnce, IsTraced}
-use Rattle.live_memory.specs.Traces.{Touches, trace_of}
+use Rattle.live_memory.specs.Trace.{Access, Read, Wrote, since, reads, met, ReadOnce}
 use Rattle.live_memory.proofs.Written.{size_written}
 use Rattle.vf_unit.specs.Function.{State}
-use Rattle.vf_unit.specs.Unit.{Function, Closed, Open, size_of, told_of, memory_written}
+use Rattle.vf_unit.specs.Unit.{Function, Closed, Open, IsMet, size_of, told_of, memory_written}
 use Rattle.device.specs.Events.{Event}
 use Rattle.device.specs.declared.event.Event.TheVariants.{MemWrite}
 use Rattle.device.specs.Act.{act, refusal}
 use Rattle.device.specs.World.{World, step, function_of, with_function, world_after}
-use Rattle.device.specs.Live.{told_at, told_functions, told_world, AreTraced, own_writes, writes_of}
+use Rattle.device.specs.Live.{trace_of, told_at, told_world, AreMet, own_writes, writes_of}
 use Rattle.device.proofs.Append.{world_after_append}
 use Rattle.device.proofs.LiveLemmas.{told_as}
 
@@ -76,7 +75,7 @@ written_closed p n (v ∷ ws) w below is =
     ∙ same_functions w _ _ (set-get_or w.functions p (Closed 0)) in
     ap (λ u. world_after u (writing p ws)) first ∙ written_closed p n ws w below is
 
-pub own_written : (shared : Bool) (before now : Touches) (w : World) (p : ℕ) → p < length w.functions → IsTraced shared (size_of (function_of p w)) (trace_of before p) (trace_of now p)
+pub own_written : (shared : Bool) (before now : List (List Access)) (w : World) (p : ℕ) → p < length w.functions → IsMet shared (function_of p w) (trace_of before p) (trace_of now p)
     → world_after w (own_writes before now p) ≡ with_function w p (told_at before now w.functions p)
 unfolding told_of met
 own_written shared before now w p below traced = at (function_of p w) refl
@@ -92,13 +91,13 @@ own_written shared before now w p below traced = at (function_of p w) refl
 -- ---- all functions in turn
 
 -- the functions below a wrote what their memories answered, and the others have not yet
-record Reached (before now : Touches) (w v : World) (a : ℕ) : Type 0 where
+record Reached (before now : List (List Access)) (w v : World) (a : ℕ) : Type 0 where
   rest : v ≡ record w { functions = v.functions }
   len : length v.functions ≡ length w.functions
   done : (r : ℕ) → r < a → get_or v.functions r (Closed 0) ≡ told_at before now w.functions r
   left : (r : ℕ) → a ≤ r → get_or v.functions r (Closed 0) ≡ get_or w.functions r (Closed 0)
 
-one_more : (shared : Bool) (before now : Touches) (w v : World) (a : ℕ) → AreTraced shared before now w → a < length w.functions → Reached before now w v a
+one_more : (shared : Bool) (before now : List (List Access)) (w v : World) (a : ℕ) → AreMet shared before now w → a < length w.functions → Reached before now w v a
     → Reached before now w (world_after v (own_writes before now a)) (a + 1)
 one_more shared before now w v a traced below so_far =
     subst (λ u. Reached before now w u (a + 1)) (sym (wrote ∙ ap (with_function v a) same)) (record {
@@ -118,7 +117,7 @@ one_more shared before now w v a traced below so_far =
     same = ap (told_of (trace_of before a) (trace_of now a)) unit
 
     wrote : world_after v (own_writes before now a) ≡ with_function v a (told_at before now v.functions a)
-    wrote = own_written shared before now v a in_v (subst (λ f. IsTraced shared (size_of f) (trace_of before a) (trace_of now a)) (sym unit) (traced a))
+    wrote = own_written shared before now v a in_v (subst (λ f. IsMet shared f (trace_of before a) (trace_of now a)) (sym unit) (traced a))
 
     done_at : (r : ℕ) → r < a + 1 → (r < a) ⊎ (a ≤ r) → get_or (set v.functions a (told_at before now w.functions a)) r (Closed 0) ≡ told_at before now w.functions r
     done_at r under (inl earlier) = get_or-set_other v.functions a r (told_at before now w.functions a) (Closed 0) (λ equal. absurd (omega (arith, earlier, equal))) ∙ so_far.done r earlier
@@ -126,14 +125,14 @@ one_more shared before now w v a traced below so_far =
         let here : a ≡ r = omega (arith, under, last) in
         subst (λ k. get_or (set v.functions a (told_at before now w.functions a)) k (Closed 0) ≡ told_at before now w.functions k) here (get_or-set_same v.functions a (told_at before now w.functions a) (Closed 0) in_v)
 
-in_turn : (shared : Bool) (before now : Touches) (w v : World) (a m : ℕ) → AreTraced shared before now w → a + m ≡ length w.functions → Reached before now w v a
+in_turn : (shared : Bool) (before now : List (List Access)) (w v : World) (a m : ℕ) → AreMet shared before now w → a + m ≡ length w.functions → Reached before now w v a
     → Reached before now w (world_after v (writes_of before now (range_with_len a m))) (length w.functions)
 in_turn shared before now w v a zero traced whole so_far = subst (Reached before now w v) (omega (arith, whole)) so_far
 in_turn shared before now w v a (suc m) traced whole so_far =
     subst (λ u. Reached before now w u (length w.functions)) (sym (world_after_append v (own_writes before now a) (writes_of before now (range_with_len (a + 1) m))))
     (in_turn shared before now w (world_after v (own_writes before now a)) (a + 1) m traced (omega (arith, whole)) (one_more shared before now w v a traced (omega (arith, whole)) so_far))
 
-pub written_by_each : (shared : Bool) (before now : Touches) (w : World) → AreTraced shared before now w → world_after w (writes_of before now (range_with_len 0 (length w.functions))) ≡ told_world before now w
+pub written_by_each : (shared : Bool) (before now : List (List Access)) (w : World) → AreMet shared before now w → world_after w (writes_of before now (range_with_len 0 (length w.functions))) ≡ told_world before now w
 written_by_each shared before now w traced =
     let all = in_turn shared before now w w 0 (length w.functions) traced (omega arith) (record { rest = refl; len = refl; done = λ r under. absurd (omega (arith, under)); left = λ r over. refl }) in
     all.rest ∙ ap (λ fs. record w { functions = fs }) (told_as before now w.functions (world_after w (writes_of before now (range_with_len 0 (length w.functions)))).functions all.len all.done)

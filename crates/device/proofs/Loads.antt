@@ -1,23 +1,23 @@
 -- A read of a function's memory by what the memory answers then.
-use Rattle.std.proofs.Common.{◌≡◌, ◌≤◌, ◌<◌, ◌+◌, ℕ, true, false, nat_le, nat_lt, arith, List, [], ◌∷◌, ◌++◌, Option, Some, None, length, take, replicate, refl, sym, ap, ◌∙◌}
-use Rattle.std.proofs.lemmas.List.{length-replicate, take_at, get_or-set_same}
+use Rattle.std.proofs.Common.{◌≡◌, ◌≤◌, ◌<◌, ◌+◌, ℕ, Bool, true, false, nat_le, nat_lt, arith, List, [], ◌++◌, Some, None, length, set, take, replicate, append-nil, refl, sym, ap, ◌∙◌}
+use Rattle.std.proofs.lemmas.List.{take_at, get_or-set_same}
+use Rattle.std.proofs.lemmas.Option.{none-some}
 use Rattle.std.specs.Prelude.{slice_set}
 use Rattle.irq_causes.specs.Messages.{no_messages}
 use Rattle.wire_frame.specs.declared.fault.Fault.TheVariants.{NoSuchVf}
 use Rattle.wire_frame.specs.Fault.{number_of}
 use Rattle.wire_frame.specs.declared.fault.Fault.{Fault}
 use Rattle.live_memory.specs.Trace.{Access, since, ReadOnce}
-use Rattle.live_memory.specs.Traces.{Touches}
-use Rattle.vf_unit.specs.Unit.{Function, Closed, Open, size_of, has_range, bytes_at, told_of}
+use Rattle.vf_unit.specs.Unit.{Function, TracedFunction, Closed, Open, size_of, has_range, bytes_at, told_of, met_function, load_accesses}
 use Rattle.vf_unit.proofs.Told.{told_nothing, open_told, size_told}
 use Rattle.device.specs.Events.{Event}
 use Rattle.device.specs.declared.event.Event.TheVariants.{MemRead}
 use Rattle.device.specs.declared.event.Reply.TheVariants.{Done, Value, Bytes, Idle, More, Sent, Dropped, Faulted, Refused}
 use Rattle.device.specs.declared.span.Span.{Span}
-use Rattle.device.specs.Act.{Acted, quietly, refusal, act}
+use Rattle.device.specs.Act.{Acted, quietly, refusal, act, act_accesses}
 use Rattle.device.specs.Outcome.{Outcome, IsOf, bytes_in, reply_of, reply_in, Holds, HoldsIn}
 use Rattle.device.specs.World.{World, function_of, with_function, own_step, acted, refused, silently}
-use Rattle.device.specs.Live.{told_world}
+use Rattle.device.specs.Live.{trace_of, told_world}
 use Rattle.device.proofs.Arrivals.{raised_nothing}
 use Rattle.device.proofs.Inside.{read_over_zeros, reply_in_of}
 use Rattle.device.proofs.LiveSteps.{own_step_told}
@@ -60,10 +60,10 @@ held before now f after span at count read had rest is_at is_count is once withi
 pub absent_step : (w : World) (p : ℕ) (e : Event) → length w.functions ≤ p → own_step w p e ≡ refused w NoSuchVf
 absent_step w p e past = let gone : nat_lt p (length w.functions) ≡ false = grind (arith, past) in rw gone refl
 
-pub there_step : (before now : Touches) (w : World) (p : ℕ) (e : Event) (trace mine : List Access) → p < length w.functions → trace ≡ [] → now ≡ before ++ (p, mine) ∷ [] → own_step (told_world before now w) p e ≡ acted w p (act (told_of trace mine (function_of p w)) e)
-there_step before now w p e trace mine below begun became =
+pub there_step : (before now : List (List Access)) (w : World) (p : ℕ) (e : Event) (trace mine : List Access) → p < length w.functions → p < length before → trace ≡ trace_of before p → now ≡ set before p mine → own_step (told_world before now w) p e ≡ acted w p (act (told_of trace mine (function_of p w)) e)
+there_step before now w p e trace mine below within begun became =
     let there : nat_lt p (length w.functions) ≡ true = grind (arith, below) in
-    own_step_told before now w p e trace mine begun became ∙ rw there refl
+    own_step_told before now w p e trace mine within begun became ∙ rw there refl
 
 function_in : (w : World) (p : ℕ) (f : Function) → p < length w.functions → function_of p (with_function w p f) ≡ f
 function_in w p f below = get_or-set_same w.functions p f (Closed 0) below
@@ -85,3 +85,35 @@ holds_in cells w p f Sent below mine held = tt
 holds_in cells w p f Dropped below mine held = tt
 holds_in cells w p f Faulted below mine held = tt
 holds_in cells w p f (Refused fault) below mine held = tt
+
+-- ---- the accesses
+
+pub few_listed : (f : Function) (p at count : ℕ) → count ≤ 2048 → act_accesses f (MemRead p at count) ≡ load_accesses f at count
+few_listed f p at count few = let test : nat_lt 2048 count ≡ false = grind (arith, few) in rw test refl
+
+-- a read that is refused makes none
+pub refused_listed : (u : TracedFunction) (p at count : ℕ) (fault : Fault) → refusal u.function (MemRead p at count) ≡ Some fault → u.accesses ≡ u.accesses ++ act_accesses (met_function u u) (MemRead p at count)
+unfolding refusal
+refused_listed u p at count fault is =
+    sym (append-nil u.accesses) ∙ ap (λ (t : List Access). u.accesses ++ t)
+    (sym (ap (λ (f : Function). act_accesses f (MemRead p at count)) (told_nothing u.accesses u.function) ∙ none u.function is))
+  where
+    none : (f : Function) → refusal f (MemRead p at count) ≡ Some fault → act_accesses f (MemRead p at count) ≡ []
+    none f why = long f why (nat_lt 2048 count) refl
+      where
+        long : (f : Function) → refusal f (MemRead p at count) ≡ Some fault → (b : Bool) → nat_lt 2048 count ≡ b → act_accesses f (MemRead p at count) ≡ []
+        long f why true is = rw is refl
+        long (Closed size) why false is = rw is refl
+        long (Open s) why false is = past (nat_lt (length s.memory) (at + count)) refl
+          where
+            past : (b : Bool) → nat_lt (length s.memory) (at + count) ≡ b → act_accesses (Open s) (MemRead p at count) ≡ []
+            past true over = let outside : nat_le (at + count) (length s.memory) ≡ false = grind (arith, over) in rw (is, outside) refl
+            past false within =
+                let open_to : refusal (Open s) (MemRead p at count) ≡ None = rw (is, within) refl in absurd (none-some fault (sym open_to ∙ why))
+
+pub closed_listed : (size p at count : ℕ) → act_accesses (Closed size) (MemRead p at count) ≡ []
+closed_listed size p at count = at_most (nat_lt 2048 count) refl
+  where
+    at_most : (b : Bool) → nat_lt 2048 count ≡ b → act_accesses (Closed size) (MemRead p at count) ≡ []
+    at_most true is = rw is refl
+    at_most false is = rw is refl

@@ -1,5 +1,5 @@
 -- What each event of a virtual function's own does to it, and what is replied.
-use Rattle.std.specs.Prelude.{ℕ, ◌+◌, ◌%◌, Bool, true, false, not, ◌&&◌, ◌||◌, ◌==◌, nat_le, nat_lt, List, length, replicate, Option, Some, None, if◌then◌else◌}
+use Rattle.std.specs.Prelude.{ℕ, ◌+◌, ◌%◌, Bool, true, false, not, ◌&&◌, ◌||◌, ◌==◌, nat_le, nat_lt, List, [], length, replicate, Option, Some, None, if◌then◌else◌}
 use Rattle.std.specs.Option.{unwrap_or}
 use Rattle.wire_frame.specs.Fault.{number_of}
 use Rattle.wire_frame.specs.declared.fault.Fault.{Fault}
@@ -8,7 +8,8 @@ use Rattle.tx_desc.specs.declared.outcome.Fetched.{Fetched}
 use Rattle.tx_desc.specs.declared.outcome.Fetched.TheVariants.{Idle, More, Frame, Dropped, Faulted}
 use Rattle.vf_unit.specs.declared.registers.Queue.{Queue}
 use Rattle.irq_causes.specs.Causes.{Change}
-use Rattle.vf_unit.specs.Unit.{Function, size_of, is_open, opened, ended, reset, read_of, after_read_of, written, serviced, service_outcome, one_more_sent, bytes_at, memory_written}
+use Rattle.live_memory.specs.Trace.{Access}
+use Rattle.vf_unit.specs.Unit.{Function, size_of, is_open, opened, ended, reset, read_of, after_read_of, written, serviced, service_outcome, one_more_sent, bytes_at, memory_written, service_accesses, load_accesses, store_accesses}
 use Rattle.pool_filter.specs.Own.{OwnSettings, port_vlan_of}
 use Rattle.anti_spoof.specs.Permitted.{permitted}
 use Rattle.device.specs.Limits.{VF_SPACE, MOST_BYTES}
@@ -82,6 +83,13 @@ unless_refused None f e = performed f e
 unfoldable pub act : Function → Event → Acted
 act f e = unless_refused (refusal f e) f e
 
+-- the accesses to the function's memory that an event of its own makes, other than a service: a read of the memory makes one, and so
+-- does a write
+abbrev pub act_accesses : Function → Event → List Access
+act_accesses f (MemRead p at count) = if nat_lt MOST_BYTES count then [] else load_accesses f at count
+act_accesses f (MemWrite p at bytes) = store_accesses f at bytes
+act_accesses f _ = []
+
 -- ---- services
 
 -- the function after a service of one of its queues, with the frame that it sent, if any
@@ -115,3 +123,7 @@ serve limit o f q = if is_open f
     then concluded o (serviced limit (port_vlan_of o.port_vlan) f q) (service_outcome limit (port_vlan_of o.port_vlan) f q)
     else unserved f Idle)
     else unserved f (Refused (number_of NotOpen))
+
+-- the accesses to the function's memory that it makes
+abbrev pub serve_accesses : ℕ → OwnSettings → Function → Queue → List Access
+serve_accesses limit o f q = if o.may_transmit then service_accesses limit f q else []

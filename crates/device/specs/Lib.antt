@@ -1,12 +1,16 @@
+pub mod Accesses
 pub mod Act
+pub mod Erased
 pub mod Events
 pub mod Limits
 pub mod Live
 pub mod Lone
+pub mod LoneAccesses
 pub mod Outcome
 pub mod Replies
 pub mod Request
 pub mod Resets
 pub mod Slots
 pub mod Takes
+pub mod Units
 pub mod World

@@ -8,7 +8,7 @@ use Rattle.local_switch.specs.Switch.{leaves}
 use Rattle.device.specs.Events.{Event}
 use Rattle.device.specs.declared.event.Event.TheVariants.{MemRead, Serve}
 use Rattle.device.specs.declared.event.Reply.{Reply as ReplyOf}
-use Rattle.device.specs.declared.event.Reply.TheVariants.{Done, Value, Bytes, Idle, More, Sent, Dropped, Faulted, Refused}
+use Rattle.device.specs.declared.event.Reply.TheVariants.{Done, Value, Bytes, Refused}
 use Rattle.device.specs.declared.event.Answer.{Answer}
 use Rattle.device.specs.declared.span.Span.{Span}
 use Rattle.device.specs.declared.response.Response.{Response}

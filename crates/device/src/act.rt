@@ -2,11 +2,10 @@
 //!
 //! Each refusal is decided here, but for a function that is not there. The first that fits of a function that is closed, one
 //! that is open already, a bad offset, an access that is too long and one past the end of the memory is told.
-ghost use Rattle.std.specs.Prelude.{◌≡◌, ◌+◌, ◌≤◌, ℕ, drop, length, replicate, nat_lt, true, IfNone, OnErr, if◌then◌else◌};
-ghost use Rattle.live_memory.specs.Trace.{IsTraced};
-ghost use Rattle.vf_unit.specs.Unit.{size_of, is_open, has_range, bytes_at, told_of};
+ghost use Rattle.std.specs.Prelude.{◌≡◌, ◌+◌, ◌≤◌, ◌++◌, ℕ, drop, length, replicate, nat_lt, true, IfNone, OnErr, if◌then◌else◌};
+ghost use Rattle.vf_unit.specs.Unit.{size_of, is_open, has_range, bytes_at, met_function, IsMet};
 ghost use Rattle.device.specs.declared.event.Event.{Event};
-ghost use Rattle.device.specs.Act.{is_bad_offset, refusal, act};
+ghost use Rattle.device.specs.Act.{is_bad_offset, refusal, act, act_accesses};
 ghost use Rattle.device.specs.Outcome.{IsOf, Holds, bytes_asked, bytes_told, HasCount, issued, reply_of, done_or_refused, value_or_refused, bytes_or_refused};
 ghost use Rattle.device.specs.Request.{event_of};
 
@@ -16,7 +15,7 @@ use crate::outcome::{Acted, Outcome};
 use crate::span::Span;
 use guest_memory::GuestMem;
 use irq_causes::Vectors;
-use live_memory::{Dma, Trace};
+use live_memory::Dma;
 use vf_unit::VfUnit;
 use wire_frame::Fault;
 
@@ -36,7 +35,7 @@ pub fn is_bad_offset(space: u32, offset: u32) -> bool
 // Why an event is refused for this fault: the fault itself, where the function is open.
 #[inline]
 fn unless_closed<D: Dma<K>, K>(unit: &VfUnit<D, K>, fault: Fault) -> Fault
-    ensures { result ≡ (if is_open unit.now then fault else Fault.NotOpen) }
+    ensures { result ≡ (if is_open unit.now.function then fault else Fault.NotOpen) }
 {
     if unit.is_open() {
         fault
@@ -48,10 +47,11 @@ fn unless_closed<D: Dma<K>, K>(unit: &VfUnit<D, K>, fault: Fault) -> Fault
 // Opens a function.
 #[tactic(auto, unfolding(crate::specs::Act::act, crate::specs::Act::refusal))]
 pub(crate) fn open<D: Dma<K>, K>(unit: &mut VfUnit<D, K>) -> Result<(), Fault>
-    ensures function { (p : ℕ) → unit.new ≡ (act unit.old (Event.Open p)).function }
-    ensures reply { (p : ℕ) → (act unit.old (Event.Open p)).reply ≡ done_or_refused result }
-    ensures silent { (p : ℕ) → (act unit.old (Event.Open p)).messages ≡ 0 }
-    ensures size { size_of unit.new ≡ size_of unit.old }
+    ensures function { (p : ℕ) → unit.new.function ≡ (act unit.old.function (Event.Open p)).function }
+    ensures reply { (p : ℕ) → (act unit.old.function (Event.Open p)).reply ≡ done_or_refused result }
+    ensures silent { (p : ℕ) → (act unit.old.function (Event.Open p)).messages ≡ 0 }
+    ensures accesses { unit.new.accesses ≡ unit.old.accesses }
+    ensures size { size_of unit.new.function ≡ size_of unit.old.function }
 {
     if unit.is_open() {
         return Err(Fault::AlreadyOpen);
@@ -63,10 +63,11 @@ pub(crate) fn open<D: Dma<K>, K>(unit: &mut VfUnit<D, K>) -> Result<(), Fault>
 // Closes a function.
 #[tactic(auto, unfolding(crate::specs::Act::act, crate::specs::Act::refusal))]
 pub(crate) fn end<D: Dma<K>, K>(unit: &mut VfUnit<D, K>) -> Result<(), Fault>
-    ensures function { (p : ℕ) → unit.new ≡ (act unit.old (Event.End p)).function }
-    ensures reply { (p : ℕ) → (act unit.old (Event.End p)).reply ≡ done_or_refused result }
-    ensures silent { (p : ℕ) → (act unit.old (Event.End p)).messages ≡ 0 }
-    ensures size { size_of unit.new ≡ size_of unit.old }
+    ensures function { (p : ℕ) → unit.new.function ≡ (act unit.old.function (Event.End p)).function }
+    ensures reply { (p : ℕ) → (act unit.old.function (Event.End p)).reply ≡ done_or_refused result }
+    ensures silent { (p : ℕ) → (act unit.old.function (Event.End p)).messages ≡ 0 }
+    ensures accesses { unit.new.accesses ≡ unit.old.accesses }
+    ensures size { size_of unit.new.function ≡ size_of unit.old.function }
 {
     if !unit.is_open() {
         return Err(Fault::NotOpen);
@@ -78,10 +79,11 @@ pub(crate) fn end<D: Dma<K>, K>(unit: &mut VfUnit<D, K>) -> Result<(), Fault>
 // Resets a function: a function-level reset (SR-IOV 1.1, section 2.2.2).
 #[tactic(auto, unfolding(crate::specs::Act::act, crate::specs::Act::refusal))]
 pub(crate) fn flr<D: Dma<K>, K>(unit: &mut VfUnit<D, K>) -> Result<(), Fault>
-    ensures function { (p : ℕ) → unit.new ≡ (act unit.old (Event.Flr p)).function }
-    ensures reply { (p : ℕ) → (act unit.old (Event.Flr p)).reply ≡ done_or_refused result }
-    ensures silent { (p : ℕ) → (act unit.old (Event.Flr p)).messages ≡ 0 }
-    ensures size { size_of unit.new ≡ size_of unit.old }
+    ensures function { (p : ℕ) → unit.new.function ≡ (act unit.old.function (Event.Flr p)).function }
+    ensures reply { (p : ℕ) → (act unit.old.function (Event.Flr p)).reply ≡ done_or_refused result }
+    ensures silent { (p : ℕ) → (act unit.old.function (Event.Flr p)).messages ≡ 0 }
+    ensures accesses { unit.new.accesses ≡ unit.old.accesses }
+    ensures size { size_of unit.new.function ≡ size_of unit.old.function }
 {
     if !unit.is_open() {
         return Err(Fault::NotOpen);
@@ -94,11 +96,12 @@ pub(crate) fn flr<D: Dma<K>, K>(unit: &mut VfUnit<D, K>) -> Result<(), Fault>
 #[inline]
 #[tactic(auto, unfolding(crate::specs::Act::act, crate::specs::Act::refusal, vf_unit::specs::Unit::read_of, vf_unit::specs::Unit::after_read_of))]
 pub(crate) fn vf_read<D: Dma<K>, K>(unit: &mut VfUnit<D, K>, offset: u32) -> Result<u32, Fault>
-    ensures function { (p : ℕ) → unit.new ≡ (act unit.old (Event.VfRead p offset)).function }
+    ensures function { (p : ℕ) → unit.new.function ≡ (act unit.old.function (Event.VfRead p offset)).function }
     ensures reply { (p : ℕ)
-        → (act unit.old (Event.VfRead p offset)).reply ≡ value_or_refused result }
-    ensures silent { (p : ℕ) → (act unit.old (Event.VfRead p offset)).messages ≡ 0 }
-    ensures size { size_of unit.new ≡ size_of unit.old }
+        → (act unit.old.function (Event.VfRead p offset)).reply ≡ value_or_refused result }
+    ensures silent { (p : ℕ) → (act unit.old.function (Event.VfRead p offset)).messages ≡ 0 }
+    ensures accesses { unit.new.accesses ≡ unit.old.accesses }
+    ensures size { size_of unit.new.function ≡ size_of unit.old.function }
 {
     if is_bad_offset(VF_SPACE, offset) {
         return Err(unless_closed(unit, Fault::BadOffset));
@@ -117,12 +120,13 @@ pub(crate) fn vf_write<D: Dma<K>, K>(
     offset: u32,
     value: u32,
 ) -> Result<Vectors, Fault>
-    ensures function { (p : ℕ) → unit.new ≡ (act unit.old (Event.VfWrite p offset value)).function }
+    ensures function { (p : ℕ) → unit.new.function ≡ (act unit.old.function (Event.VfWrite p offset value)).function }
     ensures reply { (p : ℕ)
-        → (act unit.old (Event.VfWrite p offset value)).reply ≡ done_or_refused result }
+        → (act unit.old.function (Event.VfWrite p offset value)).reply ≡ done_or_refused result }
     ensures messages { (p : ℕ)
-        → (act unit.old (Event.VfWrite p offset value)).messages ≡ issued result }
-    ensures size { size_of unit.new ≡ size_of unit.old }
+        → (act unit.old.function (Event.VfWrite p offset value)).messages ≡ issued result }
+    ensures accesses { unit.new.accesses ≡ unit.old.accesses }
+    ensures size { size_of unit.new.function ≡ size_of unit.old.function }
 {
     if is_bad_offset(VF_SPACE, offset) {
         return Err(unless_closed(unit, Fault::BadOffset));
@@ -137,9 +141,9 @@ pub(crate) fn vf_write<D: Dma<K>, K>(
 #[inline]
 #[tactic(auto, unfolding(crate::specs::Act::refusal))]
 fn read_refusal<D: Dma<K>, K>(unit: &VfUnit<D, K>, at: u64, count: usize) -> Option<Fault>
-    ensures refusal { (p : ℕ) → refusal unit.now (Event.MemRead p at count) ≡ result }
+    ensures refusal { (p : ℕ) → refusal unit.now.function (Event.MemRead p at count) ≡ result }
     ensures short { IfNone result (count ≤ 2048) }
-    ensures inside { IfNone result (has_range unit.now at count ≡ true) }
+    ensures inside { IfNone result (has_range unit.now.function at count ≡ true) }
 {
     if !unit.is_open() {
         Some(Fault::NotOpen)
@@ -164,9 +168,9 @@ fn passes_end(size: u64, at: u64, count: u64) -> bool
 #[inline]
 #[tactic(auto, unfolding(crate::specs::Act::act))]
 pub(crate) fn find<D: Dma<K>, K>(unit: &VfUnit<D, K>, pool: u8, at: u64, count: u16) -> Outcome
-    ensures function { (act unit.now (Event.MemRead pool at count)).function ≡ unit.now }
-    ensures reply { (act unit.now (Event.MemRead pool at count)).reply ≡ reply_of unit.now result }
-    ensures silent { (act unit.now (Event.MemRead pool at count)).messages ≡ 0 }
+    ensures function { (act unit.now.function (Event.MemRead pool at count)).function ≡ unit.now.function }
+    ensures reply { (act unit.now.function (Event.MemRead pool at count)).reply ≡ reply_of unit.now.function result }
+    ensures silent { (act unit.now.function (Event.MemRead pool at count)).messages ≡ 0 }
     ensures own { IsOf pool result }
 {
     match read_refusal(unit, at, usize::from(count)) {
@@ -180,11 +184,11 @@ pub(crate) fn find<D: Dma<K>, K>(unit: &VfUnit<D, K>, pool: u8, at: u64, count: 
 #[tactic(auto, unfolding(crate::specs::Act::act))]
 pub(crate) fn mem_read<M: GuestMem>(unit: &VfUnit<M>, at: u64, out: &mut [u8]) -> Result<(), Fault>
     ensures function { (p : ℕ)
-        → (act unit.now (Event.MemRead p at (length out.old))).function ≡ unit.now }
+        → (act unit.now.function (Event.MemRead p at (length out.old))).function ≡ unit.now.function }
     ensures reply { (p : ℕ)
-        → (act unit.now (Event.MemRead p at (length out.old))).reply
+        → (act unit.now.function (Event.MemRead p at (length out.old))).reply
         ≡ bytes_or_refused result out.new }
-    ensures silent { (p : ℕ) → (act unit.now (Event.MemRead p at (length out.old))).messages ≡ 0 }
+    ensures silent { (p : ℕ) → (act unit.now.function (Event.MemRead p at (length out.old))).messages ≡ 0 }
     ensures unchanged { OnErr result (out.new ≡ out.old) }
 {
     match read_refusal(unit, at, out.len()) {
@@ -201,32 +205,32 @@ pub(crate) fn mem_read<M: GuestMem>(unit: &VfUnit<M>, at: u64, out: &mut [u8]) -
 #[tactic(auto, unfolding(crate::specs::Act::act, vf_unit::specs::Unit::told_of))]
 pub(crate) fn load<D: Dma<K>, K>(
     unit: &mut VfUnit<D, K>,
-    trace: &mut Trace,
     pool: u8,
     at: u64,
     count: u16,
     out: &mut [u8],
 ) -> Outcome
     requires { bytes_asked (Event.MemRead pool at count) ≤ length out.old }
-    ensures function { unit.new
-        ≡ (act (told_of trace.old.accesses trace.new.accesses unit.old)
+    ensures function { unit.new.function
+        ≡ (act (met_function unit.old unit.new)
         (Event.MemRead pool at count)).function }
-    ensures reply { (act (told_of trace.old.accesses trace.new.accesses unit.old)
-        (Event.MemRead pool at count)).reply ≡ reply_of unit.new result }
-    ensures silent { (act (told_of trace.old.accesses trace.new.accesses unit.old)
+    ensures reply { (act (met_function unit.old unit.new)
+        (Event.MemRead pool at count)).reply ≡ reply_of unit.new.function result }
+    ensures silent { (act (met_function unit.old unit.new)
         (Event.MemRead pool at count)).messages ≡ 0 }
     ensures own { IsOf pool result }
     ensures count { HasCount count result }
-    ensures bytes { Holds out.new unit.new result }
+    ensures bytes { Holds out.new unit.new.function result }
     ensures rest { drop (bytes_told result) out.new ≡ drop (bytes_told result) out.old }
-    ensures size { size_of unit.new ≡ size_of unit.old }
-    ensures traced { IsTraced D.shared
-        (size_of unit.old) trace.old.accesses trace.new.accesses }
+    ensures size { size_of unit.new.function ≡ size_of unit.old.function }
+    ensures met { IsMet D.shared unit.old.function unit.old.accesses unit.new.accesses }
+    ensures listed { unit.new.accesses ≡ unit.old.accesses
+        ++ act_accesses (met_function unit.old unit.new) (Event.MemRead pool at count) }
 {
     match read_refusal(unit, at, usize::from(count)) {
         Some(fault) => Outcome::Refused(fault),
         None => {
-            unit.mem_load(trace, at, &mut out[..usize::from(count)]);
+            unit.mem_load(at, &mut out[..usize::from(count)]);
             Outcome::Bytes(Span::new(pool, at, count))
         }
     }
@@ -241,13 +245,16 @@ pub(crate) fn mem_write<D: Dma<K>, K>(
     written: MemSlice<'_>,
 ) -> Result<(), Fault>
     ensures function { (p : ℕ)
-        → unit.new ≡ (act unit.old (Event.MemWrite p at written.entry.bytes.now)).function }
+        → unit.new.function ≡ (act unit.old.function (Event.MemWrite p at written.entry.bytes.now)).function }
     ensures reply { (p : ℕ)
-        → (act unit.old (Event.MemWrite p at written.entry.bytes.now)).reply
+        → (act unit.old.function (Event.MemWrite p at written.entry.bytes.now)).reply
         ≡ done_or_refused result }
     ensures silent { (p : ℕ)
-        → (act unit.old (Event.MemWrite p at written.entry.bytes.now)).messages ≡ 0 }
-    ensures size { size_of unit.new ≡ size_of unit.old }
+        → (act unit.old.function (Event.MemWrite p at written.entry.bytes.now)).messages ≡ 0 }
+    ensures listed { (p : ℕ)
+        → unit.new.accesses ≡ unit.old.accesses
+        ++ act_accesses unit.old.function (Event.MemWrite p at written.entry.bytes.now) }
+    ensures size { size_of unit.new.function ≡ size_of unit.old.function }
 {
     if unit.mem_write(at, written.bytes()) {
         Ok(())
@@ -261,7 +268,7 @@ pub(crate) fn mem_write<D: Dma<K>, K>(
 #[inline]
 #[tactic(auto, using(crate::proofs::Inside::read_over_zeros, crate::proofs::Inside::read_nowhere))]
 pub fn read_or_zero<M: GuestMem>(unit: &VfUnit<M>, at: u64, out: &mut [u8])
-    ensures { out.new ≡ bytes_at unit.now at (replicate {A = ℕ} (length out.old) 0) }
+    ensures { out.new ≡ bytes_at unit.now.function at (replicate {A = ℕ} (length out.old) 0) }
 {
     if !unit.mem_read(at, out) {
         out.fill(0);
@@ -271,11 +278,11 @@ pub fn read_or_zero<M: GuestMem>(unit: &VfUnit<M>, at: u64, out: &mut [u8])
 /// What an event of its own, but for a service, does to a function. Any other event does nothing to it.
 #[tactic(auto, unfolding(crate::specs::Act::act, crate::specs::Act::refusal))]
 pub fn act<D: Dma<K>, K>(unit: &mut VfUnit<D, K>, request: Request<'_>) -> Acted
-    ensures function { unit.new ≡ (act unit.old (event_of request.entry)).function }
-    ensures reply { reply_of unit.new result.outcome
-        ≡ (act unit.old (event_of request.entry)).reply }
-    ensures messages { result.vectors ≡ (act unit.old (event_of request.entry)).messages }
-    ensures size { size_of unit.new ≡ size_of unit.old }
+    ensures function { unit.new.function ≡ (act unit.old.function (event_of request.entry)).function }
+    ensures reply { reply_of unit.new.function result.outcome
+        ≡ (act unit.old.function (event_of request.entry)).reply }
+    ensures messages { result.vectors ≡ (act unit.old.function (event_of request.entry)).messages }
+    ensures size { size_of unit.new.function ≡ size_of unit.old.function }
 {
     match request {
         Request::Open(_) => Acted::done_or_refused(open(unit)),

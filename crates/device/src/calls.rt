@@ -1,13 +1,13 @@
 //! The calls by name, one for each kind of event, for who embeds a device.
-ghost use Rattle.std.specs.Prelude.{◌≡◌, ◌<◌, ◌≤◌, ℕ, List, drop, length, replicate, slice_set, Some, None, OnErr, ◌≢◌, if◌then◌else◌};
+ghost use Rattle.std.specs.Prelude.{◌≡◌, ◌<◌, ◌≤◌, ℕ, List, drop, length, replicate, slice_set, Some, None, OnErr, if◌then◌else◌};
 ghost use Rattle.irq_causes.specs.Messages.{no_messages};
-ghost use Rattle.live_memory.specs.Traces.{trace_of};
 ghost use Rattle.vf_unit.specs.Unit.{bytes_at};
 ghost use Rattle.device.specs.declared.event.Event.{Event};
 ghost use Rattle.device.specs.declared.event.Reply.{Reply};
 ghost use Rattle.device.specs.declared.span.Span.{Span};
 ghost use Rattle.device.specs.World.{silently, function_of, with_function, step, sizes_of};
-ghost use Rattle.device.specs.Live.{told_world, told_service, TakesLive, AreTraced};
+ghost use Rattle.device.specs.Accesses.{accesses_by, own_service_accesses};
+ghost use Rattle.device.specs.Live.{told_world, told_service, TakesLive, AreListed, AreMet};
 ghost use Rattle.device.specs.Replies.{is_sent};
 ghost use Rattle.device.specs.Takes.{Takes};
 ghost use Rattle.device.specs.Outcome.{reply_by, done_or_refused, value_or_refused, bytes_or_refused, messages_or_refused, reply_in, bytes_asked, bytes_told, HasCount, HoldsIn};
@@ -24,7 +24,7 @@ use crate::span::Span;
 use crate::switching::end_all;
 use guest_memory::GuestMem;
 use irq_causes::{Messages, Vectors};
-use live_memory::{Dma, Step, Touch, Traces};
+use live_memory::Dma;
 use local_switch::Source;
 use pool_filter::PoolRules;
 use vf_unit::Queue;
@@ -37,10 +37,11 @@ impl<D: Dma<K>, K> Device<D, K> {
     /// [`Fault::NoSuchVf`], then [`Fault::AlreadyOpen`].
     #[inline(never)]
     pub fn open(&mut self, pool: u8) -> Result<(), Fault>
-        ensures world { self.new ≡ (step self.old (Event.Open pool)).world }
+        ensures world { self.new.world ≡ (step self.old.world (Event.Open pool)).world }
         ensures answer { silently (done_or_refused result)
-            ≡ (step self.old (Event.Open pool)).answer }
-        ensures sizes { sizes_of self.new ≡ sizes_of self.old }
+            ≡ (step self.old.world (Event.Open pool)).answer }
+        ensures accesses { self.new.accesses ≡ self.old.accesses }
+        ensures sizes { sizes_of self.new.world ≡ sizes_of self.old.world }
     {
         let index = usize::from(pool);
         if index >= self.units.len() {
@@ -54,10 +55,11 @@ impl<D: Dma<K>, K> Device<D, K> {
     /// [`Fault::NoSuchVf`], then [`Fault::NotOpen`].
     #[inline(never)]
     pub fn end(&mut self, pool: u8) -> Result<(), Fault>
-        ensures world { self.new ≡ (step self.old (Event.End pool)).world }
+        ensures world { self.new.world ≡ (step self.old.world (Event.End pool)).world }
         ensures answer { silently (done_or_refused result)
-            ≡ (step self.old (Event.End pool)).answer }
-        ensures sizes { sizes_of self.new ≡ sizes_of self.old }
+            ≡ (step self.old.world (Event.End pool)).answer }
+        ensures accesses { self.new.accesses ≡ self.old.accesses }
+        ensures sizes { sizes_of self.new.world ≡ sizes_of self.old.world }
     {
         let index = usize::from(pool);
         if index >= self.units.len() {
@@ -72,10 +74,11 @@ impl<D: Dma<K>, K> Device<D, K> {
     /// [`Fault::NoSuchVf`], then [`Fault::NotOpen`].
     #[inline(never)]
     pub fn flr(&mut self, pool: u8) -> Result<(), Fault>
-        ensures world { self.new ≡ (step self.old (Event.Flr pool)).world }
+        ensures world { self.new.world ≡ (step self.old.world (Event.Flr pool)).world }
         ensures answer { silently (done_or_refused result)
-            ≡ (step self.old (Event.Flr pool)).answer }
-        ensures sizes { sizes_of self.new ≡ sizes_of self.old }
+            ≡ (step self.old.world (Event.Flr pool)).answer }
+        ensures accesses { self.new.accesses ≡ self.old.accesses }
+        ensures sizes { sizes_of self.new.world ≡ sizes_of self.old.world }
     {
         let index = usize::from(pool);
         if index >= self.units.len() {
@@ -94,10 +97,11 @@ impl<D: Dma<K>, K> Device<D, K> {
     /// below 0x4000.
     #[inline]
     pub fn vf_read(&mut self, pool: u8, offset: u32) -> Result<u32, Fault>
-        ensures world { self.new ≡ (step self.old (Event.VfRead pool offset)).world }
+        ensures world { self.new.world ≡ (step self.old.world (Event.VfRead pool offset)).world }
         ensures answer { silently (value_or_refused result)
-            ≡ (step self.old (Event.VfRead pool offset)).answer }
-        ensures sizes { sizes_of self.new ≡ sizes_of self.old }
+            ≡ (step self.old.world (Event.VfRead pool offset)).answer }
+        ensures accesses { self.new.accesses ≡ self.old.accesses }
+        ensures sizes { sizes_of self.new.world ≡ sizes_of self.old.world }
     {
         let index = usize::from(pool);
         if index >= self.units.len() {
@@ -112,10 +116,11 @@ impl<D: Dma<K>, K> Device<D, K> {
     /// Refused as [`vf_read`](Device::vf_read) is.
     #[inline]
     pub fn vf_write(&mut self, pool: u8, offset: u32, value: u32) -> Result<Messages, Fault>
-        ensures world { self.new ≡ (step self.old (Event.VfWrite pool offset value)).world }
+        ensures world { self.new.world ≡ (step self.old.world (Event.VfWrite pool offset value)).world }
         ensures answer { messages_or_refused result
-            ≡ (step self.old (Event.VfWrite pool offset value)).answer }
-        ensures sizes { sizes_of self.new ≡ sizes_of self.old }
+            ≡ (step self.old.world (Event.VfWrite pool offset value)).answer }
+        ensures accesses { self.new.accesses ≡ self.old.accesses }
+        ensures sizes { sizes_of self.new.world ≡ sizes_of self.old.world }
     {
         let index = usize::from(pool);
         if index >= self.units.len() {
@@ -132,11 +137,15 @@ impl<D: Dma<K>, K> Device<D, K> {
     /// [`Fault::NoSuchVf`], then [`Fault::NotOpen`], then [`Fault::BadRange`] where they pass the end of the memory.
     #[inline]
     pub fn mem_write(&mut self, pool: u8, at: u64, written: MemSlice<'_>) -> Result<(), Fault>
-        ensures world { self.new
-            ≡ (step self.old (Event.MemWrite pool at written.entry.bytes.now)).world }
+        ensures world { self.new.world
+            ≡ (step self.old.world (Event.MemWrite pool at written.entry.bytes.now)).world }
         ensures answer { silently (done_or_refused result)
-            ≡ (step self.old (Event.MemWrite pool at written.entry.bytes.now)).answer }
-        ensures sizes { sizes_of self.new ≡ sizes_of self.old }
+            ≡ (step self.old.world (Event.MemWrite pool at written.entry.bytes.now)).answer }
+        ensures listed { AreListed
+            (accesses_by self.old.world (Event.MemWrite pool at written.entry.bytes.now))
+            self.old.accesses self.new.accesses }
+        ensures met { AreMet D.shared self.old.accesses self.new.accesses self.old.world }
+        ensures sizes { sizes_of self.new.world ≡ sizes_of self.old.world }
     {
         let index = usize::from(pool);
         if index >= self.units.len() {
@@ -148,9 +157,9 @@ impl<D: Dma<K>, K> Device<D, K> {
     // Finds the bytes of a guest's memory that an event reads.
     #[inline]
     pub(crate) fn find(&self, pool: u8, at: u64, count: u16) -> Outcome
-        ensures world { self.now ≡ (step self.now (Event.MemRead pool at count)).world }
-        ensures answer { silently (reply_in self.now result)
-            ≡ (step self.now (Event.MemRead pool at count)).answer }
+        ensures world { self.now.world ≡ (step self.now.world (Event.MemRead pool at count)).world }
+        ensures answer { silently (reply_in self.now.world result)
+            ≡ (step self.now.world (Event.MemRead pool at count)).answer }
     {
         let index = usize::from(pool);
         if index >= self.units.len() {
@@ -159,81 +168,78 @@ impl<D: Dma<K>, K> Device<D, K> {
         act::find(&self.units[index], pool, at, count)
     }
 
-    /// Reads bytes of a guest's memory once, into the first cells of `out`, where others may write it meanwhile: what it answers is
-    /// kept in the traces. The other cells stay, and all of them where it is refused. More than 2048 bytes are refused, and else
+    /// Reads bytes of a guest's memory once, into the first cells of `out`, where others may write it meanwhile.
+    /// The other cells stay, and all of them where it is refused. More than 2048 bytes are refused, and else
     /// `out` has as many cells.
     #[inline]
     pub fn mem_read_live<'f>(
         &mut self,
-        traces: &mut Traces,
         pool: u8,
         at: u64,
         count: u16,
         out: &mut [u8],
     ) -> Response<'f>
         requires { bytes_asked (Event.MemRead pool at count) ≤ length out.old }
-        ensures takes { TakesLive D.shared traces.old.touches traces.new.touches
-            self.old (Event.MemRead pool at count) self.new result }
+        ensures takes { TakesLive D.shared self.old.accesses self.new.accesses
+            self.old.world (Event.MemRead pool at count) self.new.world result }
+        ensures listed { AreListed
+            (accesses_by (told_world self.old.accesses self.new.accesses self.old.world)
+            (Event.MemRead pool at count)) self.old.accesses self.new.accesses }
         ensures count { HasCount count result.outcome }
-        ensures bytes { HoldsIn out.new self.new result.outcome }
+        ensures bytes { HoldsIn out.new self.new.world result.outcome }
         ensures rest { drop (bytes_told result.outcome) out.new
             ≡ drop (bytes_told result.outcome) out.old }
     {
-        Response::silent(self.load(traces, pool, at, count, out))
+        Response::silent(self.load(pool, at, count, out))
     }
 
     // The same, told as an outcome.
     #[inline]
-    fn load(
-        &mut self,
-        traces: &mut Traces,
-        pool: u8,
-        at: u64,
-        count: u16,
-        out: &mut [u8],
-    ) -> Outcome
+    fn load(&mut self, pool: u8, at: u64, count: u16, out: &mut [u8]) -> Outcome
         requires { bytes_asked (Event.MemRead pool at count) ≤ length out.old }
-        ensures world { self.new
-            ≡ (step (told_world traces.old.touches traces.new.touches self.old)
+        ensures world { self.new.world
+            ≡ (step (told_world self.old.accesses self.new.accesses self.old.world)
             (Event.MemRead pool at count)).world }
-        ensures answer { silently (reply_in self.new result)
-            ≡ (step (told_world traces.old.touches traces.new.touches self.old)
+        ensures answer { silently (reply_in self.new.world result)
+            ≡ (step (told_world self.old.accesses self.new.accesses self.old.world)
             (Event.MemRead pool at count)).answer }
+        ensures listed { AreListed
+            (accesses_by (told_world self.old.accesses self.new.accesses self.old.world)
+            (Event.MemRead pool at count)) self.old.accesses self.new.accesses }
         ensures count { HasCount count result }
-        ensures bytes { HoldsIn out.new self.new result }
+        ensures bytes { HoldsIn out.new self.new.world result }
         ensures rest { drop (bytes_told result) out.new ≡ drop (bytes_told result) out.old }
-        ensures traced { AreTraced D.shared traces.old.touches traces.new.touches self.old }
-        ensures sizes { sizes_of self.new ≡ sizes_of self.old }
+        ensures met { AreMet D.shared self.old.accesses self.new.accesses self.old.world }
+        ensures sizes { sizes_of self.new.world ≡ sizes_of self.old.world }
     {
         let index = usize::from(pool);
         if index >= self.units.len() {
             return Outcome::Refused(Fault::NoSuchVf);
         }
-        let mut trace = Step::Begin.trace();
-        let outcome = act::load(&mut self.units[index], &mut trace, pool, at, count, out);
-        *traces = Touch::Of(traces, pool, &trace).traces();
-        outcome
+        act::load(&mut self.units[index], pool, at, count, out)
     }
 
     /// Takes the descriptor at the head of a transmit queue, as [`serve`](Device::serve) does, where others may write the
-    /// memories meanwhile: what they answer is kept in the traces.
+    /// memories meanwhile.
     #[inline(never)]
     pub fn serve_live<'f>(
         &mut self,
-        traces: &mut Traces,
         pool: u8,
         queue: Queue,
         frame: &'f mut FrameBuf,
     ) -> Response<'f>
-        ensures { TakesLive D.shared traces.old.touches traces.new.touches
-            self.old (Event.Serve pool queue) self.new result }
+        ensures takes { TakesLive D.shared self.old.accesses self.new.accesses
+            self.old.world (Event.Serve pool queue) self.new.world result }
+        ensures listed { AreListed
+            (accesses_by (told_world self.old.accesses self.new.accesses self.old.world)
+            (Event.Serve pool queue)) self.old.accesses self.new.accesses }
     {
         let index = usize::from(pool);
         if index >= self.units.len() {
             return Response::silent(Outcome::Refused(Fault::NoSuchVf));
         }
         match PoolId::new(pool) {
-            Some(sender) => self.serve_pool(traces, sender, queue, frame),
+            Some(sender) => self.serve_pool(sender, queue, frame),
             None => unreachable!(),
         }
     }
@@ -241,16 +247,18 @@ impl<D: Dma<K>, K> Device<D, K> {
     // The service of a queue of a function that is there.
     fn serve_pool<'f>(
         &mut self,
-        traces: &mut Traces,
         pool: PoolId,
         queue: Queue,
         frame: &'f mut FrameBuf,
     ) -> Response<'f>
-        requires there { pool < length self.old.functions }
-        ensures { TakesLive D.shared traces.old.touches traces.new.touches
-            self.old (Event.Serve pool queue) self.new result }
+        requires there { pool < length self.old.world.functions }
+        ensures takes { TakesLive D.shared self.old.accesses self.new.accesses
+            self.old.world (Event.Serve pool queue) self.new.world result }
+        ensures listed { AreListed
+            (accesses_by (told_world self.old.accesses self.new.accesses self.old.world)
+            (Event.Serve pool queue)) self.old.accesses self.new.accesses }
     {
-        let acted = self.transmit(traces, pool, queue, frame);
+        let acted = self.transmit(pool, queue, frame);
         if !acted.outcome.is_sent() {
             return Response {
                 outcome: acted.outcome,
@@ -260,7 +268,7 @@ impl<D: Dma<K>, K> Device<D, K> {
             };
         }
         let frame: &'f FrameBuf = frame;
-        let switched = self.switch(traces, Source::Pool(pool), frame);
+        let switched = self.switch(Source::Pool(pool), frame);
         let mut messages = switched.messages;
         messages.set(pool, acted.vectors);
         Response {
@@ -272,29 +280,24 @@ impl<D: Dma<K>, K> Device<D, K> {
     }
 
     // The service of a queue of a function that is there, but for the switching of a frame that is sent.
-    fn transmit(
-        &mut self,
-        traces: &mut Traces,
-        pool: PoolId,
-        queue: Queue,
-        frame: &mut FrameBuf,
-    ) -> Acted
-        requires there { pool < length self.old.functions }
-        ensures world { self.new
-            ≡ with_function self.old pool
-            (told_service traces.old.touches traces.new.touches self.old pool queue).function }
-        ensures sizes { sizes_of self.new ≡ sizes_of self.old }
+    fn transmit(&mut self, pool: PoolId, queue: Queue, frame: &mut FrameBuf) -> Acted
+        requires there { pool < length self.old.world.functions }
+        ensures world { self.new.world
+            ≡ with_function self.old.world pool
+            (told_service self.old.accesses self.new.accesses self.old.world pool queue).function }
+        ensures sizes { sizes_of self.new.world ≡ sizes_of self.old.world }
         ensures reply { (bytes : Span → List ℕ)
             → reply_by bytes result.outcome
-            ≡ (told_service traces.old.touches traces.new.touches self.old pool queue).reply }
+            ≡ (told_service self.old.accesses self.new.accesses self.old.world pool queue).reply }
         ensures messages { result.vectors
-            ≡ (told_service traces.old.touches traces.new.touches self.old pool queue).messages }
-        ensures sent { (told_service traces.old.touches traces.new.touches self.old pool queue).sent
+            ≡ (told_service self.old.accesses self.new.accesses self.old.world pool queue).messages }
+        ensures sent { (told_service self.old.accesses self.new.accesses self.old.world pool queue).sent
             ≡ (if is_sent result.outcome then Some frame.new else None) }
-        ensures traced { AreTraced D.shared traces.old.touches traces.new.touches self.old }
+        ensures met { AreMet D.shared self.old.accesses self.new.accesses self.old.world }
         ensures below { pool < 64 }
-        ensures others { (r : ℕ) → r ≢ pool
-            → trace_of traces.new.touches r ≡ trace_of traces.old.touches r }
+        ensures listed { AreListed (own_service_accesses
+            (told_world self.old.accesses self.new.accesses self.old.world) pool queue)
+            self.old.accesses self.new.accesses }
     {
         let rules = PoolRules {
             tables: &self.tables,
@@ -302,10 +305,7 @@ impl<D: Dma<K>, K> Device<D, K> {
         };
         let index = usize::from(pool.get());
         let unit = &mut self.units[index];
-        let mut trace = Step::Begin.trace();
-        let acted = serve_queue_live(&rules, self.limit, unit, &mut trace, queue, frame);
-        *traces = Touch::Of(traces, pool.get(), &trace).traces();
-        acted
+        serve_queue_live(&rules, self.limit, unit, queue, frame)
     }
 
     /// Reads the register of the physical function at an offset in bytes. An offset that no register has reads 0.
@@ -313,9 +313,9 @@ impl<D: Dma<K>, K> Device<D, K> {
     /// [`Fault::BadOffset`] where the offset is no multiple of 4 or not below 0x20000.
     #[inline(never)]
     pub fn pf_read(&self, offset: u32) -> Result<u32, Fault>
-        ensures world { self.now ≡ (step self.now (Event.PfRead offset)).world }
+        ensures world { self.now.world ≡ (step self.now.world (Event.PfRead offset)).world }
         ensures answer { silently (value_or_refused result)
-            ≡ (step self.now (Event.PfRead offset)).answer }
+            ≡ (step self.now.world (Event.PfRead offset)).answer }
     {
         if is_bad_offset(PF_SPACE, offset) {
             return Err(Fault::BadOffset);
@@ -332,10 +332,11 @@ impl<D: Dma<K>, K> Device<D, K> {
     /// Refused as [`pf_read`](Device::pf_read) is.
     #[inline(never)]
     pub fn pf_write(&mut self, offset: u32, value: u32) -> Result<(), Fault>
-        ensures world { self.new ≡ (step self.old (Event.PfWrite offset value)).world }
+        ensures world { self.new.world ≡ (step self.old.world (Event.PfWrite offset value)).world }
         ensures answer { silently (done_or_refused result)
-            ≡ (step self.old (Event.PfWrite offset value)).answer }
-        ensures sizes { sizes_of self.new ≡ sizes_of self.old }
+            ≡ (step self.old.world (Event.PfWrite offset value)).answer }
+        ensures accesses { self.new.accesses ≡ self.old.accesses }
+        ensures sizes { sizes_of self.new.world ≡ sizes_of self.old.world }
     {
         if is_bad_offset(PF_SPACE, offset) {
             return Err(Fault::BadOffset);
@@ -348,32 +349,35 @@ impl<D: Dma<K>, K> Device<D, K> {
     /// Resets the device: every virtual function is closed and every setting initial. The frames that went out stay.
     #[inline(never)]
     pub fn reset(&mut self)
-        ensures world { self.new ≡ (step self.old Event.PfReset).world }
-        ensures answer { silently Reply.Done ≡ (step self.old Event.PfReset).answer }
-        ensures sizes { sizes_of self.new ≡ sizes_of self.old }
+        ensures world { self.new.world ≡ (step self.old.world Event.PfReset).world }
+        ensures answer { silently Reply.Done ≡ (step self.old.world Event.PfReset).answer }
+        ensures accesses { self.new.accesses ≡ self.old.accesses }
+        ensures sizes { sizes_of self.new.world ≡ sizes_of self.old.world }
     {
         end_all(&mut self.units);
         self.tables.clear();
         self.resets = 0;
     }
 
-    /// Takes a frame from the wire, as [`wire`](Device::wire) does, where others may write the memories meanwhile: what they
-    /// answer is kept in the traces.
+    /// Takes a frame from the wire, as [`wire`](Device::wire) does, where others may write the memories meanwhile.
     #[inline]
-    pub fn wire_live(&mut self, traces: &mut Traces, frame: &FrameBuf) -> Result<Messages, Fault>
-        ensures world { self.new
-            ≡ (step (told_world traces.old.touches traces.new.touches self.old)
+    pub fn wire_live(&mut self, frame: &FrameBuf) -> Result<Messages, Fault>
+        ensures world { self.new.world
+            ≡ (step (told_world self.old.accesses self.new.accesses self.old.world)
             (Event.Wire frame.now)).world }
         ensures answer { messages_or_refused result
-            ≡ (step (told_world traces.old.touches traces.new.touches self.old)
+            ≡ (step (told_world self.old.accesses self.new.accesses self.old.world)
             (Event.Wire frame.now)).answer }
-        ensures sizes { sizes_of self.new ≡ sizes_of self.old }
-        ensures traced { AreTraced D.shared traces.old.touches traces.new.touches self.old }
+        ensures listed { AreListed
+            (accesses_by (told_world self.old.accesses self.new.accesses self.old.world)
+            (Event.Wire frame.now)) self.old.accesses self.new.accesses }
+        ensures sizes { sizes_of self.new.world ≡ sizes_of self.old.world }
+        ensures met { AreMet D.shared self.old.accesses self.new.accesses self.old.world }
     {
         if frame.bytes().len() > usize::from(self.limit.get()) {
             return Err(Fault::BadFrame);
         }
-        Ok(self.switch(traces, Source::Wire, frame).messages)
+        Ok(self.switch(Source::Wire, frame).messages)
     }
 }
 
@@ -385,9 +389,9 @@ impl<M: GuestMem> Device<M> {
     /// [`Fault::BadRange`] where they pass the end of the memory.
     #[inline]
     pub fn mem_read(&self, pool: u8, at: u64, out: &mut [u8]) -> Result<(), Fault>
-        ensures world { self.now ≡ (step self.now (Event.MemRead pool at (length out.old))).world }
+        ensures world { self.now.world ≡ (step self.now.world (Event.MemRead pool at (length out.old))).world }
         ensures answer { silently (bytes_or_refused result out.new)
-            ≡ (step self.now (Event.MemRead pool at (length out.old))).answer }
+            ≡ (step self.now.world (Event.MemRead pool at (length out.old))).answer }
         ensures unchanged { OnErr result (out.new ≡ out.old) }
     {
         let index = usize::from(pool);
@@ -403,7 +407,7 @@ impl<M: GuestMem> Device<M> {
     #[tactic(auto, using(crate::proofs::Inside::read_missing))]
     pub fn read_span(&self, span: Span, out: &mut [u8])
         ensures { out.new
-            ≡ bytes_at (function_of span.pool self.now) span.at
+            ≡ bytes_at (function_of span.pool self.now.world) span.at
             (replicate {A = ℕ} (length out.old) 0) }
     {
         let index = usize::from(span.pool());
@@ -421,9 +425,9 @@ impl<M: GuestMem> Device<M> {
     /// faulted.
     #[inline]
     pub fn serve<'f>(&mut self, pool: u8, queue: Queue, frame: &'f mut FrameBuf) -> Response<'f>
-        ensures { Takes self.old (Event.Serve pool queue) self.new result }
+        ensures { Takes self.old.world (Event.Serve pool queue) self.new.world result }
     {
-        self.serve_live(&mut Touch::None.traces(), pool, queue, frame)
+        self.serve_live(pool, queue, frame)
     }
 
     /// Takes a frame from the wire, which goes to each pool that accepts it, and else to the default pool; answers with the
@@ -432,12 +436,12 @@ impl<M: GuestMem> Device<M> {
     /// [`Fault::BadFrame`] where the frame is longer than the device takes.
     #[inline]
     pub fn wire(&mut self, frame: &FrameBuf) -> Result<Messages, Fault>
-        ensures world { self.new ≡ (step self.old (Event.Wire frame.now)).world }
+        ensures world { self.new.world ≡ (step self.old.world (Event.Wire frame.now)).world }
         ensures answer { messages_or_refused result
-            ≡ (step self.old (Event.Wire frame.now)).answer }
-        ensures sizes { sizes_of self.new ≡ sizes_of self.old }
+            ≡ (step self.old.world (Event.Wire frame.now)).answer }
+        ensures sizes { sizes_of self.new.world ≡ sizes_of self.old.world }
     {
-        self.wire_live(&mut Touch::None.traces(), frame)
+        self.wire_live(frame)
     }
 }
 

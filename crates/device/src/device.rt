@@ -1,7 +1,8 @@
 //! The device: how it is made, and what it shows.
-ghost use Rattle.std.specs.Prelude.{◌≡◌, ◌<◌, ◌≤◌, ◌&&◌, true, false, length, replicate, map, slice_get, option_copied, IfOk, IfErr};
+ghost use Rattle.std.specs.Prelude.{◌≡◌, ℕ, [], ◌<◌, ◌≤◌, ◌&&◌, true, false, length, replicate, map, slice_get, option_copied, IfOk, IfErr};
 ghost use Rattle.pool_filter.specs.Settings.{initial_settings};
 ghost use Rattle.vf_unit.specs.Unit.{Closed, size_of, bytes_at};
+ghost use Rattle.device.specs.Live.{trace_of};
 ghost use Rattle.device.specs.World.{fresh, is_frame_limit, is_makeable, function_of};
 
 use crate::span::Span;
@@ -27,17 +28,20 @@ pub struct Device<D: Dma<K>, K = Alone> {
 }
 
 impl<D: Dma<K>, K> Model for Device<D, K> {
-    ghost use Rattle.std.specs.Prelude.{length, ◌≤◌};
-    ghost use Rattle.device.specs.World.{World};
+    ghost use Rattle.std.specs.Prelude.{map, length, ◌≤◌};
+    ghost use Rattle.device.specs.Live.{TracedWorld};
 
-    ghost Value = { World };
+    ghost Value = { TracedWorld };
 
     ghost view = { λ d. record {
-      limit = d.limit;
-      settings = d.tables.value;
-      resets = d.resets;
-      functions = d.units.items;
-      wire = d.wire;
+      world = record {
+        limit = d.limit;
+        settings = d.tables.value;
+        resets = d.resets;
+        functions = map (λ u. u.function) d.units.items;
+        wire = d.wire;
+      };
+      accesses = map (λ u. u.accesses) d.units.items;
     } };
 
     ghost invariant = { λ d. length d.units.items ≤ 64 };
@@ -58,7 +62,8 @@ impl<D: Dma<K>, K> Device<D, K> {
     /// ```
     pub fn new(alloc: Global, memories: Vec<D>) -> Result<Device<D, K>, Fault>
         ensures ok { IfOk result
-            (λ d. d ≡ fresh 1518 (map (λ m. length (D.seen m)) memories.items)) }
+            (λ d. d.world ≡ fresh 1518 (map (λ m. length (D.seen m)) memories.items)) }
+        ensures untouched { IfOk result (λ d. (p : ℕ) → trace_of d.accesses p ≡ []) }
         ensures bad_make { is_makeable (map (λ m. length (D.seen m)) memories.items) ≡ false
             → result ≡ Err Fault.BadMake }
         ensures no_memory { IfErr result
@@ -72,7 +77,8 @@ impl<D: Dma<K>, K> Device<D, K> {
     #[inline(never)]
     pub fn with_limit(alloc: Global, memories: Vec<D>, limit: u16) -> Result<Device<D, K>, Fault>
         ensures ok { IfOk result
-            (λ d. d ≡ fresh limit (map (λ m. length (D.seen m)) memories.items)) }
+            (λ d. d.world ≡ fresh limit (map (λ m. length (D.seen m)) memories.items)) }
+        ensures untouched { IfOk result (λ d. (p : ℕ) → trace_of d.accesses p ≡ []) }
         ensures bad_make { (is_frame_limit limit && is_makeable
             (map (λ m. length (D.seen m)) memories.items)) ≡ false → result ≡ Err Fault.BadMake }
         ensures no_memory { IfErr result
@@ -90,7 +96,8 @@ impl<D: Dma<K>, K> Device<D, K> {
     #[inline(never)]
     fn make(alloc: Global, memories: Vec<D>, limit: FrameLimit) -> Result<Device<D, K>, Fault>
         ensures ok { IfOk result
-            (λ d. d ≡ fresh limit (map (λ m. length (D.seen m)) memories.items)) }
+            (λ d. d.world ≡ fresh limit (map (λ m. length (D.seen m)) memories.items)) }
+        ensures untouched { IfOk result (λ d. (p : ℕ) → trace_of d.accesses p ≡ []) }
         ensures bad_make { is_makeable (map (λ m. length (D.seen m)) memories.items) ≡ false
             → result ≡ Err Fault.BadMake }
         ensures no_memory { IfErr result
@@ -114,44 +121,44 @@ impl<D: Dma<K>, K> Device<D, K> {
 
     /// How many virtual functions there are, at most 64.
     pub fn functions(&self) -> usize
-        ensures count { result ≡ length self.now.functions }
-        ensures few { length self.now.functions ≤ 64 }
+        ensures count { result ≡ length self.now.world.functions }
+        ensures few { length self.now.world.functions ≤ 64 }
     {
         self.units.len()
     }
 
     /// How long the frames may be that it takes, in bytes.
     pub fn limit(&self) -> FrameLimit
-        ensures { result ≡ self.now.limit }
+        ensures { result ≡ self.now.world.limit }
     {
         self.limit
     }
 
     /// The size of the memory of a virtual function that is there, in bytes.
     pub fn memory_size(&self, pool: usize) -> u64
-        requires { pool < length self.now.functions }
-        ensures { result ≡ size_of (function_of pool self.now) }
+        requires { pool < length self.now.world.functions }
+        ensures { result ≡ size_of (function_of pool self.now.world) }
     {
         self.units[pool].memory_size()
     }
 
     /// How many frames are kept of those that went to the wire, at most 1024.
     pub fn wire_len(&self) -> usize
-        ensures { result ≡ length self.now.wire }
+        ensures { result ≡ length self.now.world.wire }
     {
         self.wire.len()
     }
 
     /// One of the frames that went to the wire, counted from the oldest that is kept.
     pub fn wire_at(&self, index: usize) -> Option<&FrameBuf>
-        ensures { option_copied result ≡ slice_get self.now.wire index }
+        ensures { option_copied result ≡ slice_get self.now.world.wire index }
     {
         self.wire.at(index)
     }
 
     /// The settings of the physical function.
     pub fn tables(&self) -> &Tables
-        ensures { result.now ≡ self.now.settings }
+        ensures { result.now ≡ self.now.world.settings }
     {
         &self.tables
     }
@@ -186,7 +193,8 @@ fn first_tables(alloc: Global) -> Result<Box<Tables>, Fault>
 // A closed function over each of the memories. The error comes only where the host refused the room.
 fn close_all<D: Dma<K>, K>(alloc: Global, memories: Vec<D>) -> Result<Vec<VfUnit<D, K>>, AllocError>
     ensures { IfOk result
-        (λ units. units.items ≡ map (λ m. Closed (length (D.seen m))) memories.items) }
+        (λ units. units.items
+        ≡ map (λ m. record { function = Closed (length (D.seen m)); accesses = [] }) memories.items) }
 {
     let mut units = Vec::with_capacity(alloc, memories.len())?;
     for memory in memories {

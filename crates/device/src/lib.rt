@@ -5,15 +5,18 @@
 //! Its meaning is the world of `specs/`, over [`Event`]s and [`Answer`]s, and each event that it takes keeps the isolation
 //! law: each virtual function sees what a lone function would see that is given only its own events, its own settings and
 //! the frames that its filters accept. [`Device::run`] promises so of every list of events, and [`laws`] of a device as it
-//! is made. [`act::act`] and [`serve_queue`] are what an event does to one function by itself; the device does the same, and so
-//! may whoever has a function without a device. The crate stands on `vf_unit`, `local_switch` and `anti_spoof`; no call takes
-//! memory but the makers and [`Device::run`], which takes it before its first step.
+//! is made. Where the settings keep a group of functions apart, [`erased`] promises that no other function can tell whether
+//! the group's own events were left out. [`act::act`] and [`serve_queue`] are what an event does to one function by itself;
+//! the device does the same, and so may whoever has a function without a device. The crate stands on `vf_unit`,
+//! `local_switch` and `anti_spoof`; no call takes memory but the makers and [`Device::run`], which takes it before its first
+//! step.
 #![tactic(auto)]
 
 pub mod act;
 pub mod bytes;
 mod calls;
 pub mod device;
+pub mod erased;
 pub mod event;
 pub mod laws;
 mod outcome;

@@ -1,16 +1,15 @@
 //! The service of a function's transmit queue, by the function's own settings alone.
-ghost use Rattle.std.specs.Prelude.{◌≡◌, ℕ, List, Some, None, if◌then◌else◌};
-ghost use Rattle.live_memory.specs.Trace.{IsTraced};
-ghost use Rattle.vf_unit.specs.Unit.{size_of, told_of};
+ghost use Rattle.std.specs.Prelude.{◌≡◌, ◌++◌, ℕ, List, Some, None, if◌then◌else◌};
+ghost use Rattle.vf_unit.specs.Unit.{size_of, met_function, IsMet};
 ghost use Rattle.device.specs.declared.span.Span.{Span};
-ghost use Rattle.device.specs.Act.{serve};
+ghost use Rattle.device.specs.Act.{serve, serve_accesses};
 ghost use Rattle.device.specs.Replies.{is_sent};
 ghost use Rattle.device.specs.Outcome.{reply_by};
 
 use crate::outcome::{Acted, Outcome};
 use anti_spoof::passes_anti_spoof;
 use guest_memory::GuestMem;
-use live_memory::{Dma, Step, Trace};
+use live_memory::Dma;
 use pool_filter::SenderRules;
 use tx_desc::Progress;
 use vf_unit::{Queue, VfUnit};
@@ -18,7 +17,7 @@ use wire_frame::{Fault, FrameBuf, FrameLimit};
 
 /// Serves a queue of a function, by the function's own settings alone: takes the descriptor at the queue's head (82599
 /// datasheet, transmit descriptors). A frame that is sent is left in `frame`, up to `limit` bytes of it.
-#[tactic(auto, using(vf_unit::proofs::Told::told_alone))]
+#[tactic(auto, using(vf_unit::proofs::Told::met_alone))]
 pub fn serve_queue<R: SenderRules, M: GuestMem>(
     rules: &R,
     limit: FrameLimit,
@@ -26,42 +25,42 @@ pub fn serve_queue<R: SenderRules, M: GuestMem>(
     queue: Queue,
     frame: &mut FrameBuf,
 ) -> Acted
-    ensures function { unit.new ≡ (serve limit (R.rules rules.now) unit.old queue).function }
+    ensures function { unit.new.function ≡ (serve limit (R.rules rules.now) unit.old.function queue).function }
     ensures reply { (bytes : Span → List ℕ)
-        → reply_by bytes result.outcome ≡ (serve limit (R.rules rules.now) unit.old queue).reply }
-    ensures messages { result.vectors ≡ (serve limit (R.rules rules.now) unit.old queue).messages }
-    ensures sent { (serve limit (R.rules rules.now) unit.old queue).sent
+        → reply_by bytes result.outcome ≡ (serve limit (R.rules rules.now) unit.old.function queue).reply }
+    ensures messages { result.vectors ≡ (serve limit (R.rules rules.now) unit.old.function queue).messages }
+    ensures sent { (serve limit (R.rules rules.now) unit.old.function queue).sent
         ≡ (if is_sent result.outcome then Some frame.new else None) }
-    ensures size { size_of unit.new ≡ size_of unit.old }
+    ensures size { size_of unit.new.function ≡ size_of unit.old.function }
 {
-    serve_queue_live(rules, limit, unit, &mut Step::Begin.trace(), queue, frame)
+    serve_queue_live(rules, limit, unit, queue, frame)
 }
 
 /// Serves a queue of a function, by the function's own settings alone: takes the descriptor at the queue's head (82599
-/// datasheet, transmit descriptors). A frame that is sent is left in `frame`, up to `limit` bytes of it. What the memory answers
-/// meanwhile is kept in the trace, where others write it.
+/// datasheet, transmit descriptors). A frame that is sent is left in `frame`, up to `limit` bytes of it. Others may write
+/// the memory meanwhile.
 #[tactic(auto, unfolding(crate::specs::Act::serve), using(vf_unit::proofs::Told::told_nothing, vf_unit::proofs::Told::open_told))]
 pub(crate) fn serve_queue_live<R: SenderRules, D: Dma<K>, K>(
     rules: &R,
     limit: FrameLimit,
     unit: &mut VfUnit<D, K>,
-    trace: &mut Trace,
     queue: Queue,
     frame: &mut FrameBuf,
 ) -> Acted
-    ensures function { unit.new ≡ (serve limit (R.rules rules.now)
-        (told_of trace.old.accesses trace.new.accesses unit.old) queue).function }
+    ensures function { unit.new.function ≡ (serve limit (R.rules rules.now)
+        (met_function unit.old unit.new) queue).function }
     ensures reply { (bytes : Span → List ℕ)
         → reply_by bytes result.outcome ≡ (serve limit (R.rules rules.now)
-        (told_of trace.old.accesses trace.new.accesses unit.old) queue).reply }
+        (met_function unit.old unit.new) queue).reply }
     ensures messages { result.vectors ≡ (serve limit (R.rules rules.now)
-        (told_of trace.old.accesses trace.new.accesses unit.old) queue).messages }
+        (met_function unit.old unit.new) queue).messages }
     ensures sent { (serve limit (R.rules rules.now)
-        (told_of trace.old.accesses trace.new.accesses unit.old) queue).sent
+        (met_function unit.old unit.new) queue).sent
         ≡ (if is_sent result.outcome then Some frame.new else None) }
-    ensures size { size_of unit.new ≡ size_of unit.old }
-    ensures traced { IsTraced D.shared
-        (size_of unit.old) trace.old.accesses trace.new.accesses }
+    ensures size { size_of unit.new.function ≡ size_of unit.old.function }
+    ensures listed { unit.new.accesses ≡ unit.old.accesses
+        ++ serve_accesses limit (R.rules rules.now) (met_function unit.old unit.new) queue }
+    ensures met { IsMet D.shared unit.old.function unit.old.accesses unit.new.accesses }
 {
     if !rules.may_transmit() {
         return Acted::silent(if unit.is_open() {
@@ -70,7 +69,7 @@ pub(crate) fn serve_queue_live<R: SenderRules, D: Dma<K>, K>(
             Outcome::Refused(Fault::NotOpen)
         });
     }
-    match unit.serve_live(trace, queue, frame, rules.port_vlan(), limit) {
+    match unit.serve_live(queue, frame, rules.port_vlan(), limit) {
         None => Acted::silent(Outcome::Refused(Fault::NotOpen)),
         Some(service) => {
             let outcome = match service.outcome {

@@ -6,7 +6,8 @@ ghost use Rattle.device.specs.World.{step, sent_by, answers, world_after};
 ghost use Rattle.device.specs.Lone.{SeesAsAlone, EndsAsAlone};
 ghost use Rattle.device.specs.Outcome.{reads, reply_by, answer_in, bytes_told, HoldsRead};
 ghost use Rattle.device.specs.Takes.{Takes};
-ghost use Rattle.device.specs.Live.{TakesLive};
+ghost use Rattle.device.specs.Accesses.{accesses_by, accesses_but_read};
+ghost use Rattle.device.specs.Live.{told_world, TakesLive, AreListed, AreMet};
 ghost use Rattle.device.specs.Request.{event_of};
 
 use crate::bytes::{MOST_BYTES, MemBytes, MemSlice};
@@ -17,54 +18,54 @@ use crate::response::Response;
 use crate::span::Span;
 use guest_memory::GuestMem;
 use irq_causes::Messages;
-use live_memory::{Dma, Touch, Traces};
+use live_memory::Dma;
 use std::alloc::Global;
 use wire_frame::{Fault, FrameBuf, PoolId};
 
 impl<D: Dma<K>, K> Device<D, K> {
-    /// Takes the event that a request stands for, where others may write the memories of the functions meanwhile: what they
-    /// answer is kept in the traces. It means what [`take`](Device::take) does in the world in which each function's memory
-    /// holds what was read from it: as if its guest had written just that, right before the event.
+    /// Takes the event that a request stands for, where others may write the memories of the functions meanwhile. It means what
+    /// [`take`](Device::take) does in the world in which each function's memory holds what was read from it: as if its guest had
+    /// written just that, right before the event. The memories are accessed just as `accesses_by` lists, in that order.
     ///
     /// Bytes that the event reads are read once, into the first cells of `bytes`; else these stay.
     #[inline]
     pub fn take_live<'f>(
         &mut self,
-        traces: &mut Traces,
         request: Request<'_>,
         frame: &'f mut FrameBuf,
         bytes: &mut [u8; MOST_BYTES],
     ) -> Response<'f>
-        ensures takes { TakesLive D.shared traces.old.touches traces.new.touches
-            self.old (event_of request.entry) self.new result }
-        ensures bytes { HoldsRead bytes.new (event_of request.entry) self.new result.outcome }
+        ensures takes { TakesLive D.shared self.old.accesses self.new.accesses
+            self.old.world (event_of request.entry) self.new.world result }
+        ensures listed { AreListed
+            (accesses_by (told_world self.old.accesses self.new.accesses self.old.world)
+            (event_of request.entry)) self.old.accesses self.new.accesses }
+        ensures bytes { HoldsRead bytes.new (event_of request.entry) self.new.world result.outcome }
         ensures rest { drop (bytes_told result.outcome) bytes.new
             ≡ drop (bytes_told result.outcome) bytes.old }
     {
         match request {
-            Request::MemRead(pool, at, count) => self.mem_read_live(traces, pool, at, count, bytes),
-            _ => self.take_unread(traces, request, frame),
+            Request::MemRead(pool, at, count) => self.mem_read_live(pool, at, count, bytes),
+            _ => self.take_unread(request, frame),
         }
     }
 
     /// The same, for who reads the bytes elsewhere or not at all: none are read, and the outcome tells where they stand.
     #[inline]
-    pub fn take_unread<'f>(
-        &mut self,
-        traces: &mut Traces,
-        request: Request<'_>,
-        frame: &'f mut FrameBuf,
-    ) -> Response<'f>
-        ensures { TakesLive D.shared traces.old.touches traces.new.touches
-            self.old (event_of request.entry) self.new result }
+    pub fn take_unread<'f>(&mut self, request: Request<'_>, frame: &'f mut FrameBuf) -> Response<'f>
+        ensures takes { TakesLive D.shared self.old.accesses self.new.accesses
+            self.old.world (event_of request.entry) self.new.world result }
+        ensures listed { AreListed
+            (accesses_but_read (told_world self.old.accesses self.new.accesses self.old.world)
+            (event_of request.entry)) self.old.accesses self.new.accesses }
     {
         match request {
             Request::VfRead(pool, offset) => self.take_vf_read(pool, offset),
             Request::VfWrite(pool, offset, value) => self.take_vf_write(pool, offset, value),
             Request::MemRead(pool, at, count) => self.take_mem_read(pool, at, count),
             Request::MemWrite(pool, at, written) => self.take_mem_write(pool, at, written),
-            Request::Serve(pool, queue) => self.serve_live(traces, pool, queue, frame),
-            Request::Wire(frame) => self.take_wire(traces, frame),
+            Request::Serve(pool, queue) => self.serve_live(pool, queue, frame),
+            Request::Wire(frame) => self.take_wire(frame),
             Request::PfRead(offset) => self.take_pf_read(offset),
             Request::PfWrite(offset, value) => self.take_pf_write(offset, value),
             Request::Open(pool) => self.take_open(pool),
@@ -79,7 +80,8 @@ impl<D: Dma<K>, K> Device<D, K> {
     // A read of a function's register.
     #[inline]
     fn take_vf_read<'f>(&mut self, pool: u8, offset: u32) -> Response<'f>
-        ensures { Takes self.old (Event.VfRead pool offset) self.new result }
+        ensures takes { Takes self.old.world (Event.VfRead pool offset) self.new.world result }
+        ensures accesses { self.new.accesses ≡ self.old.accesses }
     {
         Response::value_or_refused(self.vf_read(pool, offset))
     }
@@ -87,7 +89,8 @@ impl<D: Dma<K>, K> Device<D, K> {
     // A write of a function's register.
     #[inline]
     fn take_vf_write<'f>(&mut self, pool: u8, offset: u32, value: u32) -> Response<'f>
-        ensures { Takes self.old (Event.VfWrite pool offset value) self.new result }
+        ensures takes { Takes self.old.world (Event.VfWrite pool offset value) self.new.world result }
+        ensures accesses { self.new.accesses ≡ self.old.accesses }
     {
         Response::issued(self.vf_write(pool, offset, value))
     }
@@ -95,7 +98,7 @@ impl<D: Dma<K>, K> Device<D, K> {
     // A read of a function's memory.
     #[inline]
     fn take_mem_read<'f>(&self, pool: u8, at: u64, count: u16) -> Response<'f>
-        ensures { Takes self.now (Event.MemRead pool at count) self.now result }
+        ensures { Takes self.now.world (Event.MemRead pool at count) self.now.world result }
     {
         Response::silent(self.find(pool, at, count))
     }
@@ -103,24 +106,31 @@ impl<D: Dma<K>, K> Device<D, K> {
     // A write of a function's memory.
     #[inline]
     fn take_mem_write<'f>(&mut self, pool: u8, at: u64, written: MemSlice<'_>) -> Response<'f>
-        ensures { Takes self.old (Event.MemWrite pool at written.entry.bytes.now) self.new result }
+        ensures takes { Takes self.old.world (Event.MemWrite pool at written.entry.bytes.now) self.new.world result }
+        ensures listed { AreListed
+            (accesses_by self.old.world (Event.MemWrite pool at written.entry.bytes.now))
+            self.old.accesses self.new.accesses }
+        ensures met { AreMet D.shared self.old.accesses self.new.accesses self.old.world }
     {
         Response::done_or_refused(self.mem_write(pool, at, written))
     }
 
     // A frame from the wire.
     #[inline]
-    fn take_wire<'f>(&mut self, traces: &mut Traces, frame: &FrameBuf) -> Response<'f>
-        ensures { TakesLive D.shared traces.old.touches traces.new.touches
-            self.old (Event.Wire frame.now) self.new result }
+    fn take_wire<'f>(&mut self, frame: &FrameBuf) -> Response<'f>
+        ensures takes { TakesLive D.shared self.old.accesses self.new.accesses
+            self.old.world (Event.Wire frame.now) self.new.world result }
+        ensures listed { AreListed
+            (accesses_by (told_world self.old.accesses self.new.accesses self.old.world)
+            (Event.Wire frame.now)) self.old.accesses self.new.accesses }
     {
-        Response::issued(self.wire_live(traces, frame))
+        Response::issued(self.wire_live(frame))
     }
 
     // A read of a register of the physical function.
     #[inline]
     fn take_pf_read<'f>(&self, offset: u32) -> Response<'f>
-        ensures { Takes self.now (Event.PfRead offset) self.now result }
+        ensures { Takes self.now.world (Event.PfRead offset) self.now.world result }
     {
         Response::value_or_refused(self.pf_read(offset))
     }
@@ -128,7 +138,8 @@ impl<D: Dma<K>, K> Device<D, K> {
     // A write of a register of the physical function.
     #[inline]
     fn take_pf_write<'f>(&mut self, offset: u32, value: u32) -> Response<'f>
-        ensures { Takes self.old (Event.PfWrite offset value) self.new result }
+        ensures takes { Takes self.old.world (Event.PfWrite offset value) self.new.world result }
+        ensures accesses { self.new.accesses ≡ self.old.accesses }
     {
         Response::done_or_refused(self.pf_write(offset, value))
     }
@@ -136,7 +147,8 @@ impl<D: Dma<K>, K> Device<D, K> {
     // A function is opened.
     #[inline]
     fn take_open<'f>(&mut self, pool: u8) -> Response<'f>
-        ensures { Takes self.old (Event.Open pool) self.new result }
+        ensures takes { Takes self.old.world (Event.Open pool) self.new.world result }
+        ensures accesses { self.new.accesses ≡ self.old.accesses }
     {
         Response::done_or_refused(self.open(pool))
     }
@@ -144,7 +156,8 @@ impl<D: Dma<K>, K> Device<D, K> {
     // A function is closed.
     #[inline]
     fn take_end<'f>(&mut self, pool: u8) -> Response<'f>
-        ensures { Takes self.old (Event.End pool) self.new result }
+        ensures takes { Takes self.old.world (Event.End pool) self.new.world result }
+        ensures accesses { self.new.accesses ≡ self.old.accesses }
     {
         Response::done_or_refused(self.end(pool))
     }
@@ -152,7 +165,8 @@ impl<D: Dma<K>, K> Device<D, K> {
     // A function is reset.
     #[inline]
     fn take_flr<'f>(&mut self, pool: u8) -> Response<'f>
-        ensures { Takes self.old (Event.Flr pool) self.new result }
+        ensures takes { Takes self.old.world (Event.Flr pool) self.new.world result }
+        ensures accesses { self.new.accesses ≡ self.old.accesses }
     {
         Response::done_or_refused(self.flr(pool))
     }
@@ -160,7 +174,8 @@ impl<D: Dma<K>, K> Device<D, K> {
     // The device is reset.
     #[inline]
     fn take_pf_reset<'f>(&mut self) -> Response<'f>
-        ensures { Takes self.old Event.PfReset self.new result }
+        ensures takes { Takes self.old.world Event.PfReset self.new.world result }
+        ensures accesses { self.new.accesses ≡ self.old.accesses }
     {
         self.reset();
         Response::done_with(Messages::none())
@@ -190,23 +205,25 @@ impl<M: GuestMem> Device<M> {
     /// ```
     #[inline]
     pub fn take<'f>(&mut self, request: Request<'_>, frame: &'f mut FrameBuf) -> Response<'f>
-        ensures takes { Takes self.old (event_of request.entry) self.new result }
+        ensures takes { Takes self.old.world (event_of request.entry) self.new.world result }
+        ensures listed { AreListed (accesses_but_read self.old.world (event_of request.entry))
+            self.old.accesses self.new.accesses }
         // to each function the event is as if it were alone
-        ensures isolated { (p : ℕ) → p < length self.old.functions → SeesAsAlone
-            p self.old (event_of request.entry ∷ []) (answer_in self.new result ∷ []) }
-        ensures isolated_state { (p : ℕ) → p < length self.old.functions → EndsAsAlone
-            p self.old (event_of request.entry ∷ []) self.new }
+        ensures isolated { (p : ℕ) → p < length self.old.world.functions → SeesAsAlone
+            p self.old.world (event_of request.entry ∷ []) (answer_in self.new.world result ∷ []) }
+        ensures isolated_state { (p : ℕ) → p < length self.old.world.functions → EndsAsAlone
+            p self.old.world (event_of request.entry ∷ []) self.new.world }
     {
         let count = self.functions();
         prove!(count <= usize::from(PoolId::COUNT));
-        self.take_unread(&mut Touch::None.traces(), request, frame)
+        self.take_unread(request, frame)
     }
 
     /// The answer that a [`Response`] stands for, right after it. It is inlined, so that no answer is made for who looks at
     /// none.
     #[inline(always)]
     pub fn answer(&self, taken: &Response<'_>) -> Answer
-        ensures { result ≡ answer_in self.now taken.now }
+        ensures { result ≡ answer_in self.now.world taken.now }
     {
         match taken.outcome {
             Outcome::Bytes(span) => Answer {
@@ -222,8 +239,8 @@ impl<M: GuestMem> Device<M> {
 
     /// Takes one event.
     pub fn step(&mut self, event: &Event) -> Answer
-        ensures world { self.new ≡ (step self.old event.now).world }
-        ensures answer { result ≡ (step self.old event.now).answer }
+        ensures world { self.new.world ≡ (step self.old.world event.now).world }
+        ensures answer { result ≡ (step self.old.world event.now).answer }
     {
         let mut frame = FrameBuf::blank();
         let taken = self.take(event.as_request(), &mut frame);
@@ -232,9 +249,9 @@ impl<M: GuestMem> Device<M> {
 
     /// Takes one event, and gives the frame beside, where it sent one.
     pub fn step_sent(&mut self, event: &Event) -> (Answer, Option<FrameBuf>)
-        ensures world { self.new ≡ (step self.old event.now).world }
-        ensures answer { result.0 ≡ (step self.old event.now).answer }
-        ensures sent { result.1 ≡ sent_by self.old event.now }
+        ensures world { self.new.world ≡ (step self.old.world event.now).world }
+        ensures answer { result.0 ≡ (step self.old.world event.now).answer }
+        ensures sent { result.1 ≡ sent_by self.old.world event.now }
     {
         let mut frame = FrameBuf::blank();
         let taken = self.take(event.as_request(), &mut frame);
@@ -248,16 +265,16 @@ impl<M: GuestMem> Device<M> {
     /// Takes events in turn, and answers each. [`Fault::NoMemory`] comes before the first step, and leaves the device as it
     /// was. To each virtual function the run is as if it were alone.
     pub fn run(&mut self, alloc: Global, events: &[Event]) -> Result<Vec<Answer>, Fault>
-        ensures answers { IfOk result (λ given. given.items ≡ answers self.old events.now) }
-        ensures world { OnOk result (self.new ≡ world_after self.old events.now) }
+        ensures answers { IfOk result (λ given. given.items ≡ answers self.old.world events.now) }
+        ensures world { OnOk result (self.new.world ≡ world_after self.old.world events.now) }
         ensures no_memory { IfErr result (λ e. e ≡ Fault.NoMemory) }
         ensures unchanged { OnErr result (self.new ≡ self.old) }
         // each function sees what it would see alone
-        ensures isolated { IfOk result (λ given. (p : ℕ) → p < length self.old.functions →
-            SeesAsAlone p self.old events.now given.items) }
+        ensures isolated { IfOk result (λ given. (p : ℕ) → p < length self.old.world.functions →
+            SeesAsAlone p self.old.world events.now given.items) }
         // and is left as it would be left alone
-        ensures isolated_state { OnOk result ((p : ℕ) → p < length self.old.functions →
-            EndsAsAlone p self.old events.now self.new) }
+        ensures isolated_state { OnOk result ((p : ℕ) → p < length self.old.world.functions →
+            EndsAsAlone p self.old.world events.now self.new.world) }
     {
         let count = self.functions();
         prove!(count <= usize::from(PoolId::COUNT));
@@ -276,9 +293,9 @@ impl<M: GuestMem> Device<M> {
     #[inline]
     fn step_onto(&mut self, event: &Event, frame: &mut FrameBuf, given: &mut Vec<Answer>)
         requires { vec_len given.old < vec_capacity given.old }
-        ensures world { self.new ≡ (step self.old event.now).world }
+        ensures world { self.new.world ≡ (step self.old.world event.now).world }
         ensures answer { given.new.items
-            ≡ given.old.items ++ (step self.old event.now).answer ∷ [] }
+            ≡ given.old.items ++ (step self.old.world event.now).answer ∷ [] }
         ensures len { vec_len given.new ≡ vec_len given.old + 1 }
         ensures capacity { vec_capacity given.new ≡ vec_capacity given.old }
     {

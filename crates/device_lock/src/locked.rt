@@ -135,8 +135,8 @@ impl<M: GuestMem, L: Ledger> LockedDevice<M, L> {
 
     /// One [`Recorded::replays`] under the lock: some kept calls are stepped through.
     pub fn replays<R: Wait>(&self, rt: &R, device: &mut Device<M>) -> bool
-        ensures { (kept : List Entry) × (device.new ≡ world_after device.old (events kept))
-            × (IsTrue result ↔ (answers device.old (events kept) ≡ given kept)) }
+        ensures { (kept : List Entry) × (device.new.world ≡ world_after device.old.world (events kept))
+            × (IsTrue result ↔ (answers device.old.world (events kept) ≡ given kept)) }
     {
         self.enter(rt).replays(device)
     }

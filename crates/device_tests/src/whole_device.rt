@@ -15,7 +15,6 @@ use wire_frame::{Fault, FrameBuf};
 mod calls;
 mod frames;
 mod making;
-mod reading_ahead;
 mod registers;
 
 // Registers of the physical function, and what they are written: function 3 has an address and may receive and send.

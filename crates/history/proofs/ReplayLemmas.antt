@@ -9,6 +9,7 @@ use mathlib.Core.Logic.{◌↔◌}
 use Rattle.vf_unit.specs.Unit.{Closed, size_of}
 use Rattle.device.specs.Events.{Event}
 use Rattle.device.specs.World.{World, step, fresh, sizes_of, answers, world_after}
+use Rattle.device.specs.Live.{TracedWorld}
 use Rattle.device.proofs.Append.{answers_append, world_after_append}
 use Rattle.device.proofs.Shape.{step_shape}
 use Rattle.history.specs.declared.caller.Caller.{Caller}
@@ -51,22 +52,22 @@ leads_more base calls live c e l = record {
 -- ---- the base
 
 -- a device without a twin has the same base after a step, which changes neither limit nor sizes
-pub base_kept : (twin : Option (Box World)) (live lent new : World) (e : Event) → lent ≡ live → new ≡ (step lent e).world → sizes_of new ≡ sizes_of lent
+pub base_kept : (twin : Option (Box TracedWorld)) (live lent new : World) (e : Event) → lent ≡ live → new ≡ (step lent e).world → sizes_of new ≡ sizes_of lent
     → base_of twin new ≡ base_of twin live
 base_kept None live lent new e same world sizes = let limit : new.limit ≡ live.limit = ap (λ (w : World). w.limit) world ∙ (step_shape lent e).limit ∙ ap (λ (w : World). w.limit) same in
     let long : sizes_of new ≡ sizes_of live = sizes ∙ ap sizes_of same in λ i. fresh (limit i) (long i)
 base_kept (Some twin) live lent new e same world sizes = refl
 
-pub base_first : (twin : Option (Box World)) (w : World) → w ≡ made_like w → IfSome twin (λ t. t.value ≡ w) → base_of twin w ≡ w
+pub base_first : (twin : Option (Box TracedWorld)) (w : World) → w ≡ made_like w → IfSome twin (λ t. t.value.world ≡ w) → base_of twin w ≡ w
 base_first None w made same = sym made
 base_first (Some twin) w made same = same
 
-pub base_made : (twin : Option (Box World)) (w : World) → is_some twin ≡ false → base_of twin w ≡ made_like w
+pub base_made : (twin : Option (Box TracedWorld)) (w : World) → is_some twin ≡ false → base_of twin w ≡ made_like w
 base_made None w none = refl
 base_made (Some twin) w none = absurd (true≢false none)
 
 -- one more call that is kept, by whatever names: the device is the one that its box lends
-pub leads_on : (twin : Option (Box World)) (live lent new : World) (calls more : List Entry) (c : Caller) (e : Event) → Leads (base_of twin live) calls live
+pub leads_on : (twin : Option (Box TracedWorld)) (live lent new : World) (calls more : List Entry) (c : Caller) (e : Event) → Leads (base_of twin live) calls live
     → lent ≡ live → new ≡ (step lent e).world → sizes_of new ≡ sizes_of lent → more ≡ calls ++ entry c e (step lent e).answer ∷ []
     → Leads (base_of twin new) more new
 leads_on twin live lent new calls more c e l same world sizes entries =
@@ -78,7 +79,7 @@ leads_on twin live lent new calls more c e l same world sizes entries =
     (subst (λ (w : World). Leads (base_of twin live) (calls ++ entry c e (step live e).answer ∷ []) w) (sym now) (leads_more (base_of twin live) calls live c e l)))
 
 -- and what contracts see of it
-pub logged_on : (twin : Option (Box World)) (live lent new : World) (calls more : List Entry) (cap after : ℕ) (c : Caller) (e : Event)
+pub logged_on : (twin : Option (Box TracedWorld)) (live lent new : World) (calls more : List Entry) (cap after : ℕ) (c : Caller) (e : Event)
     → lent ≡ live → new ≡ (step lent e).world → sizes_of new ≡ sizes_of lent → more ≡ calls ++ entry c e (step lent e).answer ∷ [] → after ≡ cap
     → logged twin new more after ≡ keeping (logged twin live calls cap) c e
 logged_on twin live lent new calls more cap after c e same world sizes entries room = λ i. record {

@@ -1,13 +1,14 @@
 //! Bytes that stand one after another.
 ghost use Rattle.std.specs.Prelude.{◌≡◌, ℕ, ◌≤◌, ◌+◌, ◌++◌, length, take, drop, vec_len, vec_capacity};
 ghost use Rattle.device.specs.declared.event.Event.{Event};
-ghost use Rattle.device.specs.Live.{TakesLive};
+ghost use Rattle.device.specs.Live.{told_world, TakesLive, AreListed};
+ghost use Rattle.device.specs.Accesses.{accesses_by};
 ghost use Rattle.device.specs.Outcome.{bytes_asked, bytes_told, HasCount, HoldsIn};
 ghost use Rattle.history.specs.Heads.{read_in, part};
 
 use device::bytes::MOST_BYTES;
 use device::{Device, Outcome, Response};
-use live_memory::{Dma, Traces};
+use live_memory::Dma;
 
 /// Adds bytes, for which there is room.
 #[inline]
@@ -71,36 +72,40 @@ pub fn bytes_told(outcome: Outcome) -> u16
 fn read_past<'f, D: Dma<K>, K>(
     store: &mut [u8],
     start: usize,
-    traces: &mut Traces,
     read: Read,
     device: &mut Device<D, K>,
 ) -> Response<'f>
     requires { length store.old
         ≡ start + bytes_asked (Event.MemRead read.pool read.at read.count) }
-    ensures takes { TakesLive D.shared traces.old.touches traces.new.touches
-        device.old (Event.MemRead read.pool read.at read.count) device.new result }
+    ensures takes { TakesLive D.shared device.old.accesses device.new.accesses
+        device.old.world (Event.MemRead read.pool read.at read.count) device.new.world result }
+    ensures listed { AreListed
+        (accesses_by (told_world device.old.accesses device.new.accesses device.old.world)
+        (Event.MemRead read.pool read.at read.count)) device.old.accesses device.new.accesses }
     ensures count { HasCount read.count result.outcome }
-    ensures bytes { HoldsIn (drop start store.new) device.new result.outcome }
+    ensures bytes { HoldsIn (drop start store.new) device.new.world result.outcome }
     ensures front { take start store.new ≡ take start store.old }
     ensures len { length store.new ≡ length store.old }
 {
     let (_, out) = store.split_at_mut(start);
-    device.mem_read_live(traces, read.pool, read.at, read.count, out)
+    device.mem_read_live(read.pool, read.at, read.count, out)
 }
 
 /// Makes a read, once, whose bytes are added at the end of a store, which has room for them.
 #[inline]
 pub fn append_read<'f, D: Dma<K>, K>(
     store: &mut Vec<u8>,
-    traces: &mut Traces,
     read: Read,
     device: &mut Device<D, K>,
 ) -> Response<'f>
     requires { vec_len store.old + 2048 ≤ vec_capacity store.old }
-    ensures takes { TakesLive D.shared traces.old.touches traces.new.touches
-        device.old (Event.MemRead read.pool read.at read.count) device.new result }
-    ensures items { store.new.items ≡ store.old.items ++ read_in device.new result.outcome }
-    ensures count { bytes_told result.outcome ≡ length (read_in device.new result.outcome) }
+    ensures takes { TakesLive D.shared device.old.accesses device.new.accesses
+        device.old.world (Event.MemRead read.pool read.at read.count) device.new.world result }
+    ensures listed { AreListed
+        (accesses_by (told_world device.old.accesses device.new.accesses device.old.world)
+        (Event.MemRead read.pool read.at read.count)) device.old.accesses device.new.accesses }
+    ensures items { store.new.items ≡ store.old.items ++ read_in device.new.world result.outcome }
+    ensures count { bytes_told result.outcome ≡ length (read_in device.new.world result.outcome) }
     ensures len { vec_len store.new ≡ vec_len store.old + bytes_told result.outcome }
     ensures capacity { vec_capacity store.old ≤ vec_capacity store.new }
 {
@@ -109,7 +114,7 @@ pub fn append_read<'f, D: Dma<K>, K>(
         Ok(()) => {}
         Err(_) => unreachable!(),
     }
-    let taken = read_past(store.as_mut_slice(), start, traces, read, device);
+    let taken = read_past(store.as_mut_slice(), start, read, device);
     store.truncate(start + usize::from(bytes_told(taken.outcome)));
     taken
 }

@@ -1,7 +1,8 @@
 //! The history.
 ghost use Rattle.std.specs.Prelude.{◌≡◌, ◌≤◌, ◌<◌, ◌*◌, ◌++◌, ◌∷◌, [], length, vec_len, vec_capacity, true, false, IsTrue, ◌↔◌, IfOk, IfErr};
 ghost use Rattle.device.specs.declared.event.Event.{Event};
-ghost use Rattle.device.specs.Live.{TakesLive};
+ghost use Rattle.device.specs.Accesses.{accesses_by};
+ghost use Rattle.device.specs.Live.{told_world, TakesLive, AreListed};
 ghost use Rattle.device.specs.Outcome.{reads, answer_in};
 ghost use Rattle.device.specs.World.{World};
 ghost use Rattle.device.specs.Request.{event_of};
@@ -15,7 +16,7 @@ use crate::reply::is_reply;
 use crate::words::{append_words, are_messages, words_len};
 use device::{Device, MemSlice, Request, Response};
 use guest_memory::GuestMem;
-use live_memory::{Dma, Traces};
+use live_memory::Dma;
 use std::alloc::{AllocError, Global};
 use std::marker::Model;
 use wire_frame::{Fault, FrameBuf, FrameLimit};
@@ -140,20 +141,22 @@ impl History {
     pub(crate) fn push_read<'f, D: Dma<K>, K>(
         &mut self,
         caller: Caller,
-        traces: &mut Traces,
         read: Read,
         device: &mut Device<D, K>,
     ) -> Response<'f>
         requires { length self.old.entries < self.old.cap }
-        ensures takes { TakesLive D.shared traces.old.touches traces.new.touches
-            device.old (Event.MemRead read.pool read.at read.count) device.new result }
+        ensures takes { TakesLive D.shared device.old.accesses device.new.accesses
+            device.old.world (Event.MemRead read.pool read.at read.count) device.new.world result }
+        ensures listed { AreListed
+            (accesses_by (told_world device.old.accesses device.new.accesses device.old.world)
+            (Event.MemRead read.pool read.at read.count)) device.old.accesses device.new.accesses }
         ensures entries { self.new.entries ≡ self.old.entries
-            ++ entry caller (Event.MemRead read.pool read.at read.count) (answer_in device.new result)
-            ∷ [] }
+            ++ entry caller (Event.MemRead read.pool read.at read.count)
+            (answer_in device.new.world result) ∷ [] }
         ensures cap { self.new.cap ≡ self.old.cap }
     {
         let start = self.store.len() as u32;
-        let taken = append_read(&mut self.store, traces, read, device);
+        let taken = append_read(&mut self.store, read, device);
         let vectors = append_words(&mut self.store, taken.messages.words());
         self.heads.push_reserved(Head {
             event: EventHead::MemRead(read.pool, read.count, read.at),
@@ -236,7 +239,7 @@ impl History {
     ) -> bool
         requires { index < length self.now.entries }
         ensures { IsTrue result
-            ↔ (answer_in device.now taken.now ≡ (entry_at self.now index).answer) }
+            ↔ (answer_in device.now.world taken.now ≡ (entry_at self.now index).answer) }
     {
         let head = self.heads[index];
         let store = self.store.as_slice();

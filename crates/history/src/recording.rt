@@ -43,10 +43,10 @@ impl<M: GuestMem> Model for Recording<M> {
 impl<M: GuestMem> Recording<M> {
     /// The base is the device as it is, and no calls are kept: the history is empty.
     pub fn new(live: Box<Device<M>>, twin: Option<Box<Device<M>>>, history: History) -> Recording<M>
-        requires fresh { live.value ≡ made_like live.value }
-        requires twin { IfSome twin (λ t. t.value ≡ live.value) }
+        requires fresh { live.value.world ≡ made_like live.value.world }
+        requires twin { IfSome twin (λ t. t.value.world ≡ live.value.world) }
         requires empty { history.entries ≡ [] }
-        ensures begun { result ≡ begun live.value history.cap (is_some twin) }
+        ensures begun { result ≡ begun live.value.world history.cap (is_some twin) }
     {
         Recording {
             live,
@@ -58,7 +58,7 @@ impl<M: GuestMem> Recording<M> {
     /// The live device.
     #[inline]
     pub fn device(&self) -> &Device<M>
-        ensures { result.now ≡ self.now.live }
+        ensures { result.now.world ≡ self.now.live }
     {
         &self.live
     }
@@ -105,7 +105,6 @@ impl<M: GuestMem> Recording<M> {
 
     /// The same, of a frame from the wire, which stays where it stands.
     #[inline]
-    #[tactic(auto, using(crate::proofs::ReplayLemmas::logged_on))]
     pub fn wire(&mut self, caller: Caller, frame: &FrameBuf) -> Result<Messages, Fault>
         requires { length self.old.kept < self.old.cap }
         ensures answer { messages_or_refused result

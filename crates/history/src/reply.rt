@@ -17,7 +17,7 @@ pub fn is_reply<M: GuestMem>(
     outcome: Outcome,
     room: &mut [u8; 2048],
 ) -> bool
-    ensures { IsTrue result ↔ (reply_in device.now outcome ≡ reply_with bytes.now kind) }
+    ensures { IsTrue result ↔ (reply_in device.now.world outcome ≡ reply_with bytes.now kind) }
 {
     match outcome {
         Outcome::Bytes(span) => {
@@ -34,7 +34,7 @@ fn are_read<M: GuestMem>(
     span: Span,
     room: &mut [u8; 2048],
 ) -> bool
-    ensures { IsTrue result ↔ (bytes_in (function_of span.pool device.now) span ≡ bytes.now) }
+    ensures { IsTrue result ↔ (bytes_in (function_of span.pool device.now.world) span ≡ bytes.now) }
 {
     let read = &mut room[..span.count()];
     device.read_span(span, read);

@@ -1,61 +1,81 @@
 -- A run with one event more.
 use Rattle.std.proofs.Common.{◌≡◌, ℕ, ◌+◌, ◌<◌, Bool, List, [], ◌∷◌, ◌++◌, length, take, get_or, arith, refl, sym, ap, subst, ◌∙◌}
-use Rattle.std.proofs.lemmas.List.{length-take-le, take_more, map-append}
-use Rattle.live_memory.specs.declared.traces.Traces.{Traces}
-use Rattle.live_memory.specs.Traces.{Touches}
+use Rattle.std.proofs.lemmas.List.{length-append, take_more}
 use Rattle.device.specs.Events.{Event}
 use Rattle.device.specs.declared.event.Answer.{Answer}
 use Rattle.device.specs.World.{World, step}
-use Rattle.device.specs.Live.{AreTraced}
-use Rattle.live_run.specs.Live.{met_world, live_after, live_answers, AllTraced}
-use Rattle.live_run.specs.Touched.{touches_of}
+use Rattle.device.specs.Accesses.{accesses_by}
+use Rattle.device.specs.Live.{TracedWorld, told_world, AreMet, AreListed}
+use Rattle.live_run.specs.Live.{Noted, live_after, live_answers, last_of, AllMet}
 
-pub after_more : (w : World) (es : List Event) (ts : List Touches) (e : Event) (t : Touches) → length ts ≡ length es → live_after w (es ++ e ∷ []) (ts ++ t ∷ []) ≡ (step (met_world t (live_after w es ts)) e).world
-unfolding live_after
-after_more w [] [] e t same = refl
-after_more w [] (u ∷ ts) e t same = absurd (omega (arith, same))
-after_more w (f ∷ es) [] e t same = absurd (omega (arith, same))
-after_more w (f ∷ es) (u ∷ ts) e t same = after_more (step (met_world u w) f).world es ts e t (omega (arith, same))
+after_more : (w : World) (es : List Event) (b : Noted) (ts : List Noted) (e : Event) (t : Noted) → length ts ≡ length es
+    → live_after w b (es ++ e ∷ []) (ts ++ t ∷ []) ≡ (step (told_world (last_of b ts) t (live_after w b es ts)) e).world
+unfolding live_after last_of
+after_more w [] b [] e t same = refl
+after_more w [] b (u ∷ ts) e t same = absurd (omega (arith, same))
+after_more w (f ∷ es) b [] e t same = absurd (omega (arith, same))
+after_more w (f ∷ es) b (u ∷ ts) e t same = after_more (step (told_world b u w) f).world es u ts e t (omega (arith, same))
 
-pub answers_more : (w : World) (es : List Event) (ts : List Touches) (e : Event) (t : Touches) → length ts ≡ length es → live_answers w (es ++ e ∷ []) (ts ++ t ∷ []) ≡ live_answers w es ts ++ (step (met_world t (live_after w es ts)) e).answer ∷ []
-unfolding live_after live_answers
-answers_more w [] [] e t same = refl
-answers_more w [] (u ∷ ts) e t same = absurd (omega (arith, same))
-answers_more w (f ∷ es) [] e t same = absurd (omega (arith, same))
-answers_more w (f ∷ es) (u ∷ ts) e t same = ap (λ (rest : List Answer). (step (met_world u w) f).answer ∷ rest) (answers_more (step (met_world u w) f).world es ts e t (omega (arith, same)))
+answers_more : (w : World) (es : List Event) (b : Noted) (ts : List Noted) (e : Event) (t : Noted) → length ts ≡ length es
+    → live_answers w b (es ++ e ∷ []) (ts ++ t ∷ []) ≡ live_answers w b es ts ++ (step (told_world (last_of b ts) t (live_after w b es ts)) e).answer ∷ []
+unfolding live_after live_answers last_of
+answers_more w [] b [] e t same = refl
+answers_more w [] b (u ∷ ts) e t same = absurd (omega (arith, same))
+answers_more w (f ∷ es) b [] e t same = absurd (omega (arith, same))
+answers_more w (f ∷ es) b (u ∷ ts) e t same = ap (λ (rest : List Answer). (step (told_world b u w) f).answer ∷ rest) (answers_more (step (told_world b u w) f).world es u ts e t (omega (arith, same)))
 
-pub traced_more : (shared : Bool) (w : World) (es : List Event) (ts : List Touches) (e : Event) (t : Touches) → length ts ≡ length es → AllTraced shared w es ts → AreTraced shared [] t (live_after w es ts) → AllTraced shared w (es ++ e ∷ []) (ts ++ t ∷ [])
-unfolding live_after AllTraced
-traced_more shared w [] [] e t same so_far one = (one, tt)
-traced_more shared w [] (u ∷ ts) e t same so_far one = absurd (omega (arith, same))
-traced_more shared w (f ∷ es) [] e t same so_far one = absurd (omega (arith, same))
-traced_more shared w (f ∷ es) (u ∷ ts) e t same so_far one = (so_far.0, traced_more shared (step (met_world u w) f).world es ts e t (omega (arith, same)) so_far.1 one)
+met_more : (shared : Bool) (w : World) (es : List Event) (b : Noted) (ts : List Noted) (e : Event) (t : Noted) → length ts ≡ length es → AllMet shared w b es ts
+    → AreMet shared (last_of b ts) t (live_after w b es ts) → AreListed (accesses_by (told_world (last_of b ts) t (live_after w b es ts)) e) (last_of b ts) t → AllMet shared w b (es ++ e ∷ []) (ts ++ t ∷ [])
+unfolding live_after last_of AllMet
+met_more shared w [] b [] e t same so_far met listed = ((met, listed), tt)
+met_more shared w [] b (u ∷ ts) e t same so_far met listed = absurd (omega (arith, same))
+met_more shared w (f ∷ es) b [] e t same so_far met listed = absurd (omega (arith, same))
+met_more shared w (f ∷ es) b (u ∷ ts) e t same so_far met listed = (so_far.0, met_more shared (step (told_world b u w) f).world es u ts e t (omega (arith, same)) so_far.1 met listed)
 
--- ---- by the place of the event
+last_more : (b : Noted) (ts : List Noted) (t : Noted) → last_of b (ts ++ t ∷ []) ≡ t
+unfolding last_of
+last_more b [] t = refl
+last_more b (u ∷ ts) t = last_more u ts t
 
-counted : (es : List Event) (i : ℕ) (ts : List Touches) → i < length es → length ts ≡ i → length ts ≡ length (take i es)
-counted es i ts below same = same ∙ sym (length-take-le i es (omega (arith, below)))
+-- ---- the run so far
 
-more : (es : List Event) (i : ℕ) (e : Event) → i < length es → e ≡ get_or es i e → take (i + 1) es ≡ take i es ++ e ∷ []
-more es i e below is = take_more es i e below ∙ ap (λ (f : Event). take i es ++ f ∷ []) (sym is)
+-- the device took the first events
+pub record SoFar (shared : Bool) (old : TracedWorld) (events : List Event) (answers : List Answer) (now : TracedWorld) : Type 0 where
+  pub noted : List Noted
+  pub each : length noted ≡ length events
+  pub answered : answers ≡ live_answers old.world old.accesses events noted
+  pub world : now.world ≡ live_after old.world old.accesses events noted
+  pub accesses : now.accesses ≡ last_of old.accesses noted
+  pub met : AllMet shared old.world old.accesses events noted
 
-pub next_world : (w device after : World) (es : List Event) (i : ℕ) (e : Event) (ts later : List Touches) (t : Touches) → i < length es → e ≡ get_or es i e → length ts ≡ i → later ≡ ts ++ t ∷ [] → device ≡ live_after w (take i es) ts
-    → after ≡ (step (met_world t device) e).world → after ≡ live_after w (take (i + 1) es) later
-next_world w device after es i e ts later t below is same grown so_far one =
-    one ∙ ap (λ (v : World). (step (met_world t v) e).world) so_far ∙ sym (after_more w (take i es) ts e t (counted es i ts below same))
-    ∙ (λ j. live_after w (sym (more es i e below is) j) (sym grown j))
+pub none_yet : (shared : Bool) (old : TracedWorld) (answers : List Answer) → answers ≡ [] → SoFar shared old [] answers old
+unfolding live_after live_answers last_of AllMet
+none_yet shared old answers empty = record { noted = []; each = refl; answered = empty; world = refl; accesses = refl; met = tt }
 
-pub next_answers : (w device : World) (es : List Event) (i : ℕ) (e : Event) (ts later : List Touches) (t : Touches) (given all : List Answer) (answer : Answer) → i < length es → e ≡ get_or es i e → length ts ≡ i → later ≡ ts ++ t ∷ [] → device ≡ live_after w (take i es) ts
-    → given ≡ live_answers w (take i es) ts → answer ≡ (step (met_world t device) e).answer → all ≡ given ++ answer ∷ [] → all ≡ live_answers w (take (i + 1) es) later
-next_answers w device es i e ts later t given all answer below is same grown so_far were one longer =
-    longer ∙ (λ j. were j ++ (one ∙ ap (λ (v : World). (step (met_world t v) e).answer) so_far) j ∷ []) ∙ sym (answers_more w (take i es) ts e t (counted es i ts below same))
-    ∙ (λ j. live_answers w (sym (more es i e below is) j) (sym grown j))
+one_more : (shared : Bool) (old now next : TracedWorld) (es : List Event) (e : Event) (answers all : List Answer) (answer : Answer) → SoFar shared old es answers now
+    → next.world ≡ (step (told_world now.accesses next.accesses now.world) e).world → answer ≡ (step (told_world now.accesses next.accesses now.world) e).answer → AreMet shared now.accesses next.accesses now.world
+    → AreListed (accesses_by (told_world now.accesses next.accesses now.world) e) now.accesses next.accesses → all ≡ answers ++ answer ∷ [] → SoFar shared old (es ++ e ∷ []) all next
+one_more shared old now next es e answers all answer h world answered met listed longer =
+    let t = next.accesses in
+    let ts = h.noted in
+    record {
+      noted = ts ++ t ∷ [];
+      each = length-append ts (t ∷ []) ∙ ap (λ (n : ℕ). n + 1) h.each ∙ sym (length-append es (e ∷ []));
+      answered = longer ∙ (λ i. h.answered i ++ (answered ∙ (λ j. (step (told_world (h.accesses j) t (h.world j)) e).answer)) i ∷ []) ∙ sym (answers_more old.world es old.accesses ts e t h.each);
+      world = world ∙ (λ j. (step (told_world (h.accesses j) t (h.world j)) e).world) ∙ sym (after_more old.world es old.accesses ts e t h.each);
+      accesses = sym (last_more old.accesses ts t);
+      met = met_more shared old.world es old.accesses ts e t h.each h.met
+          (subst (λ (d : TracedWorld). AreMet shared d.accesses t d.world) was met)
+          (subst (λ (d : TracedWorld). AreListed (accesses_by (told_world d.accesses t d.world) e) d.accesses t) was listed);
+    }
+  where
+    was : now ≡ record { world = live_after old.world old.accesses es h.noted; accesses = last_of old.accesses h.noted }
+    was = λ i. record { world = h.world i; accesses = h.accesses i }
 
-pub next_traced : (shared : Bool) (w device : World) (es : List Event) (i : ℕ) (e : Event) (ts later : List Touches) (t : Touches) → i < length es → e ≡ get_or es i e → length ts ≡ i → later ≡ ts ++ t ∷ [] → device ≡ live_after w (take i es) ts
-    → AllTraced shared w (take i es) ts → AreTraced shared [] t device → AllTraced shared w (take (i + 1) es) later
-next_traced shared w device es i e ts later t below is same grown so_far were one =
-    subst (λ (us : List Touches). AllTraced shared w (take (i + 1) es) us) (sym grown) (subst (λ (fs : List Event). AllTraced shared w fs (ts ++ t ∷ [])) (sym (more es i e below is))
-    (traced_more shared w (take i es) ts e t (counted es i ts below same) were (subst (AreTraced shared [] t) so_far one)))
-
-pub touches_more : (traces all : List Traces) (one : Traces) → all ≡ traces ++ one ∷ [] → touches_of all ≡ touches_of traces ++ one.touches ∷ []
-touches_more traces all one grown = ap touches_of grown ∙ map-append (λ t. t.touches) traces (one ∷ [])
+-- by the place of the event
+pub next_one : (shared : Bool) (old now next : TracedWorld) (es : List Event) (i : ℕ) (e : Event) (answers all : List Answer) (answer : Answer) → i < length es → e ≡ get_or es i e → SoFar shared old (take i es) answers now
+    → next.world ≡ (step (told_world now.accesses next.accesses now.world) e).world → answer ≡ (step (told_world now.accesses next.accesses now.world) e).answer → AreMet shared now.accesses next.accesses now.world
+    → AreListed (accesses_by (told_world now.accesses next.accesses now.world) e) now.accesses next.accesses → all ≡ answers ++ answer ∷ [] → SoFar shared old (take (i + 1) es) all next
+next_one shared old now next es i e answers all answer below is h world answered met listed longer =
+    subst (λ (fs : List Event). SoFar shared old fs all next) (sym (take_more es i e below ∙ ap (λ (f : Event). take i es ++ f ∷ []) (sym is)))
+    (one_more shared old now next (take i es) e answers all answer h world answered met listed longer)

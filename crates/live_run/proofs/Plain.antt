@@ -1,24 +1,24 @@
 -- No event but a read of memory is replied with bytes.
-use Rattle.std.proofs.Common.{◌≡◌, ℕ, Bool, true, false, nat_lt, List, Option, Some, None, length, refl, sym, ap, ◌∙◌}
+use Rattle.std.proofs.Common.{◌≡◌, ℕ, Bool, true, false, nat_lt, List, Option, Some, None, length, refl, ap, ◌∙◌}
 use Rattle.std.proofs.lemmas.Bool.{true≢false}
 use Rattle.std.specs.Prelude.{if◌then◌else◌}
 use Rattle.wire_frame.specs.declared.fault.Fault.{Fault}
-use Rattle.wire_frame.specs.declared.fault.Fault.TheVariants.{NoSuchVf, BadOffset, BadFrame}
+use Rattle.wire_frame.specs.declared.fault.Fault.TheVariants.{NoSuchVf}
 use Rattle.tx_desc.specs.declared.outcome.Fetched.{Fetched}
 use Rattle.tx_desc.specs.declared.outcome.Fetched.TheVariants.{Idle, More, Frame, Dropped, Faulted}
 use Rattle.irq_causes.specs.Causes.{Change}
 use Rattle.vf_unit.specs.declared.registers.Queue.{Queue}
-use Rattle.vf_unit.specs.Unit.{Function, Closed, Open as OpenFunction, is_open, serviced, service_outcome}
+use Rattle.vf_unit.specs.Unit.{Function, Closed, Open as OpenFunction, serviced, service_outcome}
 use Rattle.pool_filter.specs.Own.{OwnSettings, port_vlan_of}
 use Rattle.anti_spoof.specs.Permitted.{permitted}
 use Rattle.device.specs.Limits.{PF_SPACE}
 use Rattle.device.specs.Events.{Event}
 use Rattle.device.specs.declared.event.Event.TheVariants.{Open, End, VfRead, VfWrite, MemRead, MemWrite, Serve, Flr, PfRead, PfWrite, PfReset, Wire}
-use Rattle.device.specs.Replies.{Reply, is_done}
+use Rattle.device.specs.Replies.{Reply}
 use Rattle.device.specs.declared.event.Reply.TheVariants.{Done, Value, Bytes, Idle as IdleReply, More as MoreReply, Sent, Dropped as DroppedReply, Faulted as FaultedReply, Refused}
 use Rattle.device.specs.Act.{Service, act, performed, unless_refused, refusal, concluded, unserved, serve, is_bad_offset}
 use Rattle.device.specs.Outcome.{Outcome, reply_in, HoldsIn, HoldsRead}
-use Rattle.device.specs.World.{World, Stepped, step, own_step, acted, refused, flagged, served, service, function_of}
+use Rattle.device.specs.World.{World, Stepped, step, own_step, acted, refused, served, service, function_of}
 
 -- the event is a read of memory
 abbrev pub is_read : Event → Bool

@@ -2,7 +2,7 @@
 
 use crate::compare::assert_equal;
 use guest_memory::{FlatMem, GuestMem};
-use live_memory::{Dma, Step};
+use live_memory::Dma;
 use std::process::Abort;
 use std::test::Fail;
 
@@ -11,19 +11,18 @@ fn reads_back<D: Dma<K>, K>(memory: &mut D) -> Option<([u8; 2], u64, (u64, u64),
     if memory.extent() != 4096 {
         return None;
     }
-    let mut trace = Step::Begin.trace();
-    memory.store_word(&mut trace, 0, 1);
+    memory.store_word(0, 1);
     memory.erase();
-    memory.store_word(&mut trace, 8, 0x0102_0304_0506_0708);
-    memory.store_words(&mut trace, 4080, 0x1000, 0x3C_0000_0003);
-    memory.store(&mut trace, 9, &[0xAA, 0xBB]);
+    memory.store_word(8, 0x0102_0304_0506_0708);
+    memory.store_words(4080, 0x1000, 0x3C_0000_0003);
+    memory.store(9, &[0xAA, 0xBB]);
     let mut bytes = [0u8; 2];
-    memory.load(&mut trace, 9, &mut bytes);
+    memory.load(9, &mut bytes);
     Some((
         bytes,
-        memory.load_word(&mut trace, 8),
-        memory.load_words(&mut trace, 4080),
-        memory.load_word(&mut trace, 0),
+        memory.load_word(8),
+        memory.load_words(4080),
+        memory.load_word(0),
     ))
 }
 

@@ -1,7 +1,7 @@
 //! The definitions on traces written by hand.
 ghost use Rattle.std.specs.Prelude.{◌≡◌, ℕ, List, [], ◌∷◌, true, false};
 ghost use Rattle.guest_memory.specs.Memory.{Write};
-ghost use Rattle.live_memory.specs.Trace.{Access, Read, Wrote, ReadOnce, met, noted, reads, since};
+ghost use Rattle.live_memory.specs.Trace.{Read, Wrote, ReadOnce, met, reads, since, with_access, wrotes};
 
 use std::process::Abort;
 
@@ -17,11 +17,19 @@ fn what_is_met()
         (2 ∷ 2 ∷ 2 ∷ 2 ∷ []) ≡ 1 ∷ 2 ∷ 2 ∷ 9 ∷ [] }
 {}
 
-// An access is noted where others write the memory, behind all that was noted before.
+// A memory that others write notes each access behind all that it noted before, and one that nobody else writes notes none.
 fn what_is_noted()
-    ensures shared { noted true (Read 0 (1 ∷ []) ∷ []) (Wrote 1 (7 ∷ []))
+    ensures shared { with_access true (Read 0 (1 ∷ []) ∷ []) (Wrote 1 (7 ∷ []))
         ≡ Read 0 (1 ∷ []) ∷ Wrote 1 (7 ∷ []) ∷ [] }
-    ensures alone { noted false (Read 0 (1 ∷ []) ∷ []) (Wrote 1 (7 ∷ [])) ≡ Read 0 (1 ∷ []) ∷ [] }
+    ensures alone { with_access false (Read 0 (1 ∷ []) ∷ []) (Wrote 1 (7 ∷ [])) ≡ Read 0 (1 ∷ []) ∷ [] }
+{}
+
+// Writes in a row are as many accesses, in the same order, also where one covers another or has no bytes.
+#[tactic(auto, unfolding(live_memory::specs::Trace::wrotes))]
+fn what_is_written()
+    ensures each { wrotes (record { at = 2; bytes = 7 ∷ 8 ∷ [] } ∷ record { at = 2; bytes = 9 ∷ [] }
+        ∷ record { at = 0; bytes = [] } ∷ [])
+        ≡ Wrote 2 (7 ∷ 8 ∷ []) ∷ Wrote 2 (9 ∷ []) ∷ Wrote 0 [] ∷ [] }
 {}
 
 // Bytes one beside the other are read once; one byte twice, after it was written or past the end is not.
@@ -37,5 +45,6 @@ fn what_is_read_once()
 fn definitions_say_what_they_are_meant_to(rt: HostRuntime) {
     what_is_met();
     what_is_noted();
+    what_is_written();
     what_is_read_once();
 }

@@ -6,7 +6,7 @@ use crate::restless::Restless;
 use device::{Device, MemSlice, Outcome, Request};
 use guest_memory::{FlatMem, GuestMem};
 use history::{Caller, History, Room};
-use live_memory::{Dma, Touch, Traces};
+use live_memory::Dma;
 use script_support::registers::VFLINKS;
 use std::alloc::Global;
 use std::process::Abort;
@@ -17,14 +17,13 @@ use wire_frame::FrameBuf;
 fn keep<R: Abort, D: Dma<K>, K>(
     rt: &R,
     history: &mut History,
-    traces: &mut Traces,
     device: &mut Device<D, K>,
     request: Request<'_>,
 ) -> Option<usize> {
     assert!(rt; !history.is_full());
     let mut frame = FrameBuf::blank();
     match history
-        .record_live(Caller::Service, traces, request, device, &mut frame)
+        .record_live(Caller::Service, request, device, &mut frame)
         .outcome
     {
         Outcome::Bytes(span) => Some(span.count()),
@@ -73,17 +72,10 @@ fn gives<M: GuestMem>(
 fn the_bytes_that_are_kept_are_handed_out(rt: HostRuntime) -> Result<(), Fail> {
     let mut device = over(rt.alloc(), Restless::new())?;
     let mut history = History::new(rt.alloc(), 16)?;
-    let mut traces = Touch::None.traces();
     assert_equal(&rt, history.last_read().len(), 0);
-    keep(
-        &rt,
-        &mut history,
-        &mut traces,
-        &mut device,
-        Request::Open(0),
-    );
+    keep(&rt, &mut history, &mut device, Request::Open(0));
     for (request, due) in ASKED {
-        let read = keep(&rt, &mut history, &mut traces, &mut device, request);
+        let read = keep(&rt, &mut history, &mut device, request);
         match due {
             Some(bytes) => {
                 assert_equal(&rt, read, Some(bytes.len()));

@@ -1,8 +1,9 @@
 //! Tests of memories that others write too, and of those that nobody else writes.
 //!
-//! Contracts alone see a trace, so it can't be printed and compared. Here functions have the accesses that they make in their
-//! contracts, written by hand, and the definitions are tried on traces written by hand. What a history keeps of a memory's bytes
-//! is printed and compared. A memory that keeps its accesses at run time too serves to replay random events, while threads write it.
+//! Contracts alone see the list of accesses to a memory, so it can't be printed and compared. Here functions have the accesses that
+//! they make in their contracts, written by hand, and the definitions are tried on lists written by hand. What a history keeps of a
+//! memory's bytes is printed and compared. A memory that keeps its accesses at run time too serves to replay random events while
+//! threads write it: what a device did is compared with what the events say, worked out a second time without the device's code.
 #![tactic(auto)]
 
 #[cfg(test)]

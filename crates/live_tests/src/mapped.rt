@@ -1,28 +1,34 @@
 //! A memory in regions that are lent.
+ghost use Rattle.std.specs.Prelude.{◌≡◌, IfSome};
+ghost use Rattle.live_memory.specs.Trace.{Read, Wrote, with_access};
 
 use crate::compare::assert_equal;
-use live_memory::{Dma, Step};
+use live_memory::Dma;
 use mapped_memory::live_mem::MOST_REGIONS;
 use mapped_memory::{LiveMem, MapError};
 use std::process::Abort;
 use std::test::Fail;
 use wire_frame::Fault;
 
-// Writes eight bytes from an address on, and gives the eight from another on; `None` where they pass the end of the memory.
+// Writes eight bytes from an address on, and gives the eight from another on; `None` where they pass the end of the memory. The
+// memory notes these two accesses behind all before, where others write it.
 fn write_and_read<D: Dma<K>, K>(
     memory: &mut D,
     to: u64,
     bytes: [u8; 8],
     from: u64,
-) -> Option<[u8; 8]> {
+) -> Option<[u8; 8]>
+    ensures noted { IfSome result (λ out. D.noted memory.new
+        ≡ with_access D.shared (with_access D.shared (D.noted memory.old) (Wrote to bytes))
+        (Read from out)) }
+{
     let last = memory.extent().checked_sub(8)?;
     if to > last || from > last {
         return None;
     }
-    let mut trace = Step::Begin.trace();
-    memory.store(&mut trace, to, &bytes);
+    memory.store(to, &bytes);
     let mut out = [0xEE; 8];
-    memory.load(&mut trace, from, &mut out);
+    memory.load(from, &mut out);
     Some(out)
 }
 
@@ -168,13 +174,12 @@ fn write_descriptor<D: Dma<K>, K>(
     if at > memory.extent().checked_sub(16)? {
         return None;
     }
-    let mut trace = Step::Begin.trace();
-    memory.store_words(&mut trace, at, 0x1122_3344_5566_7788, 0x3C_0000_0003);
-    let both = memory.load_words(&mut trace, at);
-    memory.store_word(&mut trace, at, 5);
-    let low = memory.load_word(&mut trace, at);
+    memory.store_words(at, 0x1122_3344_5566_7788, 0x3C_0000_0003);
+    let both = memory.load_words(at);
+    memory.store_word(at, 5);
+    let low = memory.load_word(at);
     memory.erase();
-    Some((both, low, memory.load_words(&mut trace, at)))
+    Some((both, low, memory.load_words(at)))
 }
 
 // A descriptor in a region, and one whose last four bytes are in another one, which is read-only. The words are those of a receive

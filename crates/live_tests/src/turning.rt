@@ -18,6 +18,7 @@ struct Turning {
     next: [u8; 64],
     then: [u8; 64],
     known: [u8; 4096],
+    noted: Trace,
     ghost long: { length next ≡ 64 },
     ghost later: { length then ≡ 64 },
 }
@@ -29,6 +30,8 @@ impl Dma<Shared> for Turning {
 
     ghost answer = { λ m at count. turned count m.next };
 
+    ghost noted = { λ m. m.noted.accesses };
+
     ghost whole = { λ m at count fits. length_turned count m.next m.long };
 
     ghost steady = { λ m at count not. absurd (true≢false not) };
@@ -37,7 +40,7 @@ impl Dma<Shared> for Turning {
         self.known.len() as u64
     }
 
-    fn load(&mut self, trace: &mut Trace, addr: u64, out: &mut [u8]) {
+    fn load(&mut self, addr: u64, out: &mut [u8]) {
         if out.len() <= 64 {
             out.copy_from_slice(&self.next[..out.len()]);
         } else {
@@ -47,18 +50,19 @@ impl Dma<Shared> for Turning {
         let start = addr as usize;
         let end = start + out.len();
         self.known[start..end].copy_from_slice(out);
-        *trace = Step::Reads(trace, addr, out).trace();
+        self.noted = Step::Reads(&self.noted, addr, out).trace();
     }
 
-    fn store(&mut self, trace: &mut Trace, addr: u64, source: &[u8]) {
+    fn store(&mut self, addr: u64, source: &[u8]) {
         let start = addr as usize;
         let end = start + source.len();
         self.known[start..end].copy_from_slice(source);
-        *trace = Step::Writes(trace, addr, source).trace();
+        self.noted = Step::Writes(&self.noted, addr, source).trace();
     }
 
     fn erase(&mut self) {
         self.known.fill(0);
+        self.noted = Step::Begin.trace();
     }
 }
 
@@ -115,8 +119,8 @@ fn sends_one<R: Abort, D: Dma<K>, K>(
         Event::VfWrite(0, TDT0, 1),
         Event::Serve(0, Queue::Q0),
     ];
-    let run = run_live(&mut device, alloc, &events)?;
-    assert_equal(rt, run.answers.len(), 7);
+    let answers = run_live(&mut device, alloc, &events)?;
+    assert_equal(rt, answers.len(), 7);
     assert_equal(rt, device.wire_len(), 1);
     if let Some(frame) = device.wire_at(0) {
         assert_equal(rt, frame.bytes(), due);
@@ -132,6 +136,7 @@ fn sends_the_descriptor_that_it_read(rt: HostRuntime) -> Result<(), Fail> {
         next: descriptor_bytes(),
         then: padded(&frame),
         known: [0; 4096],
+        noted: Step::Begin.trace(),
     };
     sends_one(&rt, rt.alloc(), memory, &frame)
 }

@@ -37,7 +37,7 @@ fn seat_of(seats: Vec<GuestSeat>, pool: u8) -> Option<GuestSeat>
 
 // A device as it is made.
 fn fresh<M: GuestMem>(alloc: Global, memories: Vec<M>) -> Result<Device<M>, Fault>
-    ensures { IfOk result IsFresh }
+    ensures { IfOk result (λ d. IsFresh d.world) }
 {
     Device::new(alloc, memories)
 }

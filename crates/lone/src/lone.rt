@@ -31,7 +31,7 @@ impl<M: GuestMem> Model for Lone<M> {
 
     ghost Value = { Lone };
 
-    ghost view = { λ l. record { limit = l.limit; function = l.unit; settings = l.settings } };
+    ghost view = { λ l. record { limit = l.limit; function = l.unit.function; settings = l.settings } };
 }
 
 impl<M: GuestMem> Lone<M> {

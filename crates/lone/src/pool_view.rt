@@ -32,15 +32,15 @@ impl<M: GuestMem> Model for PoolView<M> {
 
     ghost Value = { Watched };
 
-    ghost view = { λ w. record { world = w.device; pool = w.pool } };
+    ghost view = { λ w. record { world = w.device.world; pool = w.pool } };
 
-    ghost invariant = { λ w. w.settings ≡ own w.device.settings w.pool };
+    ghost invariant = { λ w. w.settings ≡ own w.device.world.settings w.pool };
 }
 
 impl<M: GuestMem> PoolView<M> {
     /// The device, watched for a pool from now on.
     pub fn new(device: Device<M>, pool: PoolId) -> PoolView<M>
-        ensures world { result.world ≡ device }
+        ensures world { result.world ≡ device.world }
         ensures pool { result.pool ≡ pool }
     {
         let mut settings = Own::none();

@@ -23,7 +23,7 @@ pub fn make_device<M: GuestMem>(
     shape: Shape,
     memories: Vec<M>,
 ) -> Result<Box<Device<M>>, wire_frame::Fault>
-    ensures ok { IfOk result (λ d. d.value ≡ device_of (asked_by shape)) }
+    ensures ok { IfOk result (λ d. d.value.world ≡ device_of (asked_by shape)) }
     ensures err { IfErr result (λ e. (e ≡ Refused.BadMake) ⊎ (e ≡ Refused.NoMemory)) }
 {
     if !are_of_size(memories.as_slice(), shape.functions, shape.memory_size) {
@@ -74,7 +74,7 @@ pub fn make_watch<M: GuestMem>(
     device: Box<Device<M>>,
     pool: PoolId,
 ) -> Result<Box<PoolView<M>>, Fault>
-    ensures ok { IfOk result (λ w. w.value ≡ record { world = device.value; pool = pool }) }
+    ensures ok { IfOk result (λ w. w.value ≡ record { world = device.value.world; pool = pool }) }
     ensures err { IfErr result (λ e. is_late e ≡ true) }
 {
     Ok(Box::new(alloc, PoolView::new(Box::into_inner(device), pool))?)

@@ -38,9 +38,9 @@ pub fn write_report<M: GuestMem, L: Ledger, W: Write>(
 ) -> Result<(), Fault>
     requires { length shares.items ≡ 67 }
     ensures ok { OnOk result
-        (Reported recorded.old other.old (W.contents writer.old) (W.contents writer.new)) }
+        (Reported recorded.old other.old.world (W.contents writer.old) (W.contents writer.new)) }
     ensures err { OnErr result
-        (BeganToReport recorded.old other.old (W.contents writer.old) (W.contents writer.new)) }
+        (BeganToReport recorded.old other.old.world (W.contents writer.old) (W.contents writer.new)) }
     ensures late { IfErr result (λ e. is_late e ≡ true) }
 {
     let report = tell(recorded, shares, other);
@@ -54,7 +54,7 @@ fn tell<M: GuestMem, L: Ledger>(
     other: &mut Device<M>,
 ) -> Report
     requires { length shares.items ≡ 67 }
-    ensures { Tells recorded.old other.old result }
+    ensures { Tells recorded.old other.old.world result }
 {
     let Some(tally) = recorded.gather(shares) else {
         unreachable!()

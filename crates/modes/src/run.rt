@@ -36,13 +36,13 @@ pub fn run<M: GuestMem, W: Write>(
     ensures err { OnErr result (Began (W.contents writer.old) (W.contents writer.new)
         (output.old ++ run_text (device_of script.now.device) script.now.events)) }
     ensures late { IfErr result (λ e. is_late e ≡ true) }
-    ensures world { IfOk result (λ device. device.value
+    ensures world { IfOk result (λ device. device.value.world
         ≡ world_after (device_of script.now.device) script.now.events) }
     // what was written is the lines of answers that are to each function as if it were alone, and then of the device's frames
-    ensures isolated { IfOk result (λ device. SentIsolated script.now device.value.wire
+    ensures isolated { IfOk result (λ device. SentIsolated script.now device.value.world.wire
         (W.contents writer.old) (W.contents writer.new) output.old output.new) }
     // and each function and its own settings are what the function alone becomes
-    ensures isolated_state { IfOk result (λ device. AreLeftAsAlone script.now device.value) }
+    ensures isolated_state { IfOk result (λ device. AreLeftAsAlone script.now device.value.world) }
 {
     let shape = script.shape();
     let mut device = make_device(alloc, shape, memories)?;
@@ -65,10 +65,11 @@ fn perform<M: GuestMem, W: Write>(
     writer: &mut W,
 ) -> Result<(), Fault>
     ensures ok { OnOk result (Sent (W.contents writer.old) (W.contents writer.new)
-        (output.old ++ run_text device.old script.now.events) output.new) }
+        (output.old ++ run_text device.old.world script.now.events) output.new) }
     ensures err { OnErr result (Began (W.contents writer.old) (W.contents writer.new)
-        (output.old ++ run_text device.old script.now.events)) }
-    ensures world { OnOk result (device.new ≡ world_after device.old script.now.events) }
+        (output.old ++ run_text device.old.world script.now.events)) }
+    ensures world { OnOk result
+        (device.new.world ≡ world_after device.old.world script.now.events) }
     ensures late { IfErr result (λ e. is_late e ≡ true) }
 {
     let mut room = make_room(alloc)?;
@@ -88,10 +89,11 @@ fn answers<M: GuestMem, W: Write>(
     writer: &mut W,
 ) -> Result<(), transcript::Fault>
     ensures ok { OnOk result (Sent (W.contents writer.old) (W.contents writer.new)
-        (output.old ++ lines 1 (answers device.old script.now.events)) output.new) }
-    ensures world { OnOk result (device.new ≡ world_after device.old script.now.events) }
+        (output.old ++ lines 1 (answers device.old.world script.now.events)) output.new) }
+    ensures world { OnOk result
+        (device.new.world ≡ world_after device.old.world script.now.events) }
     ensures err { OnErr result (Began (W.contents writer.old) (W.contents writer.new)
-        (output.old ++ lines 1 (answers device.old script.now.events))) }
+        (output.old ++ lines 1 (answers device.old.world script.now.events))) }
 {
     let mut frame = FrameBuf::blank();
     for index in 0..script.len() {
@@ -110,9 +112,9 @@ fn frames<M: GuestMem, W: Write>(
     writer: &mut W,
 ) -> Result<(), transcript::Fault>
     ensures ok { OnOk result (Sent (W.contents writer.old) (W.contents writer.new)
-        (output.old ++ frame_lines device.now.wire) output.new) }
+        (output.old ++ frame_lines device.now.world.wire) output.new) }
     ensures err { OnErr result (Began (W.contents writer.old) (W.contents writer.new)
-        (output.old ++ frame_lines device.now.wire)) }
+        (output.old ++ frame_lines device.now.world.wire)) }
 {
     for index in 0..device.wire_len() {
         let frame = frame_at(device, index);
@@ -124,8 +126,8 @@ fn frames<M: GuestMem, W: Write>(
 // A frame that went to the wire.
 #[inline]
 fn frame_at<M: GuestMem>(device: &Device<M>, index: usize) -> &FrameBuf
-    requires { index < length device.now.wire }
-    ensures { result.now ≡ slice_index_or device.now.wire index [] }
+    requires { index < length device.now.world.wire }
+    ensures { result.now ≡ slice_index_or device.now.world.wire index [] }
 {
     match device.wire_at(index) {
         Some(frame) => frame,

@@ -187,10 +187,10 @@ fn record<M: GuestMem, L: Ledger>(
 ) -> Result<(Recorded<M, L>, Shares<L>), Fault>
     requires name { blank.name ≡ L.name }
     requires parts { (blank.parts ≡ L.parts) × (blank.parts ≡ 67) }
-    requires fresh { IsFresh device.value }
+    requires fresh { IsFresh device.value.world }
     requires line { line.raises ≡ [] }
     ensures begun { IfOk result
-        (λ r. r.0 ≡ begun device.value (most_calls script.now) false line) }
+        (λ r. r.0 ≡ begun device.value.world (most_calls script.now) false line) }
     ensures shares { IfOk result (λ r. AreUnused r.1) }
 {
     let Some(cap) = script.len().checked_add(MOST_ENDS) else {

@@ -54,12 +54,12 @@ impl<M: GuestMem> Journal<M> {
         line: DeviceSeat,
         history: History,
     ) -> Journal<M>
-        requires fresh { IsFresh live.value }
-        requires twin { IfSome twin (λ t. t.value ≡ live.value) }
+        requires fresh { IsFresh live.value.world }
+        requires twin { IfSome twin (λ t. t.value.world ≡ live.value.world) }
         requires line { line.raises ≡ [] }
         requires empty { history.entries ≡ [] }
         requires few { history.cap ≤ 65536 }
-        ensures begun { result ≡ begun live.value history.cap (is_some twin) line }
+        ensures begun { result ≡ begun live.value.world history.cap (is_some twin) line }
     {
         Journal {
             recording: Recording::new(live, twin, history),

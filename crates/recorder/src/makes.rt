@@ -8,7 +8,7 @@ use guest_memory::GuestMem;
 
 /// Whether two devices take frames as long, and have as many functions with memories of the same sizes.
 pub fn is_same_make<M: GuestMem>(one: &Device<M>, other: &Device<M>) -> bool
-    ensures { IsTrue result ↔ SameMake one.now other.now }
+    ensures { IsTrue result ↔ SameMake one.now.world other.now.world }
 {
     let same_limit = one.limit() == other.limit();
     let same_sizes = have_same_sizes(one, other);
@@ -18,7 +18,7 @@ pub fn is_same_make<M: GuestMem>(one: &Device<M>, other: &Device<M>) -> bool
 // Whether two devices have as many functions, with memories of the same sizes.
 #[tactic(auto, using(crate::proofs::SizeLemmas::all_same, crate::proofs::SizeLemmas::one_same))]
 fn have_same_sizes<M: GuestMem>(one: &Device<M>, other: &Device<M>) -> bool
-    ensures { IsTrue result ↔ (sizes_of one.now ≡ sizes_of other.now) }
+    ensures { IsTrue result ↔ (sizes_of one.now.world ≡ sizes_of other.now.world) }
 {
     if one.functions() != other.functions() {
         return false;

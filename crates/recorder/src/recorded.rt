@@ -74,9 +74,9 @@ impl<M: GuestMem, L: Ledger> Recorded<M, L> {
     ) -> Result<(Recorded<M, L>, Shares<L>), Fault>
         requires name { blank.name ≡ L.name }
         requires parts { (blank.parts ≡ L.parts) × (blank.parts ≡ 67) }
-        requires fresh { IsFresh device }
+        requires fresh { IsFresh device.world }
         requires line { line.raises ≡ [] }
-        ensures begun { IfOk result (λ r. r.0 ≡ begun device cap false line) }
+        ensures begun { IfOk result (λ r. r.0 ≡ begun device.world cap false line) }
         ensures shares { IfOk result (λ r. AreUnused r.1) }
         ensures bad_make { is_cap cap ≡ false → result ≡ Err Fault.BadMake }
         ensures no_memory { IfErr result (λ e. is_cap cap ≡ true → e ≡ Fault.NoMemory) }
@@ -100,14 +100,14 @@ impl<M: GuestMem, L: Ledger> Recorded<M, L> {
     ) -> Result<(Recorded<M, L>, Shares<L>), Fault>
         requires name { blank.name ≡ L.name }
         requires parts { (blank.parts ≡ L.parts) × (blank.parts ≡ 67) }
-        requires fresh { IsFresh live × IsFresh twin }
+        requires fresh { IsFresh live.world × IsFresh twin.world }
         requires line { line.raises ≡ [] }
-        ensures begun { IfOk result (λ r. r.0 ≡ begun live cap true line) }
+        ensures begun { IfOk result (λ r. r.0 ≡ begun live.world cap true line) }
         ensures shares { IfOk result (λ r. AreUnused r.1) }
         ensures bad_make { is_cap cap ≡ false → result ≡ Err Fault.BadMake }
-        ensures bad_twin { ¬ (SameMake live twin) → result ≡ Err Fault.BadMake }
+        ensures bad_twin { ¬ (SameMake live.world twin.world) → result ≡ Err Fault.BadMake }
         ensures no_memory { IfErr result
-            (λ e. is_cap cap ≡ true → SameMake live twin → e ≡ Fault.NoMemory) }
+            (λ e. is_cap cap ≡ true → SameMake live.world twin.world → e ≡ Fault.NoMemory) }
     {
         if !is_same_make(&live, &twin) {
             return Err(Fault::BadMake);
@@ -259,13 +259,13 @@ impl<M: GuestMem, L: Ledger> Recorded<M, L> {
     /// Steps a device through the kept calls, and tells whether it gave the kept answers: each reply with its bytes, and all
     /// messages.
     pub fn replays(&self, device: &mut Device<M>) -> bool
-        ensures world { device.new ≡ world_after device.old (events self.now.kept) }
+        ensures world { device.new.world ≡ world_after device.old.world (events self.now.kept) }
         ensures same { IsTrue result
-            ↔ (answers device.old (events self.now.kept) ≡ given self.now.kept) }
+            ↔ (answers device.old.world (events self.now.kept) ≡ given self.now.kept) }
         // of the base, and of a device of the live one's make while no calls were folded away
-        ensures base { device.old ≡ self.now.base → IsTrue result }
+        ensures base { device.old.world ≡ self.now.base → IsTrue result }
         ensures fresh { folded self.now ≡ 0
-            → device.old ≡ fresh self.now.live.limit (sizes_of self.now.live) → IsTrue result }
+            → device.old.world ≡ fresh self.now.live.limit (sizes_of self.now.live) → IsTrue result }
     {
         self.journal.agrees();
         self.journal.recording().history().gives_all(device)

@@ -53,7 +53,7 @@ pub fn device_new(alloc: Global) -> Came {
 
 // A device as it is made.
 fn fresh(alloc: Global, count: usize, size: u64) -> Result<Device<FlatMem>, Fault>
-    ensures { IfOk result IsFresh }
+    ensures { IfOk result (λ d. IsFresh d.world) }
 {
     Device::new(alloc, memories(alloc, count, size)?)
 }

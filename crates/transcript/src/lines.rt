@@ -40,7 +40,7 @@ impl Output {
         taken: &Response<'_>,
     )
         requires { length self.old ≤ HELD }
-        ensures text { self.new ≡ self.old ++ line number (answer_in device.now taken.now) }
+        ensures text { self.new ≡ self.old ++ line number (answer_in device.now.world taken.now) }
         ensures few { length self.new ≤ MOST_HELD }
     {
         let room = self.room.as_mut_slice();
@@ -96,7 +96,7 @@ fn put_reply<M: GuestMem>(
     requires { at + MOST_REPLY ≤ length room.old }
     ensures end { result ≤ at + MOST_REPLY }
     ensures text { take result room.new
-        ≡ take at room.old ++ reply_text (reply_in device.now outcome) }
+        ≡ take at room.old ++ reply_text (reply_in device.now.world outcome) }
 {
     match outcome {
         Outcome::Bytes(span) => put_read(room, at, read, device, span),
@@ -116,7 +116,7 @@ fn put_read<M: GuestMem>(
     requires { at + MOST_REPLY ≤ length room.old }
     ensures end { result ≤ at + MOST_REPLY }
     ensures text { take result room.new
-        ≡ take at room.old ++ reply_text (reply_in device.now (Reply.Bytes span)) }
+        ≡ take at room.old ++ reply_text (reply_in device.now.world (Reply.Bytes span)) }
 {
     let bytes = &mut read[..span.count()];
     device.read_span(span, bytes);

@@ -77,11 +77,11 @@ impl Output {
     ) -> Result<(), Fault>
         ensures ok { OnOk result
             (Sent (W.contents writer.old) (W.contents writer.new)
-            (self.old ++ line number (answer_in device.now taken.now)) self.new) }
+            (self.old ++ line number (answer_in device.now.world taken.now)) self.new) }
         ensures few { OnOk result (length self.new ≤ MOST_HELD) }
         ensures err { OnErr result
             (Began (W.contents writer.old) (W.contents writer.new)
-            (self.old ++ line number (answer_in device.now taken.now))) }
+            (self.old ++ line number (answer_in device.now.world taken.now))) }
         ensures io { IfErr result (λ e. e ≡ Fault.Io) }
     {
         self.relieve(writer)?;

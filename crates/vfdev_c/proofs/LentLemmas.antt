@@ -1,19 +1,22 @@
 -- Blocks that are lent, and the device over them.
-use Rattle.std.proofs.Common.{rules, arith, ◌≡◌, ◌≤◌, ℕ, suc, Bool, true, false, nat_le, List, [], ◌∷◌, ◌++◌, length, map, drop, refl, sym, ap, subst, ◌∙◌}
+use Rattle.std.proofs.Common.{rules, arith, ◌≡◌, ◌≤◌, ℕ, suc, Bool, true, false, true≢false, nat_le, List, [], ◌∷◌, ◌++◌, length, map, drop, refl, sym, ap, subst, ◌∙◌}
 use Rattle.std.specs.Prelude.{if◌then◌else◌}
 use Rattle.std.proofs.lemmas.List.{take_all}
-use Rattle.live_memory.specs.Traces.{Touches}
+use Rattle.live_memory.specs.Trace.{Access}
 use Rattle.mapped_memory.specs.Regions.{Regions}
 use Rattle.device.specs.Events.{Event}
+use Rattle.device.specs.declared.event.Event.TheVariants.{Open, End, VfRead, VfWrite, MemRead, MemWrite, Serve, Flr, PfRead, PfWrite, PfReset, Wire}
 use Rattle.device.specs.declared.event.Reply.TheVariants.{Done, Value, Bytes, Idle, More, Sent, Dropped, Faulted, Refused}
-use Rattle.device.specs.Live.{told_world, AreTraced}
+use Rattle.device.specs.Accesses.{accesses_by, accesses_but_read}
+use Rattle.device.specs.Live.{TracedWorld, trace_of, AreListed, AreMet}
 use Rattle.device.specs.Outcome.{Outcome, HasCount, HoldsIn, bytes_told, reply_in}
 use Rattle.device.specs.World.{World, Stepped, step}
-use Rattle.device.proofs.LiveLemmas.{length_told, told_world_none, untouched}
+use Rattle.device.proofs.LiveLemmas.{length_told, told_world_none, untouched, none_listed}
+use Rattle.device.proofs.Written.{still}
 use Rattle.vfdev_c.specs.declared.lending.Span.{Span}
 use Rattle.vfdev_c.specs.Spans.{span, lent, one_more, block_of, blocks_of, IsBlock, AreBlocks}
-use Rattle.vfdev_c.specs.Handle.{IsolatedStep, TakesLent, bytes_shown, shown}
-use Rattle.vfdev_c.specs.LentWorld.{lent_world}
+use Rattle.vfdev_c.specs.Handle.{IsolatedStep, TakesLent, bytes_shown, is_mem_read, shown}
+use Rattle.vfdev_c.specs.LentWorld.{met_by, AreOnce, AreAllListed}
 use Rattle.vfdev_c.specs.declared.reply.VfdevReply.{VfdevReply}
 
 -- ---- one block more
@@ -46,34 +49,67 @@ lent_more ms spans m address len is same = λ i. lent (blocks ms i) (spans ++ sp
 
 -- ---- the device over them
 
--- the law holds of the world that a call met
-isolated_met : (w new : World) (before now : Touches) (e : Event) → new ≡ (step (told_world before now w) e).world
-    → ((v : World) (e : Event) → length v.functions ≡ length w.functions → IsolatedStep v e (step v e).world)
-    → IsolatedStep (told_world before now w) e new
-isolated_met w new before now e is law =
-    subst (λ v. IsolatedStep (told_world before now w) e v) (sym is) (law (told_world before now w) e (length_told before now w.functions))
+-- a law of all events in all worlds of as many functions
+abbrev pub Isolates : World → Type 0
+Isolates w = (v : World) (e : Event) → length v.functions ≡ length w.functions → IsolatedStep v e (step v e).world
 
--- an event of which all accesses were kept
-pub takes_met : (w new : World) (before now : Touches) (e : Event) (reply : VfdevReply) (raised : List ℕ) → new ≡ (step (told_world before now w) e).world
-    → reply ≡ shown (step (told_world before now w) e).answer.reply → raised ≡ (step (told_world before now w) e).answer.raised → AreTraced true before now w
-    → ((v : World) (e : Event) → length v.functions ≡ length w.functions → IsolatedStep v e (step v e).world)
-    → TakesLent (lent_world w before) e (lent_world new now) reply raised
-takes_met w new before now e reply raised world replied raises traced law = record {
-  taken = ap (λ (v : World). lent_world v now) world;
+-- the law holds of the world that a call met
+isolated_met : (old new : TracedWorld) (e : Event) → new.world ≡ (step (met_by old new).world e).world → Isolates old.world → IsolatedStep (met_by old new).world e new.world
+isolated_met old new e is law =
+    subst (λ v. IsolatedStep (met_by old new).world e v) (sym is) (law (met_by old new).world e (length_told old.accesses new.accesses old.world.functions))
+
+-- an event, whose accesses are listed
+pub takes_met : (old new : TracedWorld) (e : Event) (reply : VfdevReply) (raised : List ℕ) → new.world ≡ (step (met_by old new).world e).world
+    → reply ≡ shown (step (met_by old new).world e).answer.reply → raised ≡ (step (met_by old new).world e).answer.raised → AreOnce old new → AreAllListed old e new
+    → Isolates old.world → TakesLent old e new reply raised
+takes_met old new e reply raised world replied raises once listed law = record {
+  taken = ap (λ (v : World). record { world = v; accesses = new.accesses }) world;
   replied = replied;
   raises = raises;
-  isolated = isolated_met w new before now e world law;
-  once = traced;
+  isolated = isolated_met old new e world law;
+  once = once;
+  listed = listed;
 }
 
--- an event that reads no memory and writes none by the device
-pub takes_quietly : (w new : World) (t : Touches) (e : Event) (reply : VfdevReply) (raised : List ℕ) → new ≡ (step w e).world → reply ≡ shown (step w e).answer.reply → raised ≡ (step w e).answer.raised
-    → ((v : World) (e : Event) → length v.functions ≡ length w.functions → IsolatedStep v e (step v e).world)
-    → TakesLent (lent_world w t) e (lent_world new t) reply raised
-takes_quietly w new t e reply raised world replied raises law =
-    let stepped : step w e ≡ step (told_world t t w) e = ap (λ (v : World). step v e) (sym (told_world_none t t w (λ r. refl))) in
-    takes_met w new t t e reply raised (world ∙ ap (λ (s : Stepped). s.world) stepped) (replied ∙ ap (λ (s : Stepped). shown s.answer.reply) stepped)
-    (raises ∙ ap (λ (s : Stepped). s.answer.raised) stepped) (untouched true t w) law
+-- an event that meets the world that was there
+pub takes_there : (old new : TracedWorld) (e : Event) (reply : VfdevReply) (raised : List ℕ) → (met_by old new).world ≡ old.world → new.world ≡ (step old.world e).world
+    → reply ≡ shown (step old.world e).answer.reply → raised ≡ (step old.world e).answer.raised → AreOnce old new → AreListed (accesses_by old.world e) old.accesses new.accesses
+    → Isolates old.world → TakesLent old e new reply raised
+takes_there old new e reply raised there world replied raises once listed law =
+    let stepped : step old.world e ≡ step (met_by old new).world e = ap (λ (v : World). step v e) (sym there) in
+    takes_met old new e reply raised (world ∙ ap (λ (s : Stepped). s.world) stepped) (replied ∙ ap (λ (s : Stepped). shown s.answer.reply) stepped)
+    (raises ∙ ap (λ (s : Stepped). s.answer.raised) stepped) once (subst (λ (v : World). AreListed (accesses_by v e) old.accesses new.accesses) (sym there) listed) law
+
+-- an event that accesses no memory
+pub takes_quietly : (old new : TracedWorld) (e : Event) (reply : VfdevReply) (raised : List ℕ) → new.accesses ≡ old.accesses → ((p : ℕ) → accesses_by old.world e p ≡ [])
+    → new.world ≡ (step old.world e).world → reply ≡ shown (step old.world e).answer.reply → raised ≡ (step old.world e).answer.raised → Isolates old.world → TakesLent old e new reply raised
+takes_quietly old new e reply raised same none world replied raises law =
+    takes_there old new e reply raised
+    (told_world_none old.accesses new.accesses old.world (λ r. ap (λ (t : List (List Access)). trace_of t r) same)) world replied raises
+    (subst (λ (t : List (List Access)). AreMet true old.accesses t old.world) (sym same) (untouched true old.accesses old.world))
+    (none_listed old.accesses new.accesses (accesses_by old.world e) same none) law
+
+-- a write of a guest's memory
+pub takes_write : (old new : TracedWorld) (p at : ℕ) (bytes : List ℕ) (reply : VfdevReply) (raised : List ℕ) → new.world ≡ (step old.world (MemWrite p at bytes)).world
+    → reply ≡ shown (step old.world (MemWrite p at bytes)).answer.reply → raised ≡ (step old.world (MemWrite p at bytes)).answer.raised → AreOnce old new
+    → AreListed (accesses_by old.world (MemWrite p at bytes)) old.accesses new.accesses → Isolates old.world → TakesLent old (MemWrite p at bytes) new reply raised
+takes_write old new p at bytes reply raised world replied raises once listed law =
+    takes_there old new (MemWrite p at bytes) reply raised (still old.accesses new.accesses old.world p at bytes listed) world replied raises once listed law
+
+-- but for a read, an event accesses the memories where its bytes are looked at elsewhere
+pub unread_by : (w : World) (e : Event) → is_mem_read e ≡ false → accesses_but_read w e ≡ accesses_by w e
+unread_by w (Open p) not = refl
+unread_by w (End p) not = refl
+unread_by w (VfRead p offset) not = refl
+unread_by w (VfWrite p offset x) not = refl
+unread_by w (MemRead p at count) not = absurd (true≢false not)
+unread_by w (MemWrite p at bytes) not = refl
+unread_by w (Serve p q) not = refl
+unread_by w (Flr p) not = refl
+unread_by w (PfRead offset) not = refl
+unread_by w (PfWrite offset x) not = refl
+unread_by w PfReset not = refl
+unread_by w (Wire frame) not = refl
 
 -- ---- bytes that were read
 

@@ -7,6 +7,7 @@ use Rattle.wire_frame.specs.declared.fault.Fault.TheVariants.{NoSuchVf}
 use Rattle.vf_unit.specs.Unit.{Function, is_open}
 use Rattle.device.specs.Events.{Event}
 use Rattle.device.specs.declared.event.Event.TheVariants.{Open, End, VfRead, VfWrite, MemRead, MemWrite, Serve, Flr, PfRead, PfWrite, PfReset, Wire}
+use Rattle.device.specs.Accesses.{accesses_by}
 use Rattle.device.specs.Act.{act, refusal}
 use Rattle.device.specs.World.{World, Stepped, step, function_of, acted, refused}
 use Rattle.history.specs.declared.caller.Caller.TheVariants.{Driver}
@@ -43,6 +44,27 @@ step_alike w (PfRead offset) = refl
 step_alike w (PfWrite offset x) = refl
 step_alike w PfReset = refl
 step_alike w (Wire frame) = refl
+
+-- and accesses the same
+listed_long : (w : World) (p at count : ℕ) (within : Bool) (r : ℕ) → nat_le count 65535 ≡ within
+    → accesses_by w (MemRead p at (if within then count else 65535)) r ≡ accesses_by w (MemRead p at count) r
+listed_long w p at count true r is = refl
+listed_long w p at count false r is =
+    let long : nat_lt 2048 count ≡ true = grind (arith, nat_tests) in rw long refl
+
+pub listed_alike : (w : World) (e : Event) → accesses_by w (kept_as e) ≡ accesses_by w e
+listed_alike w (Open p) = refl
+listed_alike w (End p) = refl
+listed_alike w (VfRead p offset) = refl
+listed_alike w (VfWrite p offset x) = refl
+listed_alike w (MemRead p at count) = λ i r. listed_long w p at count (nat_le count 65535) r refl i
+listed_alike w (MemWrite p at bytes) = refl
+listed_alike w (Serve p q) = refl
+listed_alike w (Flr p) = refl
+listed_alike w (PfRead offset) = refl
+listed_alike w (PfWrite offset x) = refl
+listed_alike w PfReset = refl
+listed_alike w (Wire frame) = refl
 
 -- ---- what is kept
 

@@ -9,10 +9,11 @@ use Rattle.irq_causes.specs.Messages.{no_messages}
 use Rattle.vf_unit.specs.declared.registers.Queue.{Queue}
 use Rattle.vf_unit.specs.declared.registers.Queue.TheVariants.{Q0, Q1}
 use Rattle.device.specs.Events.{Event}
-use Rattle.device.specs.declared.event.Event.TheVariants.{VfWrite, MemWrite, Serve, Wire}
+use Rattle.device.specs.declared.event.Event.TheVariants.{VfWrite, MemRead, MemWrite, Serve, Wire}
 use Rattle.device.specs.Replies.{Reply}
 use Rattle.device.specs.declared.event.Reply.TheVariants.{Done, Value, Bytes, Idle, More, Sent, Dropped, Faulted, Refused}
 use Rattle.device.specs.World.{World, step, answers, world_after, is_frame_limit}
+use Rattle.device.specs.Live.{TracedWorld}
 use Rattle.device.specs.Outcome.{left_by}
 use Rattle.device.specs.Lone.{keep, lone_of, lone_seen, lone_after, seen_by}
 use Rattle.history.specs.Entries.{Entry, is_cap, events, given}
@@ -20,7 +21,7 @@ use Rattle.history.specs.Recording.{made_like}
 use Rattle.vfdev_c.specs.declared.reply.VfdevReply.{VfdevReply}
 use Rattle.vfdev_c.specs.declared.handle_state.HandleState.{HandleState}
 use Rattle.vfdev_c.specs.declared.handle_state.HandleState.TheVariants.{Lending, Made, Kept, Lent}
-use Rattle.vfdev_c.specs.LentWorld.{LentWorld, met_by, taken_by, AreOnce}
+use Rattle.vfdev_c.specs.LentWorld.{IsUntouched, met_by, taken_by, AreOnce, AreAllListed}
 use Rattle.vfdev_c.specs.Recorded.{is_full, taking}
 use Rattle.vfdev_c.specs.Spans.{Lent as Blocks, none_lent, span, overlaps_one}
 
@@ -161,6 +162,11 @@ is_silent (Serve p q) = false
 is_silent (Wire frame) = false
 is_silent e = true
 
+-- it reads a guest's memory for the caller
+abbrev pub is_mem_read : Event → Bool
+is_mem_read (MemRead p at count) = true
+is_mem_read e = false
+
 -- ---- isolation
 
 -- to each function of the device an event is as if it were alone: what it sees of it, and what it is left as
@@ -169,13 +175,15 @@ IsolatedStep w e new = (p : ℕ) → p < length w.functions →
     (seen_by p (e ∷ []) ((step w e).answer ∷ []) ≡ lone_seen (lone_of p w) (keep p w (e ∷ [])))
     × (lone_of p new ≡ lone_after (lone_of p w) (keep p w (e ∷ [])))
 
--- a device over lent blocks took an event: what it is left as, what is replied and raised, of what it met
-pub record TakesLent (old : LentWorld) (e : Event) (new : LentWorld) (reply : VfdevReply) (raised : List ℕ) : Type 0 where
+-- a device over lent blocks took an event: what it is left as, what is replied and raised, of what it met, and what it read and
+-- wrote of the guests' memories
+pub record TakesLent (old : TracedWorld) (e : Event) (new : TracedWorld) (reply : VfdevReply) (raised : List ℕ) : Type 0 where
   pub taken : new ≡ taken_by (met_by old new) e
   pub replied : reply ≡ shown (step (met_by old new).world e).answer.reply
   pub raises : raised ≡ (step (met_by old new).world e).answer.raised
   pub isolated : IsolatedStep (met_by old new).world e new.world
   pub once : AreOnce old new
+  pub listed : AreAllListed old e new
 
 abbrev pub Isolated : Held → Requested → Held → Type 0
 Isolated (Some (Made w)) (Ok e) (Some (Made new)) = IsolatedStep w e new
@@ -188,14 +196,22 @@ abbrev pub ReadsOnce : Held → Requested → Held → Type 0
 ReadsOnce (Some (Lent old)) (Ok e) (Some (Lent new)) = AreOnce old new
 ReadsOnce old asked new = Unit
 
+-- what was read and written of each guest's memory is just what the event lists, in that order; a call that asks no event accesses
+-- none, as the handle then leads to what it led to
+abbrev pub AccessesListed : Held → Requested → Held → Type 0
+AccessesListed (Some (Lent old)) (Ok e) (Some (Lent new)) = AreAllListed old e new
+AccessesListed old asked new = Unit
+
 -- ---- a call
 
--- what a handle leads to after a call, and what is replied, of what the call met; to each function the call is as if it were alone
+-- what a handle leads to after a call, and what is replied, of what the call met; to each function the call is as if it were alone;
+-- and what the call read and wrote of memories that guests write too
 pub record Calls (old : Held) (asked : Requested) (new : Held) (reply : VfdevReply) : Type 0 where
   pub held : new ≡ after (met old asked new) asked
   pub replied : reply ≡ reply_to (met old asked new) asked
   pub isolated : Isolated (met old asked new) asked new
   pub once : ReadsOnce old asked new
+  pub listed : AccessesListed old asked new
 
 -- the messages of a call
 abbrev pub raised_on : Held → Requested → Held → List ℕ
@@ -235,6 +251,11 @@ can_lend held bytes = is_memory_size (length bytes) && nat_lt (length (lent_in h
 -- a block of these bytes, which begins at the address, overlaps one that was lent
 abbrev pub is_lent_twice : Held → ℕ → List ℕ → Bool
 is_lent_twice held address bytes = overlaps_one (span address (length bytes)) (lent_in held).spans
+
+-- a device over lent blocks is there as it is made: of that world, and no memory was accessed
+abbrev pub IsMadeOver : Held → World → Type 0
+IsMadeOver (Some (Lent device)) w = IsUntouched device w
+IsMadeOver held w = ⊥
 
 -- a device is there
 abbrev pub is_made : Held → Bool

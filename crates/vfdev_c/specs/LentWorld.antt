@@ -1,30 +1,27 @@
 -- A device over blocks that guests write while it works on them.
-use Rattle.std.specs.Prelude.{true, []}
-use Rattle.live_memory.specs.Traces.{Touches}
+use Rattle.std.specs.Prelude.{◌≡◌, ℕ, true, []}
+use Rattle.device.specs.Accesses.{accesses_by}
 use Rattle.device.specs.Events.{Event}
+use Rattle.device.specs.Live.{TracedWorld, trace_of, told_world, AreListed, AreMet}
 use Rattle.device.specs.World.{World, step}
-use Rattle.device.specs.Live.{told_world, AreTraced}
 
--- the device, whose memories are as it knows them, and what it read of each function's memory, and wrote there, since it was made
-pub record LentWorld : Type 0 where
-  pub world : World
-  pub touches : Touches
-
-abbrev pub lent_world : World → Touches → LentWorld
-lent_world world touches = record { world = world; touches = touches }
-
--- none was accessed yet
-abbrev pub untouched : World → LentWorld
-untouched w = lent_world w []
+-- the device has that world, and no function's memory was accessed yet
+pub record IsUntouched (device : TracedWorld) (w : World) : Type 0 where
+  pub world : device.world ≡ w
+  pub accesses : (p : ℕ) → trace_of device.accesses p ≡ []
 
 -- what a call met: before it each guest wrote what the call read of its memory
-abbrev pub met_by : LentWorld → LentWorld → LentWorld
-met_by old new = lent_world (told_world old.touches new.touches old.world) new.touches
+abbrev pub met_by : TracedWorld → TracedWorld → TracedWorld
+met_by old new = record { world = told_world old.accesses new.accesses old.world; accesses = new.accesses }
 
 -- the device takes an event
-abbrev pub taken_by : LentWorld → Event → LentWorld
-taken_by l e = lent_world (step l.world e).world l.touches
+abbrev pub taken_by : TracedWorld → Event → TracedWorld
+taken_by met e = record { world = (step met.world e).world; accesses = met.accesses }
 
 -- no byte of a function's memory was read in the call after it was read or written there
-abbrev pub AreOnce : LentWorld → LentWorld → Type 0
-AreOnce old new = AreTraced true old.touches new.touches old.world
+abbrev pub AreOnce : TracedWorld → TracedWorld → Type 0
+AreOnce old new = AreMet true old.accesses new.accesses old.world
+
+-- what the call read and wrote of each function's memory is just what the event lists in the device that it met, in that order
+abbrev pub AreAllListed : TracedWorld → Event → TracedWorld → Type 0
+AreAllListed old e new = AreListed (accesses_by (met_by old new).world e) old.accesses new.accesses

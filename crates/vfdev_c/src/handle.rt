@@ -1,9 +1,9 @@
 //! What C holds of a device.
-ghost use Rattle.std.specs.Prelude.{◌≡◌, ◌≤◌, true, length, is_some, Some, None, MatchOption, Ok};
+ghost use Rattle.std.specs.Prelude.{◌≡◌, ◌≤◌, true, false, length, is_some, Some, None, MatchOption, Ok};
 ghost use Rattle.wire_frame.specs.Frame.{is_frame};
 ghost use Rattle.device.specs.declared.event.Event.{Event};
 ghost use Rattle.device.specs.Request.{event_of};
-ghost use Rattle.vfdev_c.specs.Handle.{Calls, raised_on, left_on, frame_in, length_in, bytes_on};
+ghost use Rattle.vfdev_c.specs.Handle.{Calls, raised_on, left_on, frame_in, length_in, bytes_on, is_mem_read};
 ghost use Rattle.vfdev_c.specs.Recorded.{kept_as};
 
 use crate::handle_state::HandleState;
@@ -68,7 +68,8 @@ impl Vfdev {
     // Gives the device the event that a request stands for. It is inlined, so that each call has its own event's path alone.
     #[inline(always)]
     pub(crate) fn give(&mut self, alloc: Global, request: Request<'_>) -> (VfdevReply, Messages)
-        requires { kept_as (event_of request) ≡ event_of request }
+        requires whole { kept_as (event_of request) ≡ event_of request }
+        requires unread { is_mem_read (event_of request) ≡ false }
         ensures called { Calls self.old.owner.held
             (Ok (event_of request.entry)) self.new.owner.held result.0 }
         ensures messages { result.1

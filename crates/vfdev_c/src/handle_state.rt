@@ -50,13 +50,13 @@ impl Model for Running {
 
     ghost Value = { World };
 
-    ghost view = { λ r. r.device };
+    ghost view = { λ r. r.device.world };
 }
 
 impl Running {
     /// The device.
     pub fn of(device: Device<FlatMem>) -> Running
-        ensures { result ≡ device }
+        ensures { result ≡ device.world }
     {
         Running {
             device,
@@ -179,7 +179,7 @@ impl Running {
 #[inline]
 #[tactic(auto, unfolding(crate::specs::Handle::IsolatedStep))]
 pub(crate) fn isolates(device: &Device<FlatMem>)
-    ensures { (e : Event) → IsolatedStep device.now e (step device.now e).world }
+    ensures { (e : Event) → IsolatedStep device.now.world e (step device.now.world e).world }
 {
     let count = device.functions();
     prove!(count <= 64);

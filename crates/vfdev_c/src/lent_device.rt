@@ -7,8 +7,8 @@ ghost use Rattle.device.specs.World.{World, step, fresh, is_frame_limit, is_make
 ghost use Rattle.device.specs.Request.{event_of};
 ghost use Rattle.device.specs.Outcome.{left_by};
 ghost use Rattle.irq_causes.specs.Messages.{no_messages};
-ghost use Rattle.vfdev_c.specs.Handle.{bytes_shown, frame_in, length_in, IsolatedStep, TakesLent};
-ghost use Rattle.vfdev_c.specs.LentWorld.{untouched, met_by};
+ghost use Rattle.vfdev_c.specs.Handle.{bytes_shown, frame_in, is_mem_read, length_in, IsolatedStep, TakesLent};
+ghost use Rattle.vfdev_c.specs.LentWorld.{met_by, IsUntouched};
 
 use crate::handle_state::{done_or_refused, issued, lay, put_frame, value_or_refused};
 use crate::recorder::named;
@@ -16,27 +16,26 @@ use crate::reply::VfdevReply;
 use device::laws::isolation;
 use device::{Device, MemSlice, Queue, Request};
 use irq_causes::Messages;
-use live_memory::{Shared, Touch, Traces};
+use live_memory::Shared;
 use mapped_memory::LiveMem;
 use std::alloc::Global;
 use std::marker::Model;
 use wire_frame::{Fault, FrameBuf};
 
 /// A device over blocks that guests write while it works on them, with room for a frame that comes or goes. A contract sees its
-/// world, and what it read of each function's memory, and wrote there, since it was made.
+/// world, and all that it read and wrote of each function's memory since it was made, in order.
 #[derive(Drop)]
 pub struct LentDevice {
     device: Device<LiveMem<'static>, Shared>,
-    traces: Traces,
     frame: FrameBuf,
 }
 
 impl Model for LentDevice {
-    ghost use Rattle.vfdev_c.specs.LentWorld.{LentWorld, lent_world};
+    ghost use Rattle.device.specs.Live.{TracedWorld};
 
-    ghost Value = { LentWorld };
+    ghost Value = { TracedWorld };
 
-    ghost view = { λ d. lent_world d.device d.traces.touches };
+    ghost view = { λ d. d.device };
 }
 
 impl LentDevice {
@@ -48,7 +47,7 @@ impl LentDevice {
         limit: u16,
     ) -> Result<LentDevice, Fault>
         ensures ok { IfOk result
-            (λ d. d ≡ untouched (fresh limit (map (λ m. length m.seen) memories.entry.items))) }
+            (λ d. IsUntouched d (fresh limit (map (λ m. length m.seen) memories.entry.items))) }
         ensures bad_make { (is_frame_limit limit && is_makeable (map (λ m. length m.seen) memories.entry.items)) ≡ false
             → result ≡ Err Fault.BadMake }
         ensures no_memory { IfErr result
@@ -59,14 +58,14 @@ impl LentDevice {
         let device = Device::with_limit(alloc, memories, limit)?;
         Ok(LentDevice {
             device,
-            traces: Touch::None.traces(),
             frame: FrameBuf::blank(),
         })
     }
 
-    /// Gives it the event that a request stands for.
+    /// Gives it the event that a request stands for, but for a read of a guest's memory, which is [`mem_read`](LentDevice::mem_read).
     #[inline(always)]
     pub fn take(&mut self, request: Request<'_>) -> (VfdevReply, Messages)
+        requires { is_mem_read (event_of request) ≡ false }
         ensures { TakesLent self.old (event_of request.entry) self.new result.0 result.1 }
     {
         // By name, as where memories are the device's own.
@@ -125,17 +124,14 @@ impl LentDevice {
         done_or_refused(self.device.pf_write(offset, value))
     }
 
-    // The same, of any request.
+    // The same, of any request but a read of a guest's memory.
     fn take_any(&mut self, request: Request<'_>) -> (VfdevReply, Messages)
+        requires { is_mem_read (event_of request) ≡ false }
         ensures { TakesLent self.old (event_of request.entry) self.new result.0 result.1 }
     {
-        let LentDevice {
-            device,
-            traces,
-            frame,
-        } = self;
+        let LentDevice { device, frame } = self;
         isolates_any(device);
-        let taken = device.take_unread(traces, request, frame);
+        let taken = device.take_unread(request, frame);
         (VfdevReply::of(taken.outcome), taken.messages)
     }
 
@@ -144,14 +140,10 @@ impl LentDevice {
         requires { is_frame 9018 bytes.now ≡ true }
         ensures { TakesLent self.old (Wire bytes.now) self.new result.0 result.1 }
     {
-        let LentDevice {
-            device,
-            traces,
-            frame,
-        } = self;
+        let LentDevice { device, frame } = self;
         isolates_any(device);
         lay(frame, bytes);
-        issued(device.wire_live(traces, frame))
+        issued(device.wire_live(frame))
     }
 
     /// Reads bytes of a guest's memory once, and fills `out` with them; where it is refused, `out` stays.
@@ -163,14 +155,10 @@ impl LentDevice {
             (step (met_by self.old self.new).world (MemRead function at (length out.old))).answer.reply
             out.old }
     {
-        let LentDevice {
-            device,
-            traces,
-            frame: _,
-        } = self;
+        let LentDevice { device, frame: _ } = self;
         isolates_any(device);
         let count = named(out.len());
-        let taken = device.mem_read_live(traces, function, at, count, out);
+        let taken = device.mem_read_live(function, at, count, out);
         VfdevReply::of(taken.outcome)
     }
 
@@ -190,13 +178,9 @@ impl LentDevice {
         ensures left { left.new
             ≡ length_in (left_by (met_by self.old self.new).world (Serve function queue)) }
     {
-        let LentDevice {
-            device,
-            traces,
-            frame,
-        } = self;
+        let LentDevice { device, frame } = self;
         isolates_any(device);
-        let taken = device.serve_live(traces, function, queue, frame);
+        let taken = device.serve_live(function, queue, frame);
         *left = put_frame(taken.left, out);
         (VfdevReply::of(taken.outcome), taken.messages)
     }
@@ -206,7 +190,7 @@ impl LentDevice {
 #[inline]
 #[tactic(auto, unfolding(crate::specs::Handle::IsolatedStep))]
 fn isolates_any(device: &Device<LiveMem<'static>, Shared>)
-    ensures { (w : World) (e : Event) → length w.functions ≡ length device.now.functions
+    ensures { (w : World) (e : Event) → length w.functions ≡ length device.now.world.functions
         → IsolatedStep w e (step w e).world }
 {
     let count = device.functions();

@@ -50,8 +50,8 @@ impl Recorder {
     /// [`Fault::BadMake`] comes exactly where `cap` is not 1 to 65,536; [`Fault::NoMemory`] only where the host refused the
     /// room.
     pub fn new(alloc: Global, live: Device<FlatMem>, cap: usize) -> Result<Recorder, Fault>
-        requires { live ≡ made_like live }
-        ensures begun { IfOk result (λ r. r ≡ recorded live [] cap) }
+        requires { live.world ≡ made_like live.world }
+        ensures begun { IfOk result (λ r. r ≡ recorded live.world [] cap) }
         ensures bad_make { is_cap cap ≡ false → result ≡ Err Fault.BadMake }
         ensures no_memory { IfErr result (λ e. is_cap cap ≡ true → e ≡ Fault.NoMemory) }
     {

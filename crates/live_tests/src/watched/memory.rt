@@ -28,6 +28,7 @@ pub struct Watched<G: Guest> {
     known: Vec<u8>,
     guest: G,
     log: Rc<RefCell<Log>>,
+    noted: Trace,
     ghost long: { length standing.items ≡ length known.items },
 }
 
@@ -47,6 +48,7 @@ impl<G: Guest> Watched<G> {
             known,
             guest,
             log,
+            noted: Step::Begin.trace(),
         })
     }
 }
@@ -65,6 +67,8 @@ impl<G: Guest> Dma<Shared> for Watched<G> {
 
     ghost answer = { λ m at count. slice_range m.standing.items at (at + count) };
 
+    ghost noted = { λ m. m.noted.accesses };
+
     ghost whole = { λ m at count fits. length_standing at count m.standing.items m.known.items m.long fits };
 
     ghost steady = { λ m at count not. absurd (true≢false not) };
@@ -73,17 +77,17 @@ impl<G: Guest> Dma<Shared> for Watched<G> {
         self.known.len() as u64
     }
 
-    fn load(&mut self, trace: &mut Trace, addr: u64, out: &mut [u8]) {
+    fn load(&mut self, addr: u64, out: &mut [u8]) {
         let start = addr as usize;
         let end = start + out.len();
         out.copy_from_slice(&self.standing.as_slice()[start..end]);
         self.known.as_mut_slice()[start..end].copy_from_slice(out);
         note(&self.log, true, addr, out);
         self.guest.write(self.standing.as_mut_slice());
-        *trace = Step::Reads(trace, addr, out).trace();
+        self.noted = Step::Reads(&self.noted, addr, out).trace();
     }
 
-    fn store(&mut self, trace: &mut Trace, addr: u64, source: &[u8]) {
+    fn store(&mut self, addr: u64, source: &[u8]) {
         let start = addr as usize;
         let end = start + source.len();
         self.standing.as_mut_slice()[start..end].copy_from_slice(source);
@@ -91,12 +95,13 @@ impl<G: Guest> Dma<Shared> for Watched<G> {
         note(&self.log, false, addr, source);
         self.guest.see(start, source);
         self.guest.write(self.standing.as_mut_slice());
-        *trace = Step::Writes(trace, addr, source).trace();
+        self.noted = Step::Writes(&self.noted, addr, source).trace();
     }
 
     fn erase(&mut self) {
         self.standing.as_mut_slice().fill(0);
         self.known.as_mut_slice().fill(0);
+        self.noted = Step::Begin.trace();
         self.guest.see_zeros();
     }
 }

@@ -1,5 +1,6 @@
 //! A device over memories that change, and beside it one over plain memories that are given what the first one read.
 
+use super::due::Due;
 use super::guests::{SENDS, SIZE};
 use super::log::{Access, Log};
 use super::memory::{Guest, Watched};
@@ -7,7 +8,7 @@ use super::tally::Tally;
 use device::bytes::MOST_BYTES;
 use device::{Device, MemSlice, Outcome, Request, Response};
 use guest_memory::FlatMem;
-use live_memory::{Shared, Touch};
+use live_memory::Shared;
 use std::alloc::Global;
 use std::cell::RefCell;
 use std::rc::Rc;
@@ -17,12 +18,13 @@ use wire_frame::FrameBuf;
 // Why the two devices don't agree.
 pub type Wrong = &'static str;
 
-// What is known of a function: its log, and its memory as the log has it.
+// What is known of a function: its log, its memory as the log has it, and what an event is to do to it.
 #[derive(Drop)]
 struct Known {
     pool: u8,
     log: Rc<RefCell<Log>>,
     image: Vec<u8>,
+    due: Due,
 }
 
 // The two devices.
@@ -54,7 +56,13 @@ impl<G: Guest> Pair<G> {
             let image = zeros(alloc)?;
             memories.push(Watched::new(alloc, SIZE, guest, log.clone()?)?)?;
             plain.push(FlatMem::new(alloc, SIZE as u64)?)?;
-            known.push(Known { pool, log, image })?;
+            let due = Due::new(alloc, pool)?;
+            known.push(Known {
+                pool,
+                log,
+                image,
+                due,
+            })?;
         }
         Ok(Pair {
             live: Device::new(alloc, memories)?,
@@ -65,7 +73,8 @@ impl<G: Guest> Pair<G> {
         })
     }
 
-    // Gives both devices an event: to the second one after the writes of what the first one read.
+    // Gives both devices an event: to the second one after the writes of what the first one read. What the first one read and wrote
+    // is compared with what is due.
     pub fn take(&mut self, request: Request<'_>) -> Result<Outcome, Wrong> {
         for known in &self.known {
             known
@@ -75,18 +84,30 @@ impl<G: Guest> Pair<G> {
                 .clear();
         }
         let mut bytes = [0; MOST_BYTES];
-        let mut traces = Touch::None.traces();
-        let taken = self
-            .live
-            .take_live(&mut traces, request, &mut self.rooms.0, &mut bytes);
+        let taken = self.live.take_live(request, &mut self.rooms.0, &mut bytes);
         write_what_was_read(&mut self.plain, &self.known)?;
+        let sent = taken.sent.map(|frame| frame.bytes());
+        for known in self.known.iter_mut() {
+            known.due.work_out(&mut self.plain, request, sent);
+        }
         let due = self.plain.take(request, &mut self.rooms.1);
         compare(&taken, &due)?;
         compare_bytes(&self.plain, taken.outcome, &bytes)?;
         let outcome = taken.outcome;
         self.tally.add_response(request, &taken);
+        self.look_at_accesses(request, outcome)?;
         self.look_at_memories(request, outcome)?;
         Ok(outcome)
+    }
+
+    // Whether the accesses to each memory are those that are due, and nothing else.
+    fn look_at_accesses(&mut self, request: Request<'_>, outcome: Outcome) -> Result<(), Wrong> {
+        for known in self.known.iter_mut() {
+            let log = known.log.try_borrow().map_err(|_| "the log is lent")?;
+            known.due.compare(&mut self.plain, &*log, &mut self.tally)?;
+            known.due.go_on(request, outcome);
+        }
+        Ok(())
     }
 
     // Whether each memory is what the log makes of it, and the log is as it should be.

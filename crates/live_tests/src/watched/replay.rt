@@ -1,4 +1,5 @@
-//! What a device does while guests write their memories is what it does where each wrote before just what was read.
+//! What a device does while guests write their memories is what it does where each wrote before just what was read, and it reads and
+//! writes what is due of each event, in that order.
 use super::drawn::{Drawn, FUNCTIONS, set_up};
 use super::guests::{Seeded, Threaded, Words, words, write_on};
 use super::memory::Guest;
@@ -41,7 +42,7 @@ fn a_hundred_thousand_events_while_guests_write(rt: HostRuntime) -> Result<(), F
         }
         tally = tally.and(replay(&rt, rt.alloc(), guests, 10_000, seed)?);
     }
-    tally.check(&rt, 400);
+    tally.check(&rt, 400, 100);
     Ok(())
 }
 
@@ -83,7 +84,7 @@ fn a_million_events_while_threads_write(rt: HostRuntime) -> Result<(), Fail> {
     for thread in threads {
         written = written.saturating_add(thread.join(&rt));
     }
-    tally?.check(&rt, 500);
+    tally?.check(&rt, 500, 500);
     assert!(rt; written >= 1000, "{written}");
     Ok(())
 }

@@ -1,5 +1,5 @@
 //! What came up.
-use super::log::Access;
+use super::log::{Access, Log};
 use device::{Outcome, Request, Response};
 use std::process::Abort;
 
@@ -27,6 +27,12 @@ pub struct Tally {
     pub in_ring: u64,
     pub writes: u64,
     pub pairs: u64,
+    // descriptors whose bytes aren't read, since their frame is too long; frames whose tag is taken off, so that they are written in
+    // parts; those in several buffers; and those whose buffer passes the end of the memory
+    pub unread: u64,
+    pub in_parts: u64,
+    pub in_buffers: u64,
+    pub unplaced: u64,
 }
 
 // One more where it is so.
@@ -79,6 +85,21 @@ impl Tally {
         one_where(&mut self.pairs, access.is_read);
     }
 
+    // Adds the accesses of a frame that came to a function.
+    pub fn add_arrived(&mut self, arrived: &Log) {
+        let accesses = arrived.accesses();
+        let reads = accesses.iter().filter(|access| access.is_read).count();
+        let writes = accesses.len().saturating_sub(reads);
+        one_where(&mut self.in_parts, writes > reads.saturating_mul(2));
+        one_where(&mut self.in_buffers, writes > 0 && reads > 1);
+        one_where(&mut self.unplaced, writes == 0 && reads > 0);
+    }
+
+    // Adds the accesses of an event of a function's own: whether the bytes of a descriptor weren't read.
+    pub fn add_own(&mut self, is_unread: bool) {
+        one_where(&mut self.unread, is_unread);
+    }
+
     // Both together.
     pub fn and(self, other: Tally) -> Tally {
         Tally {
@@ -98,11 +119,15 @@ impl Tally {
             in_ring: self.in_ring.wrapping_add(other.in_ring),
             writes: self.writes.wrapping_add(other.writes),
             pairs: self.pairs.wrapping_add(other.pairs),
+            unread: self.unread.wrapping_add(other.unread),
+            in_parts: self.in_parts.wrapping_add(other.in_parts),
+            in_buffers: self.in_buffers.wrapping_add(other.in_buffers),
+            unplaced: self.unplaced.wrapping_add(other.unplaced),
         }
     }
 
-    // Wants each at least so often.
-    pub fn check(&self, rt: &impl Abort, least: u64) {
+    // Wants each at least so often, and the rarer ones at least as often as the second number says.
+    pub fn check(&self, rt: &impl Abort, least: u64, least_rare: u64) {
         let all = [
             self.sent,
             self.left,
@@ -119,9 +144,13 @@ impl Tally {
             self.in_ring,
             self.writes,
             self.pairs,
+            self.in_parts,
         ];
         for count in all {
             assert!(rt; count >= least, "{self:?}");
+        }
+        for count in [self.unread, self.in_buffers, self.unplaced] {
+            assert!(rt; count >= least_rare, "{self:?}");
         }
     }
 }

@@ -6,5 +6,5 @@ use Rattle.device.proofs.act.mem_read.Goals as goal
 
 pub returns-in-None-clause-reply : goal.returns-in-None-clause-reply
 returns-in-None-clause-reply g c = λ p.
-    read_over_any c.args.unit.now p c.args.at c.args.out.now (c.in-None.ensures.refusal p) c.in-None.ensures.inside
+    read_over_any c.args.unit.now.function p c.args.at c.args.out.now (c.in-None.ensures.refusal p) c.in-None.ensures.inside
     ∙ ap Bytes (sym c.mem_read.ensures.bytes)

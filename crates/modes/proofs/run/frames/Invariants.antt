@@ -6,4 +6,4 @@ use Rattle.modes.proofs.run.frames.Given as goal
 
 abbrev pub invariant-loop-index : goal.invariant-loop-index
 invariant-loop-index g l =
-    Sent (g.W.Write.contents l.fn.writer) (g.W.Write.contents l.writer) (l.fn.output ++ frame_lines l.device.wire) (l.output ++ frame_lines (drop l.index l.device.wire))
+    Sent (g.W.Write.contents l.fn.writer) (g.W.Write.contents l.writer) (l.fn.output ++ frame_lines l.device.world.wire) (l.output ++ frame_lines (drop l.index l.device.world.wire))

@@ -7,6 +7,6 @@ use Rattle.vfdev_c.proofs.handle_state.isolates.Goals as goal
 pub returns : goal.returns
 unfolding IsolatedStep
 returns c = λ e p within. (
-  c.isolation.ensures.seen p c.args.device.now (e ∷ []) within c.functions-count.ensures.few,
-  c.isolation.ensures.state p c.args.device.now (e ∷ []) within c.functions-count.ensures.few,
+  c.isolation.ensures.seen p c.args.device.now.world (e ∷ []) within c.functions-count.ensures.few,
+  c.isolation.ensures.state p c.args.device.now.world (e ∷ []) within c.functions-count.ensures.few,
 )

@@ -6,7 +6,7 @@ use Rattle.mapped_memory.specs.Mapping.{with_part}
 use Rattle.vfdev_c.specs.Spans.{IsBlock, block_of}
 use Rattle.vfdev_c.proofs.lending.memory_of.Goals as goal
 
-made : (m : Regions) (bytes : List ℕ) → m ≡ with_part (record { parts = []; seen = replicate (length bytes) 0 }) (record { at = 0; bytes = bytes; is_read_only = false })
+made : (m : Regions) (bytes : List ℕ) → m ≡ with_part (record { parts = []; seen = replicate (length bytes) 0; accesses = [] }) (record { at = 0; bytes = bytes; is_read_only = false })
     → IsBlock m × (block_of m ≡ bytes)
 unfolding IsBlock
 made m bytes is = subst (λ (m : Regions). IsBlock m × (block_of m ≡ bytes)) (sym is) ((refl, length-replicate (length bytes) 0), refl)

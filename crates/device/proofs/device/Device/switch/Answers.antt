@@ -1,73 +1,79 @@
 -- Each function got what the switch gives it, with what its memory answered, and the wire the frame where it leaves.
-use Rattle.std.proofs.Common.{◌≡◌, ◌≤◌, ◌<◌, ◌++◌, ◌∷◌, [], List, ap, sym, ◌∙◌, subst, length, ℕ}
-use Rattle.std.specs.Prelude.{if◌then◌else◌, slice_index_or}
+use Rattle.std.proofs.Common.{◌≡◌, ◌≤◌, ◌<◌, ◌++◌, ◌∷◌, [], List, refl, ap, sym, ◌∙◌, subst, length, ℕ}
+use Rattle.std.specs.Prelude.{if◌then◌else◌}
 use Rattle.std.specs.Vec.{with_items}
 use Rattle.std.proofs.lemmas.List.{with_items_is}
 use Rattle.circular_buffer.specs.Buffer.{keep_last}
 use Rattle.wire_frame.specs.Bits.{has_bit}
-use Rattle.live_memory.specs.Trace.{IsTraced}
-use Rattle.live_memory.specs.Traces.{Touches, trace_of}
-use Rattle.vf_unit.specs.Unit.{Function, Closed, size_of}
+use Rattle.vf_unit.specs.Unit.{TracedFunction}
+use Rattle.pool_filter.specs.Settings.{Settings}
 use Rattle.local_switch.specs.Switch.{leaves, receives}
-use Rattle.device.specs.World.{World, switched, all_arrived, all_raised, function_of, offered}
-use Rattle.device.specs.Live.{told_functions, told_world, told_at, AreTraced}
-use Rattle.device.proofs.Arrivals.{all_arrived_as, all_raised_as, switched_as}
-use Rattle.device.proofs.LiveLemmas.{length_told, get_told}
+use Rattle.device.specs.World.{switched, all_raised, sizes_of}
+use Rattle.device.specs.Accesses.{arrived_accesses}
+use Rattle.device.specs.Live.{TracedWorld, told_functions, told_world, AreListed, AreMet}
+use Rattle.device.proofs.Arrivals.{switched_as}
+use Rattle.device.proofs.Called.{Base, world_with}
+use Rattle.device.proofs.Deliveries.{Delivers, Receivers, came, heard, listed, met, sizes}
+use Rattle.device.proofs.Views.{functions_of, traces_of}
 use Rattle.device.proofs.device.Device.switch.Goals as goal
+use Rattle.device.proofs.device.Device.switch.Given as given
+
+abbrev base : (g : given.Over) (c : goal.After-self-1 g) → Base
+base g c = record { limit = c.self.inside.limit; settings = c.self.inside.tables.value; resets = c.self.inside.resets; wire = c.self.inside.wire }
+
+-- the functions afterwards
+abbrev after : (g : given.Over) (c : goal.After-self-1 g) → List TracedFunction
+after g c = (with_items c.self.inside.units c.deliver_to_all.new.units).items
+
+abbrev delivers : (g : given.Over) (c : goal.After-self-1 g) → Delivers g.D.Dma.shared c.is_looped-loopback.result c.args.frame.now c.route-route.result.local c.self.inside.units.items (after g c) c.deliver_to_all.result
+delivers g c =
+    subst (λ (vs : List TracedFunction). Delivers g.D.Dma.shared c.is_looped-loopback.result c.args.frame.now c.route-route.result.local c.self.inside.units.items vs c.deliver_to_all.result)
+    (sym (with_items_is c.self.inside.units c.deliver_to_all.new.units (c.deliver_to_all.ensures.same_length ∙ c.deref_mut.ensures.len)))
+    (subst (λ (us : List TracedFunction). Delivers g.D.Dma.shared c.is_looped-loopback.result c.args.frame.now c.route-route.result.local us c.deliver_to_all.new.units c.deliver_to_all.result) c.deref_mut.ensures.value
+    (record {
+      offers = c.deliver_to_all.ensures.offers;
+      none = c.deliver_to_all.ensures.none_there;
+      same_length = c.deliver_to_all.ensures.same_length;
+      pools = c.deliver_to_all.ensures.pools;
+      few = subst (λ (us : List TracedFunction). length us ≤ 64) (sym c.deref_mut.ensures.value) c.self.invariant;
+    }))
+
+abbrev receivers : (g : given.Over) (c : goal.After-self-1 g) → Receivers c.self.inside.tables.value c.args.from c.args.frame.now c.is_looped-loopback.result c.route-route.result.local
+receivers g c = record {
+  looped = c.is_looped-loopback.ensures;
+  are = subst (λ (t : Settings). (p : ℕ) → p < 64 → has_bit c.route-route.result.local p ≡ receives t c.args.from c.args.frame.now p) c.deref.ensures c.route-route.ensures.local;
+}
 
 pub returns-clause-world : goal.returns-clause-world
 returns-clause-world g c =
     let s = c.self.inside.tables.value in
     let from = c.args.from in
     let frame = c.args.frame.now in
-    let first : Touches = c.args.traces.now.touches in
-    let last : Touches = c.deliver_to_all.new.traces.touches in
-    let told : List Function = told_functions first last c.deref_mut.result.now in
-    let are_tables : c.deref.result.now ≡ s = c.deref.ensures in
-    let local : (p : ℕ) → p < 64 → has_bit c.route-route.result.local p ≡ receives s from frame p =
-    subst (λ t. (p : ℕ) → p < 64 → has_bit c.route-route.result.local p ≡ receives t from frame p) are_tables c.route-route.ensures.local in
-    let few : length c.deref_mut.result.now ≤ 64 = subst (λ fs. length fs ≤ 64) (sym c.deref_mut.ensures.value) c.self.invariant in
-    let came : c.deliver_to_all.new.units ≡ all_arrived s told from frame =
-    all_arrived_as s told c.deliver_to_all.new.units from frame c.route-route.result.local c.is_looped-loopback.result
-    (subst (λ n. n ≤ 64) (sym (length_told first last c.deref_mut.result.now)) few) c.is_looped-loopback.ensures local
-    (c.deliver_to_all.ensures.same_length ∙ sym (length_told first last c.deref_mut.result.now))
-    (λ r below. c.deliver_to_all.ensures.functions r (subst (λ n. r < n) (length_told first last c.deref_mut.result.now) below)
-    ∙ ap (λ (f : Function). (offered (has_bit c.route-route.result.local r) c.is_looped-loopback.result frame f).state) (sym (get_told first last c.deref_mut.result.now r))) in
-    let units = with_items c.self.inside.units c.deliver_to_all.new.units in
-    let functions : units.items ≡ all_arrived s (told_functions first last c.self.inside.units.items) from frame =
-    with_items_is c.self.inside.units c.deliver_to_all.new.units (c.deliver_to_all.ensures.same_length ∙ c.deref_mut.ensures.len) ∙ came ∙ ap (λ fs. all_arrived s (told_functions first last fs) from frame) c.deref_mut.ensures.value in
     let wire : c.push_where.new.self ≡ (if leaves s from frame then keep_last 1024 (c.self.inside.wire ++ frame ∷ []) else c.self.inside.wire) =
-    c.push_where.ensures ∙ ap (λ b. if b then keep_last 1024 (c.self.inside.wire ++ frame ∷ []) else c.self.inside.wire) (c.route-route.ensures.wire ∙ ap (λ t. leaves t from frame) are_tables) in
-    let w : World = record { limit = c.self.inside.limit; settings = s; resets = c.self.inside.resets; functions = c.self.inside.units.items; wire = c.self.inside.wire } in
-    switched_as (told_world first last w) from frame units.items c.push_where.new.self functions wire ∙ ap (λ v. switched (told_world first last v) from frame) c.self.view_is
+    c.push_where.ensures ∙ ap (λ b. if b then keep_last 1024 (c.self.inside.wire ++ frame ∷ []) else c.self.inside.wire) (c.route-route.ensures.wire ∙ ap (λ t. leaves t from frame) c.deref.ensures) in
+    subst (λ (d : TracedWorld). record { limit = c.self.inside.limit; settings = s; resets = c.self.inside.resets; functions = functions_of (after g c); wire = c.push_where.new.self } ≡ switched (told_world d.accesses (traces_of (after g c)) d.world) from frame) c.self.view_is
+    (switched_as (told_world (traces_of c.self.inside.units.items) (traces_of (after g c)) (world_with (base g c) c.self.inside.units.items)) from frame (functions_of (after g c)) c.push_where.new.self
+    (came g.D.Dma.shared c.is_looped-loopback.result frame c.route-route.result.local c.self.inside.units.items (after g c) c.deliver_to_all.result s from (delivers g c) (receivers g c)) wire)
 
 pub returns-clause-messages : goal.returns-clause-messages
 returns-clause-messages g c =
-    let s = c.self.inside.tables.value in
-    let from = c.args.from in
-    let frame = c.args.frame.now in
-    let first : Touches = c.args.traces.now.touches in
-    let last : Touches = c.deliver_to_all.new.traces.touches in
-    let told : List Function = told_functions first last c.deref_mut.result.now in
-    let are_tables : c.deref.result.now ≡ s = c.deref.ensures in
-    let local : (p : ℕ) → p < 64 → has_bit c.route-route.result.local p ≡ receives s from frame p =
-    subst (λ t. (p : ℕ) → p < 64 → has_bit c.route-route.result.local p ≡ receives t from frame p) are_tables c.route-route.ensures.local in
-    let heard : c.deliver_to_all.result ≡ all_raised s told from frame =
-    all_raised_as s told c.deliver_to_all.result from frame c.route-route.result.local c.is_looped-loopback.result
-    c.is_looped-loopback.ensures local c.deliver_to_all.ensures.pools
-    (λ r below. c.deliver_to_all.ensures.messages r below
-    ∙ ap (λ (f : Function). (offered (has_bit c.route-route.result.local r) c.is_looped-loopback.result frame f).messages) (sym (get_told first last c.deref_mut.result.now r))) in
-    rw (← c.self.view_is) (heard ∙ ap (λ fs. all_raised s (told_functions first last fs) from frame) c.deref_mut.ensures.value)
+    subst (λ (d : TracedWorld). c.deliver_to_all.result ≡ all_raised d.world.settings (told_functions d.accesses (traces_of (after g c)) d.world.functions) c.args.from c.args.frame.now) c.self.view_is
+    (heard g.D.Dma.shared c.is_looped-loopback.result c.args.frame.now c.route-route.result.local c.self.inside.units.items (after g c) c.deliver_to_all.result c.self.inside.tables.value c.args.from (delivers g c) (receivers g c))
 
-pub returns-clause-traced : goal.returns-clause-traced
-returns-clause-traced g c =
-    let first : Touches = c.args.traces.now.touches in
-    let last : Touches = c.deliver_to_all.new.traces.touches in
-    subst (AreTraced g.D.Dma.shared first last) c.self.view_is (λ p. subst (λ fs. IsTraced g.D.Dma.shared (size_of (slice_index_or fs p (Closed 0))) (trace_of first p) (trace_of last p)) c.deref_mut.ensures.value (c.deliver_to_all.ensures.traced p))
+pub returns-clause-listed : goal.returns-clause-listed
+returns-clause-listed g c =
+    subst (λ (d : TracedWorld). AreListed (arrived_accesses d.world.settings (told_functions d.accesses (traces_of (after g c)) d.world.functions) c.args.from c.args.frame.now) d.accesses (traces_of (after g c))) c.self.view_is
+    (listed g.D.Dma.shared c.is_looped-loopback.result c.args.frame.now c.route-route.result.local c.self.inside.units.items (after g c) c.deliver_to_all.result c.self.inside.tables.value c.args.from (delivers g c) (receivers g c))
 
-pub returns-clause-others : goal.returns-clause-others
-returns-clause-others g c = λ r below unreceived.
-    let s = c.self.inside.tables.value in
-    let are_tables : c.deref.result.now ≡ s = c.deref.ensures in
-    let settings : s ≡ c.args.self.now.settings = ap (λ (w : World). w.settings) c.self.view_is in
-    c.deliver_to_all.ensures.others r (c.route-route.ensures.local r below ∙ ap (λ t. receives t c.args.from c.args.frame.now r) (are_tables ∙ settings) ∙ unreceived)
+pub returns-clause-met : goal.returns-clause-met
+returns-clause-met g c =
+    subst (λ (d : TracedWorld). AreMet g.D.Dma.shared d.accesses (traces_of (after g c)) d.world) c.self.view_is
+    (met g.D.Dma.shared c.is_looped-loopback.result c.args.frame.now c.route-route.result.local c.self.inside.units.items (after g c) c.deliver_to_all.result (world_with (base g c) c.self.inside.units.items) refl (delivers g c))
+
+pub returns-clause-sizes : goal.returns-clause-sizes
+returns-clause-sizes g c =
+    sizes g.D.Dma.shared c.is_looped-loopback.result c.args.frame.now c.route-route.result.local c.self.inside.units.items (after g c) c.deliver_to_all.result (delivers g c) ∙ ap (λ (d : TracedWorld). sizes_of d.world) c.self.view_is
+
+pub returns-clause-left : goal.returns-clause-left
+returns-clause-left g c =
+    c.route-route.ensures.wire ∙ ap (λ (t : Settings). leaves t c.args.from c.args.frame.now) c.deref.ensures ∙ ap (λ (d : TracedWorld). leaves d.world.settings c.args.from c.args.frame.now) c.self.view_is

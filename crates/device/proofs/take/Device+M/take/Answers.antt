@@ -1,23 +1,30 @@
 -- Where nobody else writes the memories, what is met is what stands there. One event is a list of events, and so keeps the law of
 -- isolation.
-use Rattle.std.proofs.Common.{[], ◌∷◌, false, refl, ap, ◌∙◌}
+use Rattle.std.proofs.Common.{[], ◌∷◌, false, refl, ap, subst, ◌∙◌}
 use Rattle.device.specs.Lone.{seen_by, lone_of}
 use Rattle.device.specs.Request.{event_of}
-use Rattle.device.proofs.LiveLemmas.{takes_alone}
+use Rattle.device.specs.World.{World}
+use Rattle.device.specs.Accesses.{accesses_but_read}
+use Rattle.device.specs.Live.{AreListed}
+use Rattle.device.proofs.LiveLemmas.{takes_alone, told_world_still}
 use Rattle.device.proofs.Unwinding.{isolated_sight, isolated_state}
 use Rattle.device.proofs.take.Device+M.take.Goals as goal
 
 pub returns-clause-takes : goal.returns-clause-takes
-returns-clause-takes g c = takes_alone false c.traces.result.touches c.take_unread.new.traces.touches c.args.self.now (event_of c.args.request) c.take_unread.new.self c.take_unread.result refl c.take_unread.ensures
+returns-clause-takes g c = takes_alone false c.args.self.now.accesses c.take_unread.new.self.accesses c.args.self.now.world (event_of c.args.request) c.take_unread.new.self.world c.take_unread.result refl c.take_unread.ensures.takes
+
+pub returns-clause-listed : goal.returns-clause-listed
+returns-clause-listed g c =
+    subst (λ (w : World). AreListed (accesses_but_read w (event_of c.args.request)) c.args.self.now.accesses c.take_unread.new.self.accesses) (told_world_still false c.args.self.now.accesses c.take_unread.new.self.accesses c.args.self.now.world refl c.take_unread.ensures.takes.met) c.take_unread.ensures.listed
 
 pub returns-clause-isolated : goal.returns-clause-isolated
 returns-clause-isolated g c = λ p below.
-    let takes = takes_alone false c.traces.result.touches c.take_unread.new.traces.touches c.args.self.now (event_of c.args.request) c.take_unread.new.self c.take_unread.result refl c.take_unread.ensures in
+    let takes = takes_alone false c.args.self.now.accesses c.take_unread.new.self.accesses c.args.self.now.world (event_of c.args.request) c.take_unread.new.self.world c.take_unread.result refl c.take_unread.ensures.takes in
     ap (λ a. seen_by p (event_of c.args.request ∷ []) (a ∷ [])) takes.answer
-    ∙ isolated_sight p c.args.self.now (event_of c.args.request ∷ []) below c.functions-count.ensures.few
+    ∙ isolated_sight p c.args.self.now.world (event_of c.args.request ∷ []) below c.functions-count.ensures.few
 
 pub returns-clause-isolated_state : goal.returns-clause-isolated_state
 returns-clause-isolated_state g c = λ p below.
-    let takes = takes_alone false c.traces.result.touches c.take_unread.new.traces.touches c.args.self.now (event_of c.args.request) c.take_unread.new.self c.take_unread.result refl c.take_unread.ensures in
+    let takes = takes_alone false c.args.self.now.accesses c.take_unread.new.self.accesses c.args.self.now.world (event_of c.args.request) c.take_unread.new.self.world c.take_unread.result refl c.take_unread.ensures.takes in
     ap (lone_of p) takes.world
-    ∙ isolated_state p c.args.self.now (event_of c.args.request ∷ []) below c.functions-count.ensures.few
+    ∙ isolated_state p c.args.self.now.world (event_of c.args.request ∷ []) below c.functions-count.ensures.few

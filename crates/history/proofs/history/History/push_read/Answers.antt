@@ -10,11 +10,11 @@ use Rattle.history.proofs.history.History.push_read.Goals as goal
 use Rattle.history.proofs.history.History.push_read.Given as given
 
 adds : (g : given.Over) (c : goal.After-push_reserved g)
-    → Adds c.append_read-taken.new.device (MemRead c.args.read.pool c.args.read.at c.args.read.count) c.append_read-taken.result.outcome c.append_read-taken.result.messages
+    → Adds c.append_read-taken.new.device.world (MemRead c.args.read.pool c.args.read.at c.args.read.count) c.append_read-taken.result.outcome c.append_read-taken.result.messages
     c.self.inside.store.items c.append_words-vectors.new.store.items
     (record { event = head_of (MemRead c.args.read.pool c.args.read.at c.args.read.count); reply = c.kind_of.result; start = c.len-start.result; count = c.bytes_told.result; caller = c.new.result; vectors = c.append_words-vectors.result })
 adds g c =
-    let w = c.append_read-taken.new.device in
+    let w = c.append_read-taken.new.device.world in
     let o = c.append_read-taken.result.outcome in
     let bytes = moved_read w c.args.read.pool c.args.read.at c.args.read.count o in
     let words = c.append_words-vectors.ensures in
@@ -50,5 +50,5 @@ invariant_of-self g c =
 pub returns-clause-entries : goal.returns-clause-entries
 returns-clause-entries g c =
     let before : List Entry = map (entry_of c.self.inside.store.items) c.self.inside.heads.items in
-    let by : Caller → List Entry = λ who. before ++ entry who (MemRead c.args.read.pool c.args.read.at c.args.read.count) (answer_in c.append_read-taken.new.device c.append_read-taken.result) ∷ [] in
+    let by : Caller → List Entry = λ who. before ++ entry who (MemRead c.args.read.pool c.args.read.at c.args.read.count) (answer_in c.append_read-taken.new.device.world c.append_read-taken.result) ∷ [] in
     rw (← c.self.view_is) (entries_added _ _ _ _ _ _ _ _ _ (adds g c) c.push_reserved.ensures.items c.self.invariant.stand ∙ ap by c.new.ensures)

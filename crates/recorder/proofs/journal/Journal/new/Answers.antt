@@ -7,14 +7,14 @@ use Rattle.recorder.proofs.CallLemmas.{allowed_none}
 use Rattle.recorder.proofs.journal.Journal.new.Goals as goal
 
 pub new-requires-clause-fresh : goal.new-requires-clause-fresh
-new-requires-clause-fresh g c = fresh_again c.args.live.value _ _ c.requires.fresh.2
+new-requires-clause-fresh g c = fresh_again c.args.live.value.world _ _ c.requires.fresh.2
 
 pub invariant_of-result : goal.invariant_of-result
 invariant_of-result g c =
     let made = sym c.new.ensures.begun in
     record {
       allowed = subst (λ (r : Logged). AreAllowed r.kept) made allowed_none;
-      first = λ none. subst (λ (r : Logged). r.base ≡ made_like r.live) made (fresh_again c.args.live.value _ _ c.requires.fresh.2);
+      first = λ none. subst (λ (r : Logged). r.base ≡ made_like r.live) made (fresh_again c.args.live.value.world _ _ c.requires.fresh.2);
       few = subst (λ (r : Logged). r.cap ≤ 65536) made c.requires.few;
       folded = sym c.no_calls.ensures.all;
       few_folded = omega arith;

@@ -22,6 +22,6 @@ returns-clause-kept c = rw (← c.self.view_is) (kept_on c.self.inside.recording
     (sym (λ i. nat_eq (length (c.history.ensures.kept i)) (c.history.ensures.cap i)) ∙ has_room c.is_full.result _ _ c.is_full.ensures.full c.if-is_full.false) (more c))
 
 pub returns-clause-isolated : goal.returns-clause-isolated
-returns-clause-isolated c = rw (← c.self.view_is) (λ _. isolated_of c.self.inside.recording.live c.device.result.now c.record.new.self.live (read c) c.device.ensures
+returns-clause-isolated c = rw (← c.self.view_is) (λ _. isolated_of c.self.inside.recording.live c.device.result.now.world c.record.new.self.live (read c) c.device.ensures
     (ap (λ (r : Logged). r.live) (more c) ∙ ap (λ (s : Stepped). s.world) (step_alike c.self.inside.recording.live (read c)))
     c.isolates.ensures)

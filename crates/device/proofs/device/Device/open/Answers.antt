@@ -1,0 +1,18 @@
+-- The function that is opened is the one of its pool.
+use Rattle.std.proofs.Common.{arith}
+use Rattle.device.specs.declared.event.Event.TheVariants.{Open}
+use Rattle.device.specs.Outcome.{done_or_refused}
+use Rattle.device.proofs.Called.{own_world, own_silent, own_kept, own_sizes}
+use Rattle.device.proofs.device.Device.open.Goals as goal
+
+pub returns-clause-world : goal.returns-clause-world
+returns-clause-world g c = own_world (record { limit = c.self.inside.limit; settings = c.self.inside.tables.value; resets = c.self.inside.resets; wire = c.self.inside.wire }) c.self.inside.units.items c.args.self.now c.from-index.result c.args.pool c.index_mut.result.now c.open.new.unit (Open c.args.pool) c.self.view_is (record { place = c.from-index.ensures; below = omega (arith, c.if-index-len.false, c.len.ensures); is = c.index_mut.ensures.value }) (c.open.ensures.function c.args.pool)
+
+pub returns-clause-answer : goal.returns-clause-answer
+returns-clause-answer g c = own_silent (record { limit = c.self.inside.limit; settings = c.self.inside.tables.value; resets = c.self.inside.resets; wire = c.self.inside.wire }) c.self.inside.units.items c.args.self.now c.from-index.result c.args.pool c.index_mut.result.now (Open c.args.pool) (done_or_refused c.open.result) c.self.view_is (record { place = c.from-index.ensures; below = omega (arith, c.if-index-len.false, c.len.ensures); is = c.index_mut.ensures.value }) (c.open.ensures.reply c.args.pool) (c.open.ensures.silent c.args.pool)
+
+pub returns-clause-accesses : goal.returns-clause-accesses
+returns-clause-accesses g c = own_kept (record { limit = c.self.inside.limit; settings = c.self.inside.tables.value; resets = c.self.inside.resets; wire = c.self.inside.wire }) c.self.inside.units.items c.args.self.now c.from-index.result c.args.pool c.index_mut.result.now c.open.new.unit c.self.view_is (record { place = c.from-index.ensures; below = omega (arith, c.if-index-len.false, c.len.ensures); is = c.index_mut.ensures.value }) c.open.ensures.accesses
+
+pub returns-clause-sizes : goal.returns-clause-sizes
+returns-clause-sizes g c = own_sizes (record { limit = c.self.inside.limit; settings = c.self.inside.tables.value; resets = c.self.inside.resets; wire = c.self.inside.wire }) c.self.inside.units.items c.args.self.now c.from-index.result c.args.pool c.index_mut.result.now c.open.new.unit c.self.view_is (record { place = c.from-index.ensures; below = omega (arith, c.if-index-len.false, c.len.ensures); is = c.index_mut.ensures.value }) c.open.ensures.size

@@ -12,6 +12,7 @@ trap 'rm -rf "$work"' EXIT
     cat "$work/build.log" >&2
     exit 1
 }
+sed -n 's/^model name[^:]*: /processor: /p' /proc/cpuinfo | head -n 1
 ours=crates/bench_device/out/bench_device
 $ours times >"$work/times"
 

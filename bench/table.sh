@@ -37,6 +37,7 @@ ratio() {
     awk -v a="$1" -v b="$2" 'BEGIN { printf "%.2f", a / b }'
 }
 
+sed -n 's/^model name[^:]*: /processor: /p' /proc/cpuinfo | head -n 1
 ours=crates/bench/out/bench
 echo "| Workload | Bytes | Ours | Plain | Ratio | Stripped to unstripped, ours |"
 echo "|---|---|---|---|---|---|"

@@ -8,6 +8,7 @@ cd "$(dirname "$0")/.."
 work=$(mktemp -d)
 trap 'rm -rf "$work"' EXIT
 events=50000
+sed -n 's/^model name[^:]*: /processor: /p' /proc/cpuinfo | head -n 1
 
 # A script for so many ports.
 script() {

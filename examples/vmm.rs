@@ -64,6 +64,13 @@ fn show_refusal<T>(what: &str, answer: Result<T, Fault>) {
     }
 }
 
+// A register of a guest that is written before any frame comes: no cause is there, so no interrupt is issued.
+fn set(device: &mut Device<'_>, guest: u8, offset: u32, word: u32) -> Result<(), Fault> {
+    let messages = device.vf_write(guest, offset, word)?;
+    assert!(messages.is_empty());
+    Ok(())
+}
+
 fn set_up(device: &mut Device<'_>) -> Result<(), Fault> {
     device.open(0)?;
     device.open(1)?;
@@ -74,7 +81,7 @@ fn set_up(device: &mut Device<'_>) -> Result<(), Fault> {
         device.mem_write(0, 0x1000 + 16 * i, &(0x4000 + 0x800 * i).to_le_bytes())?;
     }
     for (offset, word) in RECEIVE {
-        device.vf_write(0, offset, word)?;
+        set(device, 0, offset, word)?;
     }
     for (i, bytes) in [
         frame(0x77, 1, 0xaa),
@@ -90,7 +97,7 @@ fn set_up(device: &mut Device<'_>) -> Result<(), Fault> {
         device.mem_write(1, 0x2008 + 16 * i, &WHOLE.to_le_bytes())?;
     }
     for (offset, word) in SEND {
-        device.vf_write(1, offset, word)?;
+        set(device, 1, offset, word)?;
     }
     Ok(())
 }

@@ -1,17 +1,16 @@
 /* vfdev: a model of the Intel 82599 in SR-IOV mode, to be linked into a hypervisor.
  *
- * The archive is made of code that is proved to meet its contracts. After each call the device is what its definition says. The
+ * The archive is compiled from source that is proved to meet its contracts. After each call the device is what its definition says. The
  * reply, the messages and the bytes that are handed out are those of the definition. To each virtual function an event is as if
  * that function were alone. Guests may write the blocks that were lent for a device whenever they like: a call does what the
  * definition says of the bytes that it read, and reads none of them twice. docs/EMBEDDING.md says what this rests on. vfdev_regs.h
  * has the registers by name.
  *
- * What C owes, and nothing checks:
- *   - A vfdev begins as VFDEV_NONE. Its fields are never read or written, and it is never copied while it leads to
- *     anything.
- *   - A pointer with a length leads to so many bytes of one live object, also where the length is 0. No pointer is NULL, but for
+ * The caller's obligations, which nothing checks:
+ *   - A vfdev begins as VFDEV_NONE. Its fields are never read or written, and it is never copied while it holds anything.
+ *   - A pointer with a length points to so many bytes of one live object, also where the length is 0. No pointer is NULL, but for
  *     `left` of vfdev_serve. A buffer that is written is touched by nothing else during the call, and overlaps no other argument. A
- *     block that was lent is no such buffer: see vfdev_lend.
+ *     block that was lent is no buffer in this sense: see vfdev_lend.
  *   - One call at a time for one vfdev. It may go from thread to thread; a lock or the like orders the calls.
  *   - No call from a signal handler, or in the child of a fork of a process with threads.
  *   - malloc, realloc and free are those of one allocator, which aligns a block to each power of two up to 16 that divides
@@ -33,7 +32,7 @@
 #include <stddef.h>
 #include <stdint.h>
 
-/* The answer of such a call has to be looked at: compilers that can warn do so where it is not. */
+/* The answer of a call with this mark has to be looked at: compilers that can warn do so where it is not. */
 #if defined(__GNUC__)
 #define VFDEV_LOOK __attribute__((warn_unused_result))
 #else
@@ -46,6 +45,8 @@ extern "C" {
 
 /* The version of this interface, which vfdev_version answers. It grows with each change that a caller has to know. */
 #define VFDEV_VERSION 1u
+/* The release that this header came with, as text. Two releases may have the same interface. */
+#define VFDEV_RELEASE "0.1.0"
 
 /* How many pools there are, each of which has a byte of the messages. */
 #define VFDEV_POOLS 64u
@@ -57,13 +58,12 @@ extern "C" {
 /* How many calls of a device can be recorded at most. */
 #define VFDEV_MOST_CALLS 65536u
 
-/* What C holds of a device. It leads to nothing, to blocks that were lent for a device, to a device, or to a device whose calls
- * are recorded. */
+/* A handle. It is empty, collects blocks that are lent for a device, or holds a device. */
 typedef struct vfdev {
     bool live;
     void *owner;
 } vfdev;
-/* It leads to nothing. */
+/* An empty handle. */
 #define VFDEV_NONE { false, NULL }
 
 /* A block of bytes that is lent for a device. Its length is below 2^63. */
@@ -101,7 +101,7 @@ enum vfdev_fault {
     VFDEV_ALREADY_OPEN = 7, /* the virtual function is open already */
     VFDEV_NO_MEMORY = 9,    /* the host refused memory */
     VFDEV_BAD_MAKE = 10,    /* a size or a count is outside its limits */
-    VFDEV_HELD = 11,        /* the vfdev leads to something already */
+    VFDEV_HELD = 11,        /* the handle isn't empty, or holds a device already */
     VFDEV_OVERLAPS = 13     /* the block overlaps one that was lent for the same device */
 };
 
@@ -133,8 +133,8 @@ uint32_t vfdev_version(void);
 
 /* Makes a device of `functions` closed virtual functions, each over `memory` zero bytes of the archive's own. Functions are
  * 1 to 64, memory is 4096 to 16777216 and a multiple of 128, frames have up to `limit` bytes, 1518 to 9018.
- * VFDEV_HELD where the vfdev leads to anything, then VFDEV_BAD_MAKE exactly where a number is outside its limits, and
- * VFDEV_NO_MEMORY only where the host refused. Where the answer is not VFDEV_OK, the vfdev leads to what it led to before. */
+ * VFDEV_HELD where the handle isn't empty, then VFDEV_BAD_MAKE exactly where a number is outside its limits, and
+ * VFDEV_NO_MEMORY only where the host refused. Where the answer is not VFDEV_OK, the handle is as it was before. */
 VFDEV_LOOK enum vfdev_fault vfdev_make(vfdev *device, uint32_t functions, uint64_t memory, uint16_t limit);
 
 /* Makes a device as vfdev_make does, whose calls are recorded from the first on, `calls` at most, 1 to VFDEV_MOST_CALLS. The makers'
@@ -152,8 +152,8 @@ VFDEV_LOOK enum vfdev_fault vfdev_lend_at(vfdev *device, vfdev_block block, uint
  * that memory. Blocks have the sizes of memories, and there are at most 64. VFDEV_HELD where there is a device, then
  * VFDEV_BAD_MAKE exactly where the length is no memory's or 64 were lent, then VFDEV_OVERLAPS exactly where the block has a byte in
  * common with one that was lent for this device, and VFDEV_NO_MEMORY only where the host refused: some 2 KB are taken for each
- * block. Wherever the answer is not VFDEV_OK the block is not used. Blocks of two devices are not compared, nor addresses that lead
- * to the same memory.
+ * block. Wherever the answer is not VFDEV_OK the block is not used. Overlap is checked by address within one device only: blocks of two
+ * devices are not compared, and two mappings of one memory are not detected.
  *
  * The block stays mapped until vfdev_free. The processors of its guest may read and write it at any time, also during a call. So may
  * threads of this process, by volatile or atomic accesses. What a call reads of it, it reads once, and it does what it would do had
@@ -166,10 +166,10 @@ VFDEV_LOOK static inline enum vfdev_fault vfdev_lend(vfdev *device, vfdev_block 
 
 /* Makes a device of closed virtual functions over the blocks that were lent, in their order. VFDEV_HELD where there is a
  * device already; VFDEV_BAD_MAKE exactly where none was lent or the limit is not 1518 to 9018; VFDEV_NO_MEMORY only where the
- * host refused. After VFDEV_NO_MEMORY the vfdev leads to nothing, and the blocks are no longer lent. */
+ * host refused. After VFDEV_NO_MEMORY the handle is empty, and the blocks are no longer lent. */
 VFDEV_LOOK enum vfdev_fault vfdev_make_lent(vfdev *device, uint16_t limit);
 
-/* Frees what the vfdev leads to. It leads to nothing then, and a second call does nothing. Blocks that were lent are the
+/* Frees what the handle holds. It is empty then, and a second call does nothing. Blocks that were lent are the
  * caller's again. */
 void vfdev_free(vfdev *device);
 
@@ -198,7 +198,7 @@ VFDEV_LOOK vfdev_reply vfdev_flr(vfdev *device, uint8_t function);
 VFDEV_LOOK vfdev_reply vfdev_vf_read(vfdev *device, uint8_t function, uint32_t offset);
 
 /* Writes a register of a function. Refused as vfdev_vf_read is. A write to a tail of a transmit queue serves nothing: the
- * caller calls vfdev_serve when it sees fit. */
+ * caller calls vfdev_serve when it sees fit. docs/EMBEDDING.md says after which writes a queue may be ready. */
 vfdev_reply vfdev_vf_write(vfdev *device, uint8_t function, uint32_t offset, uint32_t value, uint8_t *messages,
                            size_t messages_len);
 
@@ -236,7 +236,7 @@ VFDEV_LOOK vfdev_reply vfdev_pf_write(vfdev *device, uint32_t offset, uint32_t v
 VFDEV_LOOK vfdev_reply vfdev_pf_reset(vfdev *device);
 
 /* A frame comes from the wire: 14 to 9018 bytes without FCS, at least 18 where it has a VLAN tag. VFDEV_BAD_FRAME where it is
- * none, before the device is asked, and where it is longer than the device takes. */
+ * none, before the device is asked, and where it is longer than the device takes. VFDEV_DONE also where nobody received it. */
 vfdev_reply vfdev_wire(vfdev *device, const uint8_t *frame, size_t len, uint8_t *messages, size_t messages_len);
 
 /* ---- recording and replay ----------------------------------------------------------------------------------------
@@ -253,9 +253,9 @@ size_t vfdev_kept(vfdev *device);
  * where the calls of `device` are not recorded, and then VFDEV_NO_OTHER where there is no such `other`. Nothing of `device` changes;
  * `other` is what the events make of it.
  *
- * A device over lent blocks is no such `other`, since its guests may write them meanwhile. VFDEV_SAME is certain where vfdev_make just
- * made `other`, with as many functions, memories of the same size and the same limit; it is then as `device` is. A replay takes no
- * memory, and some 40 KB of stack. */
+ * A device over lent blocks can't be `other`, since its guests may write them meanwhile. A fresh device of vfdev_make, with as many
+ * functions, memories of the same size and the same limit, always gives VFDEV_SAME, and ends in the state that `device` is in. A replay
+ * takes no memory, but more stack than an event (docs/PERFORMANCE.md). */
 VFDEV_LOOK enum vfdev_replayed vfdev_replay(vfdev *device, vfdev *other);
 
 /* ---- texts ------------------------------------------------------------------------------------------------------- */

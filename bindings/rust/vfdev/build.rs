@@ -1,5 +1,5 @@
-//! Links the archive: `VFDEV_NATIVE` names its folder, and where it is unset `bindings/native` has it. An installed vfdev has one archive,
-//! `libvfdev.a`; a clone has its two parts.
+//! Links the archive: `VFDEV_NATIVE` names its folder. Where it is unset, `lib` of an unpacked release has it, or `bindings/native` of a clone.
+//! An installed vfdev and a release have one archive, `libvfdev.a`; a clone has its two parts.
 use std::env;
 use std::path::PathBuf;
 
@@ -9,6 +9,7 @@ fn main() {
     );
     let native = match env::var_os("VFDEV_NATIVE") {
         Some(folder) => PathBuf::from(folder),
+        None if here.join("../../../lib/libvfdev.a").exists() => here.join("../../../lib"),
         None => here.join("../../native"),
     };
     println!("cargo:rustc-link-search=native={}", native.display());
@@ -19,8 +20,8 @@ fn main() {
         println!("cargo:rustc-link-lib=static=libc_c");
         if !native.join("libvfdev_c.a").exists() {
             println!(
-                "cargo:warning=there is no archive in {}: bindings/test makes it there, and VFDEV_NATIVE names another folder, \
-                 as lib of an installed vfdev",
+                "cargo:warning=there is no archive in {}: in a clone bindings/test makes it there, and VFDEV_NATIVE names another \
+                 folder, as lib of an installed vfdev",
                 native.display()
             );
         }

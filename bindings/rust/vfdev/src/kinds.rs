@@ -137,8 +137,19 @@ impl fmt::Display for Fault {
 
 impl std::error::Error for Fault {}
 
-/// The interrupt messages that a call issued: for each pool a set of its vectors 0 to 2.
+/// The interrupt messages that a call issued: for each pool a set of its vectors 0 to 2. Whoever drops them unlooked loses interrupts, so the
+/// compiler warns.
+///
+/// ```compile_fail
+/// #![deny(unused_must_use)]
+/// # use vfdev::{Device, Fault};
+/// fn lost(device: &mut Device) -> Result<(), Fault> {
+///     device.wire(&[0; 60])?;
+///     Ok(())
+/// }
+/// ```
 #[derive(Clone, Copy, Debug, PartialEq, Eq)]
+#[must_use = "these interrupts have to be delivered to their guests"]
 pub struct Messages(pub(crate) [u8; POOLS as usize]);
 
 impl Messages {
@@ -181,6 +192,7 @@ pub enum Queue {
 
 /// What came of a service of a transmit queue.
 #[derive(Clone, Copy, Debug, PartialEq, Eq)]
+#[must_use = "a frame may have left for the wire, and more descriptors may wait"]
 pub enum Served {
     /// No descriptor was taken: the pool may not transmit, or the queue is off or empty.
     Idle,
@@ -196,6 +208,7 @@ pub enum Served {
 
 /// What a replay tells of another device.
 #[derive(Clone, Copy, Debug, PartialEq, Eq)]
+#[must_use = "the other device may have answered otherwise"]
 pub enum Replayed {
     /// It gave the recorded answer to each recorded call.
     Same,

@@ -2,8 +2,7 @@
 //!
 //! [`Device`] is the device. Each method gives it one event, and answers what came of it with the interrupt messages that it
 //! issued. [`SharedDevice`] puts it behind a lock, with an [`Interrupt`] where its messages go and [`Frames`] where its
-//! frames go; [`MmioBar`] is the register space of one virtual function, in the shape of rust-vmm's devices. [`regs`] has the
-//! registers by name.
+//! frames go; [`MmioBar`] is the register space of one virtual function. [`regs`] has the registers by name.
 //!
 //! What a method does is what the archive's contracts say. That this crate passes the arguments as they are declared there
 //! is read and tested, not proved; `docs/EMBEDDING.md` of the repository says more.
@@ -19,10 +18,14 @@
 //! let whole = regs::TXD_DEXT | regs::txd_dtyp(3) | regs::TXD_RS | regs::TXD_EOP | regs::txd_length(60);
 //! device.mem_write(0, 0x2008, &whole.to_le_bytes())?;
 //! device.pf_write(regs::pfvfte(0), 1)?; // the pool may transmit
-//! device.vf_write(0, regs::tdbal(0), 0x2000)?;
-//! device.vf_write(0, regs::tdlen(0), 128)?;
-//! device.vf_write(0, regs::txdctl(0), regs::TXDCTL_ENABLE)?;
-//! device.vf_write(0, regs::tdt(0), 1)?;
+//! for (offset, word) in [
+//!     (regs::tdbal(0), 0x2000),
+//!     (regs::tdlen(0), 128),
+//!     (regs::txdctl(0), regs::TXDCTL_ENABLE),
+//!     (regs::tdt(0), 1),
+//! ] {
+//!     assert!(device.vf_write(0, offset, word)?.is_empty());
+//! }
 //! let mut out = [0; MOST_FRAME];
 //! let (served, messages) = device.serve(0, Queue::Q0, &mut out)?;
 //! assert_eq!(served, Served::Sent(Some(60)));
@@ -46,4 +49,4 @@ mod shared;
 pub use device::Device;
 pub use kinds::{Fault, Messages, Pool, Queue, Replayed, Served, MOST_BYTES, MOST_FRAME, POOLS};
 pub use quiet::Quiet;
-pub use shared::{Frames, Interrupt, MmioBar, SharedDevice};
+pub use shared::{Frames, Interrupt, MmioBar, SharedDevice, WeakDevice};

@@ -2,17 +2,22 @@
 
 use crate::device::Device;
 use crate::kinds::{Fault, Replayed};
+use crate::regs;
 
 /// A device, for the calls that issue no messages: [`SharedDevice::with`](crate::SharedDevice::with) lends it. Calls that may
 /// issue messages aren't here, so that no message is lost.
 ///
 /// Each method does what the method of the same name of [`Device`] does, and is refused as that one is.
 #[derive(Debug)]
-pub struct Quiet<'a, 'm>(&'a mut Device<'m>);
+pub struct Quiet<'a, 'm> {
+    device: &'a mut Device<'m>,
+    // the functions that a write of PFVFTE permitted to transmit, one bit each
+    permitted: &'a mut u64,
+}
 
 impl<'a, 'm> Quiet<'a, 'm> {
-    pub(crate) fn of(device: &'a mut Device<'m>) -> Self {
-        Quiet(device)
+    pub(crate) fn of(device: &'a mut Device<'m>, permitted: &'a mut u64) -> Self {
+        Quiet { device, permitted }
     }
 
     /// Opens a function: its registers become initial, and its memory zero.
@@ -20,7 +25,7 @@ impl<'a, 'm> Quiet<'a, 'm> {
     /// # Errors
     /// As [`Device::open`].
     pub fn open(&mut self, function: u8) -> Result<(), Fault> {
-        self.0.open(function)
+        self.device.open(function)
     }
 
     /// Closes a function.
@@ -28,7 +33,7 @@ impl<'a, 'm> Quiet<'a, 'm> {
     /// # Errors
     /// As [`Device::end`].
     pub fn end(&mut self, function: u8) -> Result<(), Fault> {
-        self.0.end(function)
+        self.device.end(function)
     }
 
     /// Function-level reset: the registers become initial, and the memory stays.
@@ -36,7 +41,7 @@ impl<'a, 'm> Quiet<'a, 'm> {
     /// # Errors
     /// As [`Device::flr`].
     pub fn flr(&mut self, function: u8) -> Result<(), Fault> {
-        self.0.flr(function)
+        self.device.flr(function)
     }
 
     /// Reads a register of a function, at an offset in bytes.
@@ -44,7 +49,7 @@ impl<'a, 'm> Quiet<'a, 'm> {
     /// # Errors
     /// As [`Device::vf_read`].
     pub fn vf_read(&mut self, function: u8, offset: u32) -> Result<u32, Fault> {
-        self.0.vf_read(function, offset)
+        self.device.vf_read(function, offset)
     }
 
     /// Fills `out` with bytes of a function's memory, from the address `at` on; where it is refused, `out` stays.
@@ -52,7 +57,7 @@ impl<'a, 'm> Quiet<'a, 'm> {
     /// # Errors
     /// As [`Device::mem_read`].
     pub fn mem_read(&mut self, function: u8, at: u64, out: &mut [u8]) -> Result<(), Fault> {
-        self.0.mem_read(function, at, out)
+        self.device.mem_read(function, at, out)
     }
 
     /// Writes bytes of a function's memory, from the address `at` on.
@@ -60,7 +65,7 @@ impl<'a, 'm> Quiet<'a, 'm> {
     /// # Errors
     /// As [`Device::mem_write`].
     pub fn mem_write(&mut self, function: u8, at: u64, source: &[u8]) -> Result<(), Fault> {
-        self.0.mem_write(function, at, source)
+        self.device.mem_write(function, at, source)
     }
 
     /// Reads a register of the physical function, at an offset in bytes.
@@ -68,7 +73,7 @@ impl<'a, 'm> Quiet<'a, 'm> {
     /// # Errors
     /// As [`Device::pf_read`].
     pub fn pf_read(&mut self, offset: u32) -> Result<u32, Fault> {
-        self.0.pf_read(offset)
+        self.device.pf_read(offset)
     }
 
     /// Writes a register of the physical function.
@@ -76,7 +81,13 @@ impl<'a, 'm> Quiet<'a, 'm> {
     /// # Errors
     /// As [`Device::pf_write`].
     pub fn pf_write(&mut self, offset: u32, word: u32) -> Result<(), Fault> {
-        self.0.pf_write(offset, word)
+        self.device.pf_write(offset, word)?;
+        for half in 0..2 {
+            if offset == regs::pfvfte(half) {
+                *self.permitted |= u64::from(word) << (32 * half);
+            }
+        }
+        Ok(())
     }
 
     /// Resets the device: every function is closed and every setting initial.
@@ -84,17 +95,17 @@ impl<'a, 'm> Quiet<'a, 'm> {
     /// # Errors
     /// As [`Device::pf_reset`].
     pub fn pf_reset(&mut self) -> Result<(), Fault> {
-        self.0.pf_reset()
+        self.device.pf_reset()
     }
 
     /// How many calls are recorded; 0 of a device that records none.
     pub fn kept(&mut self) -> usize {
-        self.0.kept()
+        self.device.kept()
     }
 
     /// Replays the recording on another device, and tells whether it gives each recorded answer: [`Device::replay`]. The other
     /// device belongs to the caller. Its messages are compared, and aren't passed on.
     pub fn replay(&mut self, other: &mut Device<'_>) -> Replayed {
-        self.0.replay(other)
+        self.device.replay(other)
     }
 }

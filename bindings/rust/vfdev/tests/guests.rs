@@ -51,7 +51,7 @@ fn set_up(device: &mut Device, memory: &[AtomicU8]) -> Result<(), Fault> {
         (regs::tdlen(0), 128),
         (regs::txdctl(0), regs::TXDCTL_ENABLE),
     ] {
-        device.vf_write(0, offset, word)?;
+        assert!(device.vf_write(0, offset, word)?.is_empty());
     }
     Ok(())
 }
@@ -76,7 +76,10 @@ fn no_frame_leaves_under_a_source_that_was_put_there_too_late() -> Result<(), Fa
         is_over.store(true, Ordering::Relaxed);
         result
     })?;
-    assert!(sent >= 1000 && dropped >= 1000, "{sent} sent, {dropped} dropped");
+    assert!(
+        sent >= 1000 && dropped >= 1000,
+        "{sent} sent, {dropped} dropped"
+    );
     Ok(())
 }
 
@@ -93,7 +96,7 @@ fn serve_until(
     while (*sent < 1000 || *dropped < 1000) && Instant::now() < end {
         put(memory, RING + 16 * tail + 8, &COMMAND.to_le_bytes());
         tail = (tail + 1) % 8;
-        device.vf_write(0, regs::tdt(0), tail as u32)?;
+        assert!(device.vf_write(0, regs::tdt(0), tail as u32)?.is_empty());
         match device.serve(0, Queue::Q0, &mut out)?.0 {
             Served::Sent(Some(60)) => {
                 assert_eq!(out[6..12], [2, 0, 0, 0, 0, 1]);

@@ -1,9 +1,10 @@
 //! A device that threads share: bars, interrupts and frames.
 
+use std::sync::atomic::{AtomicUsize, Ordering};
 use std::sync::{mpsc, Arc, Mutex, OnceLock};
 use std::thread;
 use std::time::Duration;
-use vfdev::{Device, Fault, Frames, Interrupt, Pool, Queue, SharedDevice};
+use vfdev::{regs, Device, Fault, Frames, Interrupt, Pool, Queue, SharedDevice, WeakDevice};
 
 #[derive(Clone, Default)]
 struct Raised(Arc<Mutex<Vec<(u8, u8)>>>);
@@ -76,23 +77,36 @@ fn set_up<I: Interrupt, F: Frames>(shared: &SharedDevice<'_, I, F>) -> Result<()
     Ok(())
 }
 
-// Function 1 has two frames in its ring, one to nobody here and one to function 0, and hands them over.
-fn send<I: Interrupt, F: Frames>(shared: &SharedDevice<'_, I, F>) -> Result<(), Fault> {
+// A function has two frames in its ring, one to nobody here and one to function 0.
+fn fill<I: Interrupt, F: Frames>(shared: &SharedDevice<'_, I, F>, from: u8) -> Result<(), Fault> {
     for (i, to) in [(0u64, 0x77), (1, 0)] {
-        shared.with(|mut device| device.mem_write(1, 0x6000 + 0x100 * i, &frame(to, 1)))?;
+        shared.with(|mut device| device.mem_write(from, 0x6000 + 0x100 * i, &frame(to, 1)))?;
         let words = [0x6000 + 0x100 * i, 0x2930_003c];
-        shared.with(|mut device| device.mem_write(1, 0x2000 + 16 * i, &words[0].to_le_bytes()))?;
-        shared.with(|mut device| device.mem_write(1, 0x2008 + 16 * i, &words[1].to_le_bytes()))?;
+        shared
+            .with(|mut device| device.mem_write(from, 0x2000 + 16 * i, &words[0].to_le_bytes()))?;
+        shared
+            .with(|mut device| device.mem_write(from, 0x2008 + 16 * i, &words[1].to_le_bytes()))?;
     }
-    let mut bar = shared.bar(1);
-    for (offset, word) in [
-        (0x2000, 0x2000u32),
-        (0x2008, 128),
-        (0x2028, 0x0200_0000),
-        (0x2018, 2),
-    ] {
-        bar.write(0, offset, &word.to_le_bytes());
+    Ok(())
+}
+
+// Its guest writes these registers of its ring, in this order.
+fn ring<I: Interrupt, F: Frames>(shared: &SharedDevice<'_, I, F>, from: u8, writes: &[(u32, u32)]) {
+    let mut bar = shared.bar(from);
+    for (offset, word) in writes {
+        bar.write(0, u64::from(*offset), &word.to_le_bytes());
     }
+}
+
+const BASE: (u32, u32) = (regs::tdbal(0), 0x2000);
+const LENGTH: (u32, u32) = (regs::tdlen(0), 128);
+const ON: (u32, u32) = (regs::txdctl(0), regs::TXDCTL_ENABLE);
+const TAIL: (u32, u32) = (regs::tdt(0), 2);
+
+// Function 1 hands its two frames over.
+fn send<I: Interrupt, F: Frames>(shared: &SharedDevice<'_, I, F>) -> Result<(), Fault> {
+    fill(shared, 1)?;
+    ring(shared, 1, &[BASE, LENGTH, ON, TAIL]);
     Ok(())
 }
 
@@ -105,6 +119,137 @@ fn a_tail_that_is_written_serves_the_queue() -> Result<(), Fault> {
     assert_eq!(shared.pump(1, Queue::Q0, 8)?, 0);
     shared.receive(&frame(0, 9))?;
     assert_eq!(raised.0.lock().unwrap().len(), 2);
+    Ok(())
+}
+
+// What came of the two frames: one left, and one reached function 0 with an interrupt; nothing is left in the ring.
+fn both_are_sent(shared: &Shared, raised: &Raised, tap: &Tap) -> Result<bool, Fault> {
+    let left = *tap.0.lock().unwrap() == [frame(0x77, 1).to_vec()];
+    let came = *raised.0.lock().unwrap() == [(0, 0)];
+    Ok(left && came && shared.pump(1, Queue::Q0, 8)? == 0)
+}
+
+#[test]
+fn a_tail_before_the_queue_is_on_is_served_when_it_goes_on() -> Result<(), Fault> {
+    let (shared, raised, tap) = shared()?;
+    fill(&shared, 1)?;
+    ring(&shared, 1, &[BASE, LENGTH, TAIL]);
+    assert!(tap.0.lock().unwrap().is_empty());
+    ring(&shared, 1, &[ON]);
+    assert!(both_are_sent(&shared, &raised, &tap)?);
+    Ok(())
+}
+
+#[test]
+fn a_tail_before_the_pool_may_transmit_is_served_when_it_may() -> Result<(), Fault> {
+    let (shared, raised, tap) = shared()?;
+    let permit = |word| shared.with(|mut device| device.pf_write(regs::pfvfte(0), word));
+    permit(0)?;
+    send(&shared)?;
+    permit(1)?;
+    // another word of PFVFTE is that of functions 32 to 63
+    shared.with(|mut device| device.pf_write(regs::pfvfte(1), 2))?;
+    assert!(tap.0.lock().unwrap().is_empty() && raised.0.lock().unwrap().is_empty());
+    permit(2)?;
+    assert!(both_are_sent(&shared, &raised, &tap)?);
+    Ok(())
+}
+
+#[test]
+fn each_word_of_pfvfte_permits_its_own_functions() -> Result<(), Fault> {
+    let left = Arc::new(Mutex::new(0));
+    let tap = {
+        let left = left.clone();
+        move |_: &[u8]| *left.lock().unwrap() += 1
+    };
+    let shared = SharedDevice::new(Device::new(34, 65536, 1518)?, Raised::default(), tap);
+    for function in [1, 32, 33] {
+        shared.with(|mut device| device.open(function))?;
+        fill(&shared, function)?;
+        ring(&shared, function, &[BASE, LENGTH, ON, TAIL]);
+    }
+    for (word, permitted, sent) in [(1, 1, 2), (1, 3, 4), (0, 2, 6)] {
+        shared.with(|mut device| device.pf_write(regs::pfvfte(word), permitted))?;
+        assert_eq!(*left.lock().unwrap(), sent);
+    }
+    Ok(())
+}
+
+// Whoever passes the writes of a function on without a bar serves its queues by calls of pump.
+#[test]
+fn without_a_bar_nothing_is_served_unasked() -> Result<(), Fault> {
+    let (shared, raised, tap) = shared()?;
+    let permit = |word| shared.with(|mut device| device.pf_write(regs::pfvfte(0), word));
+    permit(0)?;
+    fill(&shared, 1)?;
+    for (offset, word) in [BASE, LENGTH, ON, TAIL] {
+        shared.write(1, offset, word)?;
+    }
+    permit(2)?;
+    assert!(tap.0.lock().unwrap().is_empty() && raised.0.lock().unwrap().is_empty());
+    assert_eq!(shared.pump(1, Queue::Q0, 8)?, 2);
+    Ok(())
+}
+
+#[test]
+fn closures_are_triggers_and_sinks() -> Result<(), Fault> {
+    let (triggers, frames) = (AtomicUsize::new(0), Mutex::new(Vec::new()));
+    let shared = SharedDevice::new(
+        Device::new(2, 65536, 1518)?,
+        |pool: Pool, vector: u8| {
+            assert_eq!((pool.get(), vector), (0, 0));
+            triggers.fetch_add(1, Ordering::Relaxed);
+        },
+        |bytes: &[u8]| frames.lock().unwrap().push(bytes.to_vec()),
+    );
+    set_up(&shared)?;
+    send(&shared)?;
+    drop(shared);
+    assert_eq!(triggers.into_inner(), 1);
+    assert_eq!(frames.into_inner().unwrap(), [frame(0x77, 1).to_vec()]);
+    Ok(())
+}
+
+#[test]
+fn an_arc_is_a_trigger_and_a_sink_also_of_any_kind() -> Result<(), Fault> {
+    let (raised, tap) = (Arc::new(Raised::default()), Arc::new(Tap::default()));
+    let any: Arc<dyn Interrupt> = raised.clone();
+    let shared = SharedDevice::new(Device::new(2, 65536, 1518)?, any, tap.clone());
+    set_up(&shared)?;
+    send(&shared)?;
+    assert_eq!(*raised.0.lock().unwrap(), [(0, 0)]);
+    assert_eq!(*tap.0.lock().unwrap(), [frame(0x77, 1).to_vec()]);
+    Ok(())
+}
+
+// A tap that sends what leaves back in, by a device that it doesn't keep.
+struct Mirror(Arc<OnceLock<WeakDevice<'static, Raised, Mirror>>>);
+
+impl Frames for Mirror {
+    fn send(&self, _bytes: &[u8]) {
+        let device = self.0.get().and_then(WeakDevice::upgrade);
+        device
+            .expect("the device is there")
+            .receive(&frame(0, 9))
+            .unwrap();
+    }
+}
+
+#[test]
+fn what_holds_a_device_weakly_lets_it_go() -> Result<(), Fault> {
+    let (raised, own) = (Raised::default(), Arc::new(OnceLock::new()));
+    let shared = SharedDevice::new(
+        Device::new(2, 65536, 1518)?,
+        raised.clone(),
+        Mirror(own.clone()),
+    );
+    assert!(own.set(shared.downgrade()).is_ok());
+    set_up(&shared)?;
+    send(&shared)?;
+    // one from the tap, and one from function 1
+    assert_eq!(*raised.0.lock().unwrap(), [(0, 0), (0, 0)]);
+    drop(shared);
+    assert!(own.get().unwrap().upgrade().is_none());
     Ok(())
 }
 

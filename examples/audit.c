@@ -1,7 +1,8 @@
 /* A device whose calls are recorded, and an auditor. A guest opens, writes its memory and reads it; then the recording is full. A
  * fresh device gives each recorded answer. A device with a register that was written before does not.
  *
- * Build: cc -Iinclude examples/audit.c libvfdev_c.a liblibc_c.a -o audit. It prints what examples/audit.c.stdout has. */
+ * Build, in a clone after bindings/test: cc -Iinclude examples/audit.c bindings/native/libvfdev_c.a bindings/native/liblibc_c.a -o audit
+ * docs/EMBEDDING.md has other ways. It prints what examples/audit.c.stdout has. */
 #include "vfdev.h"
 #include "vfdev_regs.h"
 #include <stdio.h>

@@ -3,7 +3,8 @@
  * the wire and one to guest 0, a read at offset 2, where no register is, is refused, and a frame with another's source is
  * dropped.
  *
- * Build: cc -Iinclude examples/vmm.c libvfdev_c.a liblibc_c.a -o vmm. It prints what examples/vmm.c.stdout has. */
+ * Build, in a clone after bindings/test: cc -Iinclude examples/vmm.c bindings/native/libvfdev_c.a bindings/native/liblibc_c.a -o vmm
+ * docs/EMBEDDING.md has other ways. It prints what examples/vmm.c.stdout has. */
 #include "vfdev.h"
 #include "vfdev_regs.h"
 #include <stdio.h>

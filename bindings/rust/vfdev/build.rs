@@ -1,5 +1,5 @@
-//! Links the archive: `VFDEV_NATIVE` names its folder. Where it is unset, `lib` of an unpacked release has it, or `bindings/native` of a clone.
-//! An installed vfdev and a release have one archive, `libvfdev.a`; a clone has its two parts.
+//! Links the archive: `VFDEV_NATIVE` names its folder, seen from the folder of the crate. Where it is unset, `lib` of an unpacked release has
+//! it, or `bindings/native` of a clone. An installed vfdev and a release have one archive, `libvfdev.a`; a clone has its two parts.
 use std::env;
 use std::path::PathBuf;
 
@@ -8,7 +8,7 @@ fn main() {
         env::var_os("CARGO_MANIFEST_DIR").expect("cargo sets the folder of the crate"),
     );
     let native = match env::var_os("VFDEV_NATIVE") {
-        Some(folder) => PathBuf::from(folder),
+        Some(folder) => here.join(folder),
         None if here.join("../../../lib/libvfdev.a").exists() => here.join("../../../lib"),
         None => here.join("../../native"),
     };

@@ -1,5 +1,5 @@
 -- The first writes make the settings of a host, whatever the registers were.
-use Rattle.std.proofs.Common.{arith, ◌≡◌, ℕ, ◌+◌, ◌*◌, ◌^◌, ◌<◌, ◌≤◌, Bool, true, List, [], ◌∷◌, ◌++◌, zero, suc, ◌-◌, length, set, cond, false, Some, take, drop, get_or, refl, sym, ap, ◌∙◌, bit_and, inl, inr, ◌⊎◌}
+use Rattle.std.proofs.Common.{arith, ◌≡◌, ℕ, ◌+◌, ◌*◌, ◌<◌, ◌≤◌, Bool, true, List, [], ◌∷◌, ◌++◌, zero, suc, ◌-◌, length, set, eqb, cond, false, Some, take, drop, get_or, refl, sym, ap, ◌∙◌, bit_and, append_assoc, ◌&&◌}
 use Rattle.wire_frame.specs.declared.row.Row.{Row}
 use Rattle.addr_tables.specs.Registers.{RAL, RAH, MPSAR, MTA, MCSTCTRL, MCSTCTRL_KEPT}
 use Rattle.vlan_table.specs.Registers.{VFTA, VLVF, VLVFB, VLNCTRL, VLNCTRL_KEPT}
@@ -15,27 +15,28 @@ use Rattle.mailbox.specs.Start.{registers, row_of, word_of, register_writes, wri
 use Rattle.mailbox.specs.Words.{table, is_up, control_word, addresses_of, vlans_of, settings_of}
 use Rattle.std.specs.List.{slice_get}
 use Rattle.std.proofs.Math.Seq.{drop-cons}
+use Rattle.std.proofs.lemmas.Bool.Decides.{nat_tests}
 use Rattle.std.proofs.lemmas.List.{length-append, length-set}
 use Rattle.wire_frame.specs.Row.{is_in, place, words_after}
 use Rattle.mailbox.specs.declared.writes.Write.{Write}
-use Rattle.mailbox.specs.Writes.{write_at, writes_from, after_writes}
+use Rattle.mailbox.specs.Writes.{write_at, writes_where, after_writes}
 use Rattle.pool_filter.specs.Own.{contains}
 use Rattle.mailbox.proofs.Kept.{kept_low, kept_high, kept_flags, kept_port, kept_mask, kept_members, kept_id, kept_pools, kept_control}
-use Rattle.mailbox.proofs.Rows.{row_after, word_after, table_of, Part, writes_in, AllFit, all_far, parts_make, parts_keep}
+use Rattle.mailbox.proofs.Rows.{row_after, row_after-append, word_after, word_after-append, table_same, table_of, Part, writes_in, AllFit, all_far, each_far, row_spared, word_spared, within, part_makes}
 use Rattle.mailbox.proofs.Settle.{kept_of, control_of, rows_after, by_rows}
 
 -- ---- all words of registers, as parts
 
 abbrev pub register_part : HostState → Register → Part
-register_part h r = record { row = row_of r; word = word_of h r; from = 0; count = (row_of r).count }
+register_part h r = record { test = λ i. true; row = row_of r; word = word_of h r; from = 0; count = (row_of r).count }
 
 abbrev pub register_parts : HostState → List Register → List Part
 register_parts h [] = []
 register_parts h (r ∷ rs) = register_part h r ∷ register_parts h rs
 
-parts_split : (h : HostState) (rs ss : List Register) → register_parts h (rs ++ ss) ≡ register_parts h rs ++ register_parts h ss
-parts_split h [] ss = refl
-parts_split h (r ∷ rs) ss = ap (λ gs. register_part h r ∷ gs) (parts_split h rs ss)
+split : (h : HostState) (before : List Register) (r : Register) (after : List Register) → writes_in (register_parts h (before ++ r ∷ after)) ≡ writes_in (register_parts h before) ++ (register_writes h r ++ writes_in (register_parts h after))
+split h [] r after = refl
+split h (b ∷ bs) r after = ap (λ l. register_writes h b ++ l) (split h bs r after) ∙ sym (append_assoc (register_writes h b) (writes_in (register_parts h bs)) (register_writes h r ++ writes_in (register_parts h after)))
 
 pub in_parts : (h : HostState) (rs : List Register) → writes_to h rs ≡ writes_in (register_parts h rs)
 in_parts h [] = refl
@@ -69,17 +70,31 @@ made : (h : HostState) (r : Register) (before after : List Register) (words : Li
     → ((j : ℕ) → bit_and (word_of h r j) (row_of r).mask ≡ word_of h r j) → length words ≡ (row_of r).count
     → row_after (row_of r) words (writes_in (register_parts h (before ++ r ∷ after))) ≡ table (row_of r).count (word_of h r)
 made h r before after words far_before far_after kept long =
-    (λ i. row_after (row_of r) (table_of (row_of r).count words long i) (writes_in (parts_split h before (r ∷ after) i)))
-    ∙ parts_make (row_of r) (λ j. get_or words j 0) (word_of h r) (word_of h r) 0 (row_of r).count (register_parts h before) (register_parts h after) far_before far_after (all_fit h before) (all_fit h after) (strides r) (omega arith) kept
-    (λ j past below. refl) (λ j below out. absurd (never j below out))
+    (λ i. row_after (row_of r) (table_of (row_of r).count words long i) (split h before r after i))
+    ∙ row_after-append (row_of r) words_now (writes_in (register_parts h before)) (register_writes h r ++ writes_in (register_parts h after))
+    ∙ ap (λ v. row_after (row_of r) v (register_writes h r ++ writes_in (register_parts h after))) (row_spared (row_of r) words_now (writes_in (register_parts h before)) (each_far (row_of r) (register_parts h before) far_before (all_fit h before)))
+    ∙ row_after-append (row_of r) words_now (register_writes h r) (writes_in (register_parts h after))
+    ∙ ap (λ v. row_after (row_of r) v (writes_in (register_parts h after))) (part_makes (row_of r) (λ j. get_or words j 0) (word_of h r) (λ j. true) 0 (row_of r).count (strides r) (omega arith) kept ∙ table_same (row_of r).count _ (word_of h r) whole)
+    ∙ row_spared (row_of r) (table (row_of r).count (word_of h r)) (writes_in (register_parts h after)) (each_far (row_of r) (register_parts h after) far_after (all_fit h after))
   where
-    never : (j : ℕ) → j < (row_of r).count → (j < 0) ⊎ (0 + (row_of r).count ≤ j) → ⊥
-    never j below (inl none) = omega (arith, none)
-    never j below (inr past) = omega (arith, below, past)
+    words_now : List ℕ
+    words_now = table (row_of r).count (λ j. get_or words j 0)
 
-kept_one : (h : HostState) (first : ℕ) (keep : ℕ → ℕ) (word : ℕ) (words : ℕ → ℕ) (before after : List Register) → all_far (one_row first) (register_parts h before) ≡ true → all_far (one_row first) (register_parts h after) ≡ true
-    → word_after first keep word (writes_in (register_parts h before ++ record { row = one_row first; word = words; from = 0; count = 1 } ∷ register_parts h after)) ≡ keep (words 0)
-kept_one h first keep word words before after far_before far_after = parts_keep first keep word words (register_parts h before) (register_parts h after) far_before far_after (all_fit h before) (all_fit h after)
+    whole : (j : ℕ) → j < (row_of r).count → cond (within 0 (row_of r).count j && true) (word_of h r j) (get_or words j 0) ≡ word_of h r j
+    whole j below = let is : within 0 (row_of r).count j ≡ true = grind (arith, nat_tests, below) in ap (λ b. cond (b && true) (word_of h r j) (get_or words j 0)) is
+
+kept_one : (h : HostState) (r : Register) (first : ℕ) (keep : ℕ → ℕ) (word : ℕ) (before after : List Register) → row_of r ≡ one_row first → all_far (one_row first) (register_parts h before) ≡ true → all_far (one_row first) (register_parts h after) ≡ true
+    → word_after first keep word (writes_in (register_parts h (before ++ r ∷ after))) ≡ keep (word_of h r 0)
+kept_one h r first keep word before after is far_before far_after =
+    ap (word_after first keep word) (split h before r after)
+    ∙ word_after-append first keep word (writes_in (register_parts h before)) (register_writes h r ++ writes_in (register_parts h after))
+    ∙ ap (λ v. word_after first keep v (register_writes h r ++ writes_in (register_parts h after))) (word_spared first keep word (writes_in (register_parts h before)) (each_far (one_row first) (register_parts h before) far_before (all_fit h before)))
+    ∙ ap (λ row. word_after first keep word (writes_where (λ j. true) row (word_of h r) 0 row.count ++ writes_in (register_parts h after))) is
+    ∙ ap (λ b. word_after first keep (cond b (keep (word_of h r 0)) word) (writes_in (register_parts h after))) here
+    ∙ word_spared first keep (keep (word_of h r 0)) (writes_in (register_parts h after)) (each_far (one_row first) (register_parts h after) far_after (all_fit h after))
+  where
+    here : eqb (first + 4 * 0) first ≡ true
+    here = grind (arith, nat_tests)
 
 -- ---- all registers
 
@@ -91,10 +106,10 @@ rows_first h s whole = λ i. record {
     high = made h HighAddress (take 2 registers) (drop 3 registers) s.addresses.high refl refl (kept_high h) whole.high i;
     pools = made h AddressPools (take 3 registers) (drop 4 registers) s.addresses.pools refl refl kept_pools whole.address_pools i;
     hashes = made h MulticastTable (take 4 registers) (drop 5 registers) s.addresses.hashes refl refl (λ j. refl) whole.hashes i;
-    control = kept_one h MCSTCTRL (kept_of MCSTCTRL_KEPT) s.addresses.control (λ j. 0) (take 5 registers) (drop 6 registers) refl refl i;
+    control = kept_one h MulticastControl MCSTCTRL (kept_of MCSTCTRL_KEPT) s.addresses.control (take 5 registers) (drop 6 registers) refl refl refl i;
   };
   vlans = record {
-    control = kept_one h VLNCTRL (kept_of VLNCTRL_KEPT) s.vlans.control (λ j. 2 ^ 30) (take 6 registers) (drop 7 registers) refl refl i;
+    control = kept_one h VlanControl VLNCTRL (kept_of VLNCTRL_KEPT) s.vlans.control (take 6 registers) (drop 7 registers) refl refl refl i;
     table = made h VlanTable (take 7 registers) (drop 8 registers) s.vlans.table refl refl (λ j. kept_mask (contains h.ids) (32 * j)) whole.vlan_table i;
     entries = made h VlanIds (take 8 registers) (drop 9 registers) s.vlans.entries refl refl (kept_id h) whole.vlan_entries i;
     pools = made h VlanPools (take 9 registers) (drop 10 registers) s.vlans.pools refl refl (kept_members h) whole.vlan_pools i;
@@ -104,12 +119,12 @@ rows_first h s whole = λ i. record {
   transmit_enable = made h TransmitEnable (take 15 registers) (drop 16 registers) s.transmit_enable refl refl (λ j. kept_mask (is_up h) (32 * j)) whole.transmit_enable i;
   port_vlans = made h PortVlans (take 11 registers) (drop 12 registers) s.port_vlans refl refl (λ j. kept_port (function_at h j)) whole.port_vlans i;
   sender_checks = made h SourceChecks (take 0 registers) (drop 1 registers) s.sender_checks refl refl (λ j. refl) whole.sender_checks i;
-  loopback = kept_one h PFDTXGSWC (kept_of PFDTXGSWC_KEPT) s.loopback (λ j. 1) (take 12 registers) (drop 13 registers) refl refl i;
+  loopback = kept_one h Loopback PFDTXGSWC (kept_of PFDTXGSWC_KEPT) s.loopback (take 12 registers) (drop 13 registers) refl refl refl i;
   pool_flags = made h PoolFlags (take 13 registers) (drop 14 registers) s.pool_flags refl refl (λ j. kept_flags (function_at h j)) whole.pool_flags i;
 }
   where
     controls : word_after PF_VT_CTL control_of s.pool_control (writes_in (register_parts h registers)) ≡ control_word h.default_pool
-    controls = kept_one h PF_VT_CTL control_of s.pool_control (λ j. control_word h.default_pool) (take 10 registers) (drop 11 registers) refl refl ∙ kept_control h.default_pool
+    controls = kept_one h PoolControl PF_VT_CTL control_of s.pool_control (take 10 registers) (drop 11 registers) refl refl refl ∙ kept_control h.default_pool
 
 pub first_settled : (h : HostState) (s : Settings) → IsWhole s → after_writes s (first_writes h) ≡ settings_of h
 unfolding first_writes
@@ -120,7 +135,7 @@ first_settled h s whole =
 
 -- ---- how many there are, and which is which
 
-length_from : (row : Row) (word : ℕ → ℕ) (i n : ℕ) → length (writes_from row word i n) ≡ n
+length_from : (row : Row) (word : ℕ → ℕ) (i n : ℕ) → length (writes_where (λ j. true) row word i n) ≡ n
 length_from row word i zero = refl
 length_from row word i (suc n) = ap suc (length_from row word (suc i) n)
 
@@ -152,7 +167,7 @@ get_back (x ∷ xs) ys (suc i) past =
     let same : i - length xs ≡ suc i - suc (length xs) = omega arith in
     get_back xs ys i (omega (arith, past)) ∙ ap (slice_get ys) same
 
-get_from : (row : Row) (word : ℕ → ℕ) (from n i : ℕ) → i < n → slice_get (writes_from row word from n) i ≡ Some (write_at row (from + i) (word (from + i)))
+get_from : (row : Row) (word : ℕ → ℕ) (from n i : ℕ) → i < n → slice_get (writes_where (λ j. true) row word from n) i ≡ Some (write_at row (from + i) (word (from + i)))
 get_from row word from zero i small = absurd (omega (arith, small))
 get_from row word from (suc n) zero small = let same : from ≡ from + 0 = omega arith in ap (λ j. Some (write_at row j (word j))) same
 get_from row word from (suc n) (suc i) small =

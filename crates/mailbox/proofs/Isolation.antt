@@ -58,7 +58,7 @@ pub record Agrees (s t : Settings) (q : ℕ) : Type 0 where
   pub flags : flags_of s q ≡ flags_of t q
   pub all : IsSameForAll s t
 
-and_no : (b : Bool) → (b && false) ≡ false
+pub and_no : (b : Bool) → (b && false) ≡ false
 and_no true = refl
 and_no false = refl
 

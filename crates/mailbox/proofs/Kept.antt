@@ -40,10 +40,13 @@ low_below : (a : Option ℕ) → low_part a < 2 ^ 32
 low_below None = omega arith
 low_below (Some a) = omega arith
 
-pub kept_low : (h : HostState) (e : ℕ) → bit_and (low_word h e) 0xFFFFFFFF ≡ low_word h e
-kept_low h e = kept_whole (low_word h e) (low_below (entry h e))
+pub low_kept : (a : Option ℕ) → bit_and (low_part a) 0xFFFFFFFF ≡ low_part a
+low_kept a = kept_whole (low_part a) (low_below a)
 
-valid_kept : (a : Option ℕ) → bit_and (valid a) 0x8000FFFF ≡ valid a
+pub kept_low : (h : HostState) (e : ℕ) → bit_and (low_word h e) 0xFFFFFFFF ≡ low_word h e
+kept_low h e = low_kept (entry h e)
+
+pub valid_kept : (a : Option ℕ) → bit_and (valid a) 0x8000FFFF ≡ valid a
 valid_kept None = refl
 valid_kept (Some a) = half_kept (a / 2 ^ 32 % 2 ^ 16) (omega arith)
 

@@ -4,7 +4,6 @@ pub mod First
 pub mod Isolation
 pub mod Kept
 pub mod Masks
-pub mod Meanwhile
 pub mod Members
 pub mod Others
 pub mod Policies

@@ -1,10 +1,7 @@
 -- While the writes of one pool are done, every other pool has what it had.
-use Rattle.std.proofs.Common.{arith, ◌≡◌, ◌≢◌, ℕ, suc, ◌+◌, ◌*◌, ◌/◌, ◌%◌, ◌^◌, ◌<◌, ◌≤◌, Bool, true, false, cond, ◌&&◌, List, [], ◌∷◌, ◌++◌, length, replicate, get_or, Option, Some, None, refl, sym, ap, subst, ◌∙◌, ltb, bit_and}
-use Rattle.std.specs.Bool.{⊤}
+use Rattle.std.proofs.Common.{arith, ◌≡◌, ◌≢◌, ℕ, suc, ◌+◌, ◌*◌, ◌/◌, ◌%◌, ◌^◌, ◌<◌, ◌≤◌, Bool, true, cond, ◌&&◌, List, [], ◌∷◌, ◌++◌, length, replicate, get_or, Option, Some, None, refl, sym, ap, subst, ◌∙◌, ltb, bit_and}
 use Rattle.std.proofs.lemmas.List.{append-nil}
-use Rattle.std.proofs.lemmas.Bool.{and_parts}
 use Rattle.wire_frame.specs.declared.row.Row.{Row}
-use Rattle.wire_frame.specs.Apart.{apart}
 use Rattle.wire_frame.specs.Bits.{has_bit, has_bit_in, two_words}
 use Rattle.addr_tables.specs.Registers.{RAL, RAH, MPSAR, MTA, MCSTCTRL, MCSTCTRL_KEPT}
 use Rattle.vlan_table.specs.Registers.{VLNCTRL, VLNCTRL_KEPT, VFTA, VLVF, VLVFB}
@@ -20,14 +17,13 @@ use Rattle.mailbox.specs.Function.{gone}
 use Rattle.mailbox.specs.Host.{HostState, function_at, with_function, outcome, host_with, host_after, host_without}
 use Rattle.mailbox.specs.Isolation.{IsSameFor, IsSameForAll}
 use Rattle.mailbox.specs.Words.{table, low_word, high_word, pool_word, table_word, id_word, member_word, has_joined, is_up, up_word, flags_word, port_word, control_word, addresses_of, vlans_of, settings_of}
-use Rattle.mailbox.specs.Writes.{writes_from, writes_of, after_writes, sets_registers, writes_with, writes_after, writes_without}
+use Rattle.mailbox.specs.Writes.{writes_of, after_writes, writes_with, writes_after, writes_without}
 use Rattle.mailbox.proofs.Entries.{table_at, entry_pool, two_words_at, mask_or_none}
 use Rattle.mailbox.proofs.Isolation.{function_stays, Agrees, agrees_same}
 use Rattle.mailbox.proofs.Kept.{kept_mask, kept_members}
 use Rattle.mailbox.proofs.Masks.{has_bit_mask}
-use Rattle.mailbox.proofs.Meanwhile.{Each, each_append, each_front, each_far, row_spared, word_spared, each_part, Spares, Gives, spares_gives, part_gives, row_holds}
-use Rattle.mailbox.proofs.Rows.{row_after, word_after, Part, writes_in, AllFit, all_far}
-use Rattle.mailbox.proofs.Settle.{kept_of, control_of, rows_after, by_rows, closing, low, high, flags, port, receive, transmit, members, first_entry, second_entry, pool_parts, parts, parts_fit, in_parts}
+use Rattle.mailbox.proofs.Rows.{row_after, word_after, writes_in, AllFit, all_far, Among, Each, each_front, each_far, Spares, row_spared, word_spared, Gives, Giving, parts_give, row_holds}
+use Rattle.mailbox.proofs.Settle.{kept_of, control_of, rows_after, by_rows, parts, parts_fit, in_parts}
 use Rattle.mailbox.proofs.Turns.{after_message, after_reset}
 
 -- ---- what the words of pool q are at every moment
@@ -55,26 +51,7 @@ up_word_bit h q j small half =
     let place : 32 * j + q % 32 ≡ q = omega (arith, half) in
     has_bit_mask (is_up h) (32 * j) 32 (q % 32) (omega arith) ∙ ap (is_up h) place
 
--- ---- the writes of pool p, row by row
-
-abbrev pub AllGive : Row → (ℕ → ℕ → Type 0) → List Part → Type 0
-AllGive row P [] = ⊤
-AllGive row P (g ∷ gs) = Each (Gives row P) (writes_from g.row g.word g.from g.count) × AllGive row P gs
-
-give_all : (row : Row) (P : ℕ → ℕ → Type 0) (gs : List Part) → AllGive row P gs → Each (Gives row P) (writes_in gs)
-give_all row P [] each = tt
-give_all row P (g ∷ gs) each = each_append (Gives row P) (writes_from g.row g.word g.from g.count) (writes_in gs) each.0 (give_all row P gs each.1)
-
--- parts that are apart from the row
-give_far : (row : Row) (P : ℕ → ℕ → Type 0) (gs hs : List Part) → all_far row gs ≡ true → AllFit (gs ++ hs) → (AllFit hs → AllGive row P hs) → AllGive row P (gs ++ hs)
-give_far row P [] hs far fit rest = rest fit
-give_far row P (g ∷ gs) hs far fit rest =
-    let parts : (apart row g.row ≡ true) × (all_far row gs ≡ true) = and_parts (apart row g.row) (all_far row gs) far in
-    (spares_gives row P (writes_from g.row g.word g.from g.count) (each_part row g parts.0 fit.0), give_far row P gs hs parts.1 fit.1 rest)
-
--- a part of the row itself
-give_one : (row : Row) (P : ℕ → ℕ → Type 0) (word : ℕ → ℕ) (i n : ℕ) (hs : List Part) → AllFit (record { row = row; word = word; from = i; count = n } ∷ hs) → ((j : ℕ) → i ≤ j → j < i + n → P j (bit_and (word j) row.mask)) → (AllFit hs → AllGive row P hs) → AllGive row P (record { row = row; word = word; from = i; count = n } ∷ hs)
-give_one row P word i n hs fit holds rest = (part_gives row P word i n fit.0.0 holds, rest fit.1)
+-- ---- what all pools have
 
 all_from : (s t : Settings) → s.loopback ≡ t.loopback → s.vlans.control ≡ t.vlans.control → s.pool_control ≡ t.pool_control → s.addresses.hashes ≡ t.addresses.hashes → s.addresses.control ≡ t.addresses.control → IsSameForAll s t
 unfolding is_filtering multicast_hit
@@ -87,7 +64,7 @@ all_from s t loopback filtering pool hashes control = record {
 
 -- ---- the pool's words after some of the writes
 
-meanwhile : (h : HostState) (p q : ℕ) (f : Function) (done left : List Write) → p < 64 → length h.ids ≤ 64 → q < 64 → q ≢ p → done ++ left ≡ writes_in (parts (with_function h p f) p) → Agrees (settings_of h) (rows_after (settings_of h) done) q
+meanwhile : (h : HostState) (p q : ℕ) (f : Function) (done left : List Write) → p < 64 → length h.ids ≤ 64 → q < 64 → q ≢ p → done ++ left ≡ writes_in (parts (with_function h p f) p (function_at h p)) → Agrees (settings_of h) (rows_after (settings_of h) done) q
 unfolding settings_of addresses_of vlans_of
 meanwhile h p q f done left small few q_small other is = record {
   mine = λ e below. entry_pool e q below q_small;
@@ -113,69 +90,52 @@ meanwhile h p q f done left small few q_small other is = record {
     k : HostState
     k = with_function h p f
 
-    fit : AllFit (parts k p)
-    fit = parts_fit k p small few
+    fit : AllFit (parts k p (function_at h p))
+    fit = parts_fit k p (function_at h p) small few
 
-    front : (P : Write → Type 0) → Each P (writes_in (parts k p)) → Each P done
+    front : (P : Write → Type 0) → Each P (writes_in (parts k p (function_at h p))) → Each P done
     front P each = each_front P done left (subst (Each P) (sym is) each)
 
-    spared : (row : Row) (words : List ℕ) → all_far row (parts k p) ≡ true → row_after row words done ≡ words
-    spared row words far = row_spared row words done (front (Spares row) (each_far row (parts k p) far fit))
+    spared : (row : Row) (words : List ℕ) → all_far row (parts k p (function_at h p)) ≡ true → row_after row words done ≡ words
+    spared row words far = row_spared row words done (front (Spares row) (each_far row (parts k p (function_at h p)) far fit))
 
-    word_spare : (first : ℕ) (keep : ℕ → ℕ) (word : ℕ) → all_far (one_row first) (parts k p) ≡ true → word_after first keep word done ≡ word
-    word_spare first keep word far = word_spared first keep word done (front (Spares (one_row first)) (each_far (one_row first) (parts k p) far fit))
+    word_spare : (first : ℕ) (keep : ℕ → ℕ) (word : ℕ) → all_far (one_row first) (parts k p (function_at h p)) ≡ true → word_after first keep word done ≡ word
+    word_spare first keep word far = word_spared first keep word done (front (Spares (one_row first)) (each_far (one_row first) (parts k p (function_at h p)) far fit))
 
-    given : (row : Row) (P : ℕ → ℕ → Type 0) → AllGive row P (parts k p) → Each (Gives row P) done
-    given row P all = front (Gives row P) (give_all row P (parts k p) all)
+    -- what holds of the words of a row, and of those that are written, holds of them at every moment
+    holds_on : (row : Row) (P : ℕ → ℕ → Type 0) (words : List ℕ) → ((j : ℕ) → P j (get_or words j 0)) → Among row (Giving row P) (parts k p (function_at h p)) → (j : ℕ) → P j (get_or (row_after row words done) j 0)
+    holds_on row P words old among = row_holds row P words done old (front (Gives row P) (parts_give row P (parts k p (function_at h p)) among fit))
 
-    -- p's own entries are none of q's
-    first_out : (x j : ℕ) (word : HostState → ℕ → ℕ) → p ≤ j → j < p + 1 → HoldsEntry h word q j x
-    first_out x j word past below small_j at = absurd (other (omega (arith, past, below, at, small)))
+    -- p's own entries are none of q's, and its words neither
+    first_out : (word : HostState → ℕ → ℕ) (j x : ℕ) → p ≤ j → j < p + 1 → HoldsEntry h word q j x
+    first_out word j x past below small_j at = absurd (other (omega (arith, past, below, at, small)))
 
-    second_out : (x j : ℕ) (word : HostState → ℕ → ℕ) → 64 + p ≤ j → j < 64 + p + 1 → HoldsEntry h word q j x
-    second_out x j word past below small_j at = absurd (other (omega (arith, past, below, at, small)))
+    second_out : (word : HostState → ℕ → ℕ) (j x : ℕ) → 64 + p ≤ j → j < 64 + p + 1 → HoldsEntry h word q j x
+    second_out word j x past below small_j at = absurd (other (omega (arith, past, below, at, small)))
 
-    word_out : (x j word : ℕ) → p ≤ j → j < p + 1 → HoldsWord word q j x
-    word_out x j word past below at = absurd (other (omega (arith, past, below, at)))
+    word_out : (word j x : ℕ) → p ≤ j → j < p + 1 → HoldsWord word q j x
+    word_out word j x past below at = absurd (other (omega (arith, past, below, at)))
 
     same : function_at k q ≡ function_at h q
     same = function_stays h p q f other
 
     lows : (e : ℕ) → HoldsEntry h low_word q e (get_or (row_after RAL (table 128 (low_word h)) done) e 0)
-    lows = row_holds RAL (HoldsEntry h low_word q) (table 128 (low_word h)) done (λ e below at. table_at (low_word h) 128 e below)
-        (given RAL (HoldsEntry h low_word q)
-        (give_far RAL (HoldsEntry h low_word q) (closing p ∷ []) (low k p ∷ high k p ∷ second_entry k p ++ pool_parts k p) refl fit
-        (λ fit. give_one RAL (HoldsEntry h low_word q) (low_word k) p 1 (high k p ∷ second_entry k p ++ pool_parts k p) fit (λ j past below. first_out (bit_and (low_word k j) 0xFFFFFFFF) j low_word past below)
-        (λ fit. give_far RAL (HoldsEntry h low_word q) (high k p ∷ closing (64 + p) ∷ []) (low k (64 + p) ∷ high k (64 + p) ∷ pool_parts k p) refl fit
-        (λ fit. give_one RAL (HoldsEntry h low_word q) (low_word k) (64 + p) 1 (high k (64 + p) ∷ pool_parts k p) fit (λ j past below. second_out (bit_and (low_word k j) 0xFFFFFFFF) j low_word past below)
-        (λ fit. give_far RAL (HoldsEntry h low_word q) (high k (64 + p) ∷ pool_parts k p) [] refl fit (λ fit. tt)))))))
+    lows = holds_on RAL (HoldsEntry h low_word q) (table 128 (low_word h)) (λ e below at. table_at (low_word h) 128 e below)
+        (refl, ((refl, λ j. first_out low_word j _), (refl, (refl, ((refl, λ j. second_out low_word j _), (refl, (refl, (refl, (refl, (refl, (refl, tt)))))))))))
 
     highs : (e : ℕ) → HoldsEntry h high_word q e (get_or (row_after RAH (table 128 (high_word h)) done) e 0)
-    highs = row_holds RAH (HoldsEntry h high_word q) (table 128 (high_word h)) done (λ e below at. table_at (high_word h) 128 e below)
-        (given RAH (HoldsEntry h high_word q)
-        (give_one RAH (HoldsEntry h high_word q) (λ j. 0) p 1 (low k p ∷ high k p ∷ second_entry k p ++ pool_parts k p) fit (λ j past below. first_out (bit_and 0 0x8000FFFF) j high_word past below)
-        (λ fit. give_far RAH (HoldsEntry h high_word q) (low k p ∷ []) (high k p ∷ second_entry k p ++ pool_parts k p) refl fit
-        (λ fit. give_one RAH (HoldsEntry h high_word q) (high_word k) p 1 (second_entry k p ++ pool_parts k p) fit (λ j past below. first_out (bit_and (high_word k j) 0x8000FFFF) j high_word past below)
-        (λ fit. give_one RAH (HoldsEntry h high_word q) (λ j. 0) (64 + p) 1 (low k (64 + p) ∷ high k (64 + p) ∷ pool_parts k p) fit (λ j past below. second_out (bit_and 0 0x8000FFFF) j high_word past below)
-        (λ fit. give_far RAH (HoldsEntry h high_word q) (low k (64 + p) ∷ []) (high k (64 + p) ∷ pool_parts k p) refl fit
-        (λ fit. give_one RAH (HoldsEntry h high_word q) (high_word k) (64 + p) 1 (pool_parts k p) fit (λ j past below. second_out (bit_and (high_word k j) 0x8000FFFF) j high_word past below)
-        (λ fit. give_far RAH (HoldsEntry h high_word q) (pool_parts k p) [] refl fit (λ fit. tt)))))))))
+    highs = holds_on RAH (HoldsEntry h high_word q) (table 128 (high_word h)) (λ e below at. table_at (high_word h) 128 e below)
+        ((refl, λ j. first_out high_word j _), (refl, ((refl, λ j. first_out high_word j _), ((refl, λ j. second_out high_word j _), (refl, ((refl, λ j. second_out high_word j _), (refl, (refl, (refl, (refl, (refl, tt)))))))))))
 
     flag_words : (j : ℕ) → HoldsWord (flags_word (function_at h q)) q j (get_or (row_after VMOLR (table 64 (λ n. flags_word (function_at h n))) done) j 0)
-    flag_words = row_holds VMOLR (HoldsWord (flags_word (function_at h q)) q) (table 64 (λ n. flags_word (function_at h n))) done
+    flag_words = holds_on VMOLR (HoldsWord (flags_word (function_at h q)) q) (table 64 (λ n. flags_word (function_at h n)))
         (λ j at. table_at (λ n. flags_word (function_at h n)) 64 j (omega (arith, at, q_small)) ∙ ap (λ n. flags_word (function_at h n)) at)
-        (given VMOLR (HoldsWord (flags_word (function_at h q)) q)
-        (give_far VMOLR (HoldsWord (flags_word (function_at h q)) q) (first_entry k p ++ second_entry k p) (pool_parts k p) refl fit
-        (λ fit. give_one VMOLR (HoldsWord (flags_word (function_at h q)) q) (λ n. flags_word (function_at k n)) p 1 (port k p ∷ receive k ∷ transmit k ∷ members k ∷ []) fit (λ j past below. word_out (bit_and (flags_word (function_at k j)) 0x1B000000) j (flags_word (function_at h q)) past below)
-        (λ fit. give_far VMOLR (HoldsWord (flags_word (function_at h q)) q) (port k p ∷ receive k ∷ transmit k ∷ members k ∷ []) [] refl fit (λ fit. tt)))))
+        (refl, (refl, (refl, (refl, (refl, (refl, ((refl, λ j. word_out (flags_word (function_at h q)) j _), (refl, (refl, (refl, (refl, tt)))))))))))
 
     ports : (j : ℕ) → HoldsWord (port_word (function_at h q)) q j (get_or (row_after VMVIR (table 64 (λ n. port_word (function_at h n))) done) j 0)
-    ports = row_holds VMVIR (HoldsWord (port_word (function_at h q)) q) (table 64 (λ n. port_word (function_at h n))) done
+    ports = holds_on VMVIR (HoldsWord (port_word (function_at h q)) q) (table 64 (λ n. port_word (function_at h n)))
         (λ j at. table_at (λ n. port_word (function_at h n)) 64 j (omega (arith, at, q_small)) ∙ ap (λ n. port_word (function_at h n)) at)
-        (given VMVIR (HoldsWord (port_word (function_at h q)) q)
-        (give_far VMVIR (HoldsWord (port_word (function_at h q)) q) (first_entry k p ++ second_entry k p ++ flags k p ∷ []) (port k p ∷ receive k ∷ transmit k ∷ members k ∷ []) refl fit
-        (λ fit. give_one VMVIR (HoldsWord (port_word (function_at h q)) q) (λ n. port_word (function_at k n)) p 1 (receive k ∷ transmit k ∷ members k ∷ []) fit (λ j past below. word_out (bit_and (port_word (function_at k j)) 0xC000FFFF) j (port_word (function_at h q)) past below)
-        (λ fit. give_far VMVIR (HoldsWord (port_word (function_at h q)) q) (receive k ∷ transmit k ∷ members k ∷ []) [] refl fit (λ fit. tt)))))
+        (refl, (refl, (refl, (refl, (refl, (refl, (refl, ((refl, λ j. word_out (port_word (function_at h q)) j _), (refl, (refl, (refl, tt)))))))))))
 
     -- the bit of q in a word of pools
     old_up : (j : ℕ) → HoldsBit (is_up h q) q j (get_or (table 2 (up_word h)) j 0)
@@ -188,18 +148,12 @@ meanwhile h p q f done left small few q_small other is = record {
     up_bits words bit = bit
 
     receive_bits : (j : ℕ) → HoldsBit (is_up h q) q j (get_or (row_after PFVFRE (table 2 (up_word h)) done) j 0)
-    receive_bits = row_holds PFVFRE (HoldsBit (is_up h q) q) (table 2 (up_word h)) done old_up
-        (given PFVFRE (HoldsBit (is_up h q) q)
-        (give_far PFVFRE (HoldsBit (is_up h q) q) (first_entry k p ++ second_entry k p ++ flags k p ∷ port k p ∷ []) (receive k ∷ transmit k ∷ members k ∷ []) refl fit
-        (λ fit. give_one PFVFRE (HoldsBit (is_up h q) q) (up_word k) 0 2 (transmit k ∷ members k ∷ []) fit (λ j past below. new_up j)
-        (λ fit. give_far PFVFRE (HoldsBit (is_up h q) q) (transmit k ∷ members k ∷ []) [] refl fit (λ fit. tt)))))
+    receive_bits = holds_on PFVFRE (HoldsBit (is_up h q) q) (table 2 (up_word h)) old_up
+        (refl, (refl, (refl, (refl, (refl, (refl, (refl, (refl, ((refl, λ j past below. new_up j), (refl, (refl, tt)))))))))))
 
     transmit_bits : (j : ℕ) → HoldsBit (is_up h q) q j (get_or (row_after PFVFTE (table 2 (up_word h)) done) j 0)
-    transmit_bits = row_holds PFVFTE (HoldsBit (is_up h q) q) (table 2 (up_word h)) done old_up
-        (given PFVFTE (HoldsBit (is_up h q) q)
-        (give_far PFVFTE (HoldsBit (is_up h q) q) (first_entry k p ++ second_entry k p ++ flags k p ∷ port k p ∷ receive k ∷ []) (transmit k ∷ members k ∷ []) refl fit
-        (λ fit. give_one PFVFTE (HoldsBit (is_up h q) q) (up_word k) 0 2 (members k ∷ []) fit (λ j past below. new_up j)
-        (λ fit. give_far PFVFTE (HoldsBit (is_up h q) q) (members k ∷ []) [] refl fit (λ fit. tt)))))
+    transmit_bits = holds_on PFVFTE (HoldsBit (is_up h q) q) (table 2 (up_word h)) old_up
+        (refl, (refl, (refl, (refl, (refl, (refl, (refl, (refl, (refl, ((refl, λ j past below. new_up j), (refl, tt)))))))))))
 
     new_join : (j : ℕ) → HoldsJoin h q j (bit_and (member_word k j) 0xFFFFFFFF)
     new_join j below half =
@@ -207,12 +161,9 @@ meanwhile h p q f done left small few q_small other is = record {
         ∙ ap (λ g. ltb j (2 * length h.ids) && has_bit g.joined (j / 2)) same
 
     join_bits : (j : ℕ) → HoldsJoin h q j (get_or (row_after VLVFB (table 128 (member_word h)) done) j 0)
-    join_bits = row_holds VLVFB (HoldsJoin h q) (table 128 (member_word h)) done
+    join_bits = holds_on VLVFB (HoldsJoin h q) (table 128 (member_word h))
         (λ j below half. ap (λ w. has_bit w (q % 32)) (table_at (member_word h) 128 j below) ∙ member_bit h q j q_small half)
-        (given VLVFB (HoldsJoin h q)
-        (give_far VLVFB (HoldsJoin h q) (first_entry k p ++ second_entry k p ++ flags k p ∷ port k p ∷ receive k ∷ transmit k ∷ []) (members k ∷ []) refl fit
-        (λ fit. give_one VLVFB (HoldsJoin h q) (member_word k) 0 (2 * length k.ids) [] fit (λ j past below. new_join j)
-        (λ fit. tt))))
+        (refl, (refl, (refl, (refl, (refl, (refl, (refl, (refl, (refl, (refl, ((refl, λ j past below. new_join j), tt)))))))))))
 
     joins : (m : ℕ) → m < 64 → has_bit_in (two_words (table 128 (member_word h)) m) q ≡ has_bit_in (two_words (row_after VLVFB (table 128 (member_word h)) done) m) q
     joins m below =
@@ -227,10 +178,10 @@ meanwhile h p q f done left small few q_small other is = record {
 
 -- ---- the theorem
 
-pub others_meanwhile : (h : HostState) (p q : ℕ) (f : Function) (done left : List Write) → p < 64 → length h.ids ≤ 64 → q < 64 → q ≢ p → done ++ left ≡ writes_of (with_function h p f) p → IsSameFor (settings_of h) (after_writes (settings_of h) done) q
+pub others_meanwhile : (h : HostState) (p q : ℕ) (f : Function) (done left : List Write) → p < 64 → length h.ids ≤ 64 → q < 64 → q ≢ p → done ++ left ≡ writes_of (with_function h p f) p (function_at h p) → IsSameFor (settings_of h) (after_writes (settings_of h) done) q
 others_meanwhile h p q f done left small few q_small other is =
     subst (λ (t : Settings). IsSameFor (settings_of h) t q) (sym (by_rows (settings_of h) done))
-    (agrees_same (settings_of h) (rows_after (settings_of h) done) q (meanwhile h p q f done left small few q_small other (is ∙ in_parts (with_function h p f) p)))
+    (agrees_same (settings_of h) (rows_after (settings_of h) done) q (meanwhile h p q f done left small few q_small other (is ∙ in_parts (with_function h p f) p (function_at h p))))
 
 same_itself : (s : Settings) (q : ℕ) → IsSameFor s s q
 same_itself s q = record { settings = refl; accepts = λ frame. refl; permitted = λ frame. refl }
@@ -243,18 +194,14 @@ nothing_done s q (w ∷ ws) left is = absurd (some_written (ap length is))
     some_written : suc (length (ws ++ left)) ≡ 0 → ⊥
     some_written e = omega (arith, e)
 
-while_answered : (h : HostState) (p q : ℕ) (message : Message) (done left : List Write) → p < 64 → length h.ids ≤ 64 → q < 64 → q ≢ p → (o : Option Function) → done ++ left ≡ writes_with h p message o → IsSameFor (settings_of h) (after_writes (settings_of h) done) q
-while_answered h p q message done left small few q_small other None is = nothing_done (settings_of h) q done left is
-while_answered h p q message done left small few q_small other (Some f) is = go (sets_registers message) is
-  where
-    go : (b : Bool) → done ++ left ≡ cond b (writes_of (with_function h p f) p) [] → IsSameFor (settings_of h) (after_writes (settings_of h) done) q
-    go true same = others_meanwhile h p q f done left small few q_small other same
-    go false same = nothing_done (settings_of h) q done left same
+while_answered : (h : HostState) (p q : ℕ) (done left : List Write) → p < 64 → length h.ids ≤ 64 → q < 64 → q ≢ p → (o : Option Function) → done ++ left ≡ writes_with h p o → IsSameFor (settings_of h) (after_writes (settings_of h) done) q
+while_answered h p q done left small few q_small other None is = nothing_done (settings_of h) q done left is
+while_answered h p q done left small few q_small other (Some f) is = others_meanwhile h p q f done left small few q_small other is
 
 -- a message
 pub message_meanwhile : (h : HostState) (p q : ℕ) (message : Message) (done left : List Write) → p < 64 → length h.ids ≤ 64 → q < 64 → q ≢ p → done ++ left ≡ writes_after h p message → IsSameFor (settings_of h) (after_writes (settings_of h) done) q
 unfolding writes_after
-message_meanwhile h p q message done left small few q_small other is = while_answered h p q message done left small few q_small other (outcome h p message) is
+message_meanwhile h p q message done left small few q_small other is = while_answered h p q done left small few q_small other (outcome h p message) is
 
 pub message_others : (h : HostState) (p q : ℕ) (message : Message) → p < 64 → length h.ids ≤ 64 → q < 64 → q ≢ p → IsSameFor (settings_of h) (settings_of (host_after h p message)) q
 message_others h p q message small few q_small other =

@@ -1,5 +1,5 @@
 -- No function has more than its policy grants, and no two hold one address: what a host keeps from the first on.
-use Rattle.std.proofs.Common.{arith, ◌≡◌, ◌≢◌, ℕ, ◌+◌, ◌^◌, ◌<◌, Bool, true, false, cond, not, ◌&&◌, ◌||◌, List, replicate, length, get_or, Option, Some, None, is_none, refl, sym, ap, subst, ◌∙◌, true≢false, eqb, eqb-true, leb, ltb, ⊎_elim, ◌⊎◌, inl, inr}
+use Rattle.std.proofs.Common.{arith, ◌≡◌, ◌≢◌, ℕ, ◌+◌, ◌^◌, ◌<◌, ◌≤◌, Bool, true, false, cond, not, ◌&&◌, ◌||◌, List, replicate, length, get_or, Option, Some, None, is_none, refl, sym, ap, subst, ◌∙◌, true≢false, eqb, eqb-true, leb, ltb, ⊎_elim, ◌⊎◌, inl, inr}
 use Rattle.std.specs.List.{range_with_len}
 use Rattle.std.specs.Int.{bit_not, w64}
 use Rattle.std.proofs.Math.Bool.{or-true}
@@ -20,7 +20,7 @@ use Rattle.mailbox.specs.Within.{is_granted, may_have, IsWithinPolicy, IsWithin,
 use Rattle.mailbox.specs.Words.{inserted, settings_of}
 use Rattle.mailbox.proofs.Entries.{has_bit_pow}
 use Rattle.mailbox.proofs.Isolation.{function_stays}
-use Rattle.mailbox.proofs.Turns.{some_is, none_is, settings_alike}
+use Rattle.mailbox.proofs.Turns.{some_is, none_is, IsAlike, settings_alike}
 
 -- ---- what one message makes of a function
 
@@ -434,22 +434,30 @@ admit_within h p policy small w = go (is_admitted h p policy) refl
     go false is = w
 
 -- a function that is not up makes no register
-pub admit_settings : (h : HostState) (p : ℕ) (policy : Policy) → p < 64 → IsWithin h → settings_of (host_admitting h p policy) ≡ settings_of h
+admit_alike : (h : HostState) (p : ℕ) (policy : Policy) → p < 64 → IsWithin h → is_admitted h p policy ≡ true → IsAlike (function_at h p) (function_at (with_function h p (function_of h.ids policy)) p)
+admit_alike h p policy small w is = go (at_place h p p (function_of h.ids policy))
+  where
+    down : (function_at h p).is_up ≡ false
+    down = (admitted h p policy is).1.1
+
+    go : (function_at (with_function h p (function_of h.ids policy)) p ≡ function_at h p) ⊎ ((p ≡ p) × (function_at (with_function h p (function_of h.ids policy)) p ≡ function_of h.ids policy))
+        → IsAlike (function_at h p) (function_at (with_function h p (function_of h.ids policy)) p)
+    go (inl same) = rw same (record { up = refl; address = refl; second = refl; joined = refl; flags = refl; port = refl })
+    go (inr new) = rw new.1 (record {
+      up = down;
+      address = (w.policies p small).no_address down;
+      second = (w.policies p small).no_second down;
+      joined = (w.policies p small).no_vlan down;
+      flags = ap (λ b. cond b (2 ^ 27 + cond (is_none (function_at h p).port) (2 ^ 24) 0 + cond ((function_at h p).groups || eqb (function_at h p).mode 2) (2 ^ 28) 0) 0) down;
+      port = ap (λ b. cond b (inserted (function_at h p).port) 0) down;
+    })
+
+pub admit_settings : (h : HostState) (p : ℕ) (policy : Policy) → p < 64 → length h.ids ≤ 64 → IsWithin h → settings_of (host_admitting h p policy) ≡ settings_of h
 unfolding host_admitting
-admit_settings h p policy small w = go (is_admitted h p policy) refl
+admit_settings h p policy small few w = go (is_admitted h p policy) refl
   where
     go : (b : Bool) → is_admitted h p policy ≡ b → settings_of (cond b (with_function h p (function_of h.ids policy)) h) ≡ settings_of h
-    go true is =
-        let down = (admitted h p policy is).1.1 in
-        let within = w.policies p small in
-        sym (settings_alike h p (function_of h.ids policy) (record {
-          up = down;
-          address = within.no_address down;
-          second = within.no_second down;
-          joined = within.no_vlan down;
-          flags = ap (λ b. cond b (2 ^ 27 + cond (is_none (function_at h p).port) (2 ^ 24) 0 + cond ((function_at h p).groups || eqb (function_at h p).mode 2) (2 ^ 28) 0) 0) down;
-          port = ap (λ b. cond b (inserted (function_at h p).port) 0) down;
-        }))
+    go true is = sym (settings_alike h p (function_of h.ids policy) small few (admit_alike h p policy small w is))
     go false is = refl
 
 -- ---- the first host

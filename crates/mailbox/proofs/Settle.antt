@@ -1,8 +1,9 @@
 -- The writes of one pool make the settings of a host into those of the host with another function there.
-use Rattle.std.proofs.Common.{arith, ◌≡◌, ℕ, ◌+◌, ◌*◌, ◌/◌, ◌%◌, ◌^◌, ◌<◌, ◌≤◌, length, refl, sym, ap, ◌∙◌, Bool, true, false, cond, Option, List, [], ◌∷◌, ◌++◌, replicate, eqb, eqb-true, ltb, bit_and, bit_or, inl, inr, ◌⊎◌}
+use Rattle.std.proofs.Common.{arith, ◌≡◌, ℕ, ◌+◌, ◌*◌, ◌/◌, ◌%◌, ◌^◌, ◌<◌, ◌≤◌, ◌≢◌, not, ◌&&◌, is_some, append_assoc, true≢false, ◌-◌, length, refl, sym, ap, ◌∙◌, Bool, true, false, cond, Option, Some, None, List, [], ◌∷◌, ◌++◌, replicate, eqb, eqb-true, ltb, bit_and, bit_or}
 use Rattle.std.proofs.lemmas.Bool.{eqb-false}
 use Rattle.std.proofs.lemmas.Bool.Decides.{nat_tests}
 use Rattle.std.proofs.lemmas.List.{append-nil}
+use Rattle.wire_frame.specs.Bits.{has_bit}
 use Rattle.addr_tables.specs.Registers.{RAL, RAH, MPSAR, MTA, MCSTCTRL, MCSTCTRL_KEPT}
 use Rattle.vlan_table.specs.Registers.{VLNCTRL, VLNCTRL_KEPT, VFTA, VLVF, VLVFB}
 use Rattle.pool_filter.specs.Registers.{PF_VT_CTL, PF_VT_CTL_KEPT, PF_VT_CTL_SET, PFVFRE, PFVFTE, VMVIR, PFVFSPOOF, PFDTXGSWC, PFDTXGSWC_KEPT, VMOLR}
@@ -17,10 +18,11 @@ use Rattle.mailbox.specs.declared.writes.Write.{Write}
 use Rattle.mailbox.specs.Host.{HostState, function_at, with_function}
 use Rattle.mailbox.specs.Function.{low_part}
 use Rattle.mailbox.specs.Words.{table, mask_from, entry, low_word, valid, high_word, pool_word, table_word, id_word, control_word, member_word, has_joined, is_up, up_word, flags_word, port_word, addresses_of, vlans_of, settings_of}
-use Rattle.mailbox.specs.Writes.{writes_from, writes_of, after_writes}
+use Rattle.mailbox.specs.Writes.{writes_where, changes, turns, moves, joins_or_leaves, entry_writes, pool_writes, shared_writes, writes_of, after_writes}
 use Rattle.mailbox.proofs.Isolation.{function_stays, entry_stays}
-use Rattle.mailbox.proofs.Rows.{row_after, word_after, table_same, Part, writes_in, AllFit, all_far, parts_skip, parts_spare, parts_append, parts_make}
-use Rattle.mailbox.proofs.Kept.{kept_low, kept_high, kept_flags, kept_port, kept_mask, kept_members}
+use Rattle.mailbox.proofs.Rows.{row_after, word_after, table_same, Part, part_writes, writes_in, AllFit, all_far, each_far, row_spared, word_spared, within, parts_make}
+use Rattle.mailbox.proofs.Kept.{low_kept, valid_kept, kept_flags, kept_port, kept_mask, kept_members}
+use Rattle.mailbox.proofs.Masks.{mask_same}
 
 -- ---- each row by itself
 
@@ -61,124 +63,193 @@ by_rows s (w ∷ ws) = by_rows (settings_after s w.offset w.value) ws
 
 -- ---- the writes of a pool, in parts
 
-abbrev pub closing : ℕ → Part
-closing e = record { row = RAH; word = λ j. 0; from = e; count = 1 }
+abbrev pub entry_parts : ℕ → Option ℕ → Option ℕ → List Part
+entry_parts e old new =
+    record { test = λ i. moves old new && is_some old; row = RAH; word = λ i. 0; from = e; count = 1 }
+    ∷ record { test = λ i. changes (low_part old) (low_part new); row = RAL; word = λ i. low_part new; from = e; count = 1 }
+    ∷ record { test = λ i. moves old new && is_some new; row = RAH; word = λ i. valid new; from = e; count = 1 }
+    ∷ []
 
-abbrev pub low : HostState → ℕ → Part
-low k e = record { row = RAL; word = low_word k; from = e; count = 1 }
+abbrev pub pool_parts : ℕ → Function → Function → List Part
+pool_parts p old new =
+    record { test = λ i. changes (flags_word old) (flags_word new); row = VMOLR; word = λ i. flags_word new; from = p; count = 1 }
+    ∷ record { test = λ i. changes (port_word old) (port_word new); row = VMVIR; word = λ i. port_word new; from = p; count = 1 }
+    ∷ []
 
-abbrev pub high : HostState → ℕ → Part
-high k e = record { row = RAH; word = high_word k; from = e; count = 1 }
+abbrev pub shared_parts : HostState → ℕ → Function → Function → List Part
+shared_parts k p old new =
+    record { test = λ i. turns old.is_up new.is_up; row = PFVFRE; word = up_word k; from = p / 32; count = 1 }
+    ∷ record { test = λ i. turns old.is_up new.is_up; row = PFVFTE; word = up_word k; from = p / 32; count = 1 }
+    ∷ record { test = joins_or_leaves p old new; row = VLVFB; word = member_word k; from = 0; count = 2 * length k.ids }
+    ∷ []
 
-abbrev pub flags : HostState → ℕ → Part
-flags k p = record { row = VMOLR; word = λ q. flags_word (function_at k q); from = p; count = 1 }
+abbrev pub parts : HostState → ℕ → Function → List Part
+parts k p old =
+    entry_parts p old.address (function_at k p).address
+    ++ entry_parts (64 + p) old.second (function_at k p).second
+    ++ pool_parts p old (function_at k p)
+    ++ shared_parts k p old (function_at k p)
 
-abbrev pub port : HostState → ℕ → Part
-port k p = record { row = VMVIR; word = λ q. port_word (function_at k q); from = p; count = 1 }
+parts_append : (gs hs : List Part) → writes_in gs ++ writes_in hs ≡ writes_in (gs ++ hs)
+parts_append [] hs = refl
+parts_append (g ∷ gs) hs = append_assoc (part_writes g) (writes_in gs) (writes_in hs) ∙ ap (λ l. part_writes g ++ l) (parts_append gs hs)
 
-abbrev pub receive : HostState → Part
-receive k = record { row = PFVFRE; word = up_word k; from = 0; count = 2 }
+two_in : (x y : List Write) → x ++ y ≡ x ++ (y ++ [])
+two_in x y = ap (λ l. x ++ l) (sym (append-nil y))
 
-abbrev pub transmit : HostState → Part
-transmit k = record { row = PFVFTE; word = up_word k; from = 0; count = 2 }
+three_in : (x y z : List Write) → x ++ y ++ z ≡ x ++ (y ++ (z ++ []))
+three_in x y z = append_assoc x y z ∙ ap (λ l. x ++ l) (two_in y z)
 
-abbrev pub members : HostState → Part
-members k = record { row = VLVFB; word = member_word k; from = 0; count = 2 * length k.ids }
+entry_in : (e : ℕ) (old new : Option ℕ) → entry_writes e old new ≡ writes_in (entry_parts e old new)
+entry_in e old new =
+    three_in (writes_where (λ i. moves old new && is_some old) RAH (λ i. 0) e 1) (writes_where (λ i. changes (low_part old) (low_part new)) RAL (λ i. low_part new) e 1)
+    (writes_where (λ i. moves old new && is_some new) RAH (λ i. valid new) e 1)
 
-abbrev pub first_entry : HostState → ℕ → List Part
-first_entry k p = closing p ∷ low k p ∷ high k p ∷ []
+pool_in : (p : ℕ) (old new : Function) → pool_writes p old new ≡ writes_in (pool_parts p old new)
+pool_in p old new =
+    two_in (writes_where (λ i. changes (flags_word old) (flags_word new)) VMOLR (λ i. flags_word new) p 1) (writes_where (λ i. changes (port_word old) (port_word new)) VMVIR (λ i. port_word new) p 1)
 
-abbrev pub second_entry : HostState → ℕ → List Part
-second_entry k p = first_entry k (64 + p)
+shared_in : (k : HostState) (p : ℕ) (old new : Function) → shared_writes k p old new ≡ writes_in (shared_parts k p old new)
+shared_in k p old new =
+    three_in (writes_where (λ i. turns old.is_up new.is_up) PFVFRE (up_word k) (p / 32) 1) (writes_where (λ i. turns old.is_up new.is_up) PFVFTE (up_word k) (p / 32) 1)
+    (writes_where (joins_or_leaves p old new) VLVFB (member_word k) 0 (2 * length k.ids))
 
-abbrev pub pool_parts : HostState → ℕ → List Part
-pool_parts k p = flags k p ∷ port k p ∷ receive k ∷ transmit k ∷ members k ∷ []
-
-abbrev pub parts : HostState → ℕ → List Part
-parts k p = first_entry k p ++ second_entry k p ++ pool_parts k p
-
-pub in_parts : (k : HostState) (p : ℕ) → writes_of k p ≡ writes_in (parts k p)
+pub in_parts : (k : HostState) (p : ℕ) (old : Function) → writes_of k p old ≡ writes_in (parts k p old)
 unfolding writes_of
-in_parts k p = ap (λ l. writes_in (first_entry k p ++ second_entry k p ++ flags k p ∷ port k p ∷ receive k ∷ transmit k ∷ []) ++ l) (sym (append-nil (writes_in_members)))
+in_parts k p old =
+    (λ i. entry_in p old.address new.address i ++ entry_in (64 + p) old.second new.second i ++ pool_in p old new i ++ shared_in k p old new i)
+    ∙ ap (λ l. l ++ writes_in (pool_parts p old new) ++ writes_in (shared_parts k p old new)) (parts_append (entry_parts p old.address new.address) (entry_parts (64 + p) old.second new.second))
+    ∙ ap (λ l. l ++ writes_in (shared_parts k p old new)) (parts_append (entry_parts p old.address new.address ++ entry_parts (64 + p) old.second new.second) (pool_parts p old new))
+    ∙ parts_append (entry_parts p old.address new.address ++ entry_parts (64 + p) old.second new.second ++ pool_parts p old new) (shared_parts k p old new)
   where
-    writes_in_members : List Write
-    writes_in_members = writes_from VLVFB (member_word k) 0 (2 * length k.ids)
+    new : Function
+    new = function_at k p
 
-entry_fits : (k : HostState) (e : ℕ) → e < 128 → AllFit (first_entry k e)
-entry_fits k e below = ((omega arith, omega arith), ((omega arith, omega arith), ((omega arith, omega arith), tt)))
-
-pool_fits : (k : HostState) (p : ℕ) → p < 64 → length k.ids ≤ 64 → AllFit (pool_parts k p)
-pool_fits k p small few = ((omega arith, omega arith), ((omega arith, omega arith), ((omega arith, omega arith), ((omega arith, omega arith), ((omega arith, omega arith), tt)))))
-
-pub parts_fit : (k : HostState) (p : ℕ) → p < 64 → length k.ids ≤ 64 → AllFit (parts k p)
-parts_fit k p small few =
-    let a = entry_fits k p (omega arith) in
-    let b = entry_fits k (64 + p) (omega arith) in
-    (a.0, (a.1.0, (a.1.1.0, (b.0, (b.1.0, (b.1.1.0, pool_fits k p small few))))))
-
--- ---- entries
-
-abbrev pub put : (ℕ → ℕ) → ℕ → ℕ → ℕ → ℕ
-put u e x j = cond (eqb j e) x (u j)
-
-put_there : (u word : ℕ → ℕ) (e j : ℕ) → e ≤ j → j < e + 1 → word j ≡ put u e (word e) j
-put_there u word e j past below = go (eqb j e) refl
+pub parts_fit : (k : HostState) (p : ℕ) (old : Function) → p < 64 → length k.ids ≤ 64 → AllFit (parts k p old)
+parts_fit k p old small few = (
+  here p (omega arith),
+  (
+    here p (omega arith),
+    (
+      here p (omega arith),
+      (
+        here (64 + p) (omega arith),
+        (
+          here (64 + p) (omega arith),
+          (
+            here (64 + p) (omega arith),
+            ((omega arith, omega arith), ((omega arith, omega arith), ((omega arith, omega arith), ((omega arith, omega arith), ((omega arith, omega arith), tt))))),
+          ),
+        ),
+      ),
+    ),
+  ),
+)
   where
-    go : (b : Bool) → eqb j e ≡ b → word j ≡ cond b (word e) (u j)
-    go true is = ap word (eqb-true j e is)
-    go false is = absurd (eqb-false j e is (omega (arith, past, below)))
+    here : (e : ℕ) → e < 128 → (0 < 8) × (e + 1 ≤ 128)
+    here e below = (omega arith, omega arith)
 
-put_beside : (u : ℕ → ℕ) (e x j : ℕ) → (j < e) ⊎ (e + 1 ≤ j) → u j ≡ put u e x j
-put_beside u e x j out = go out (eqb j e) refl
+-- ---- what they make of a word
+
+one_place : (e j : ℕ) → within e 1 j ≡ eqb j e
+one_place e j = grind (arith, nat_tests)
+
+changed_is : (x y : ℕ) → cond (changes x y) y x ≡ y
+changed_is x y = go (eqb x y) refl
   where
-    go : (j < e) ⊎ (e + 1 ≤ j) → (b : Bool) → eqb j e ≡ b → u j ≡ cond b x (u j)
-    go (inl below) true is = absurd (omega (arith, below, eqb-true j e is))
-    go (inr past) true is = absurd (omega (arith, past, eqb-true j e is))
-    go o false is = refl
+    go : (b : Bool) → eqb x y ≡ b → cond (not b) y x ≡ y
+    go true is = eqb-true x y is
+    go false is = refl
 
--- one write to a row, among others
-part_puts : (row : Row) (u word : ℕ → ℕ) (e : ℕ) (before after : List Part) → all_far row before ≡ true → all_far row after ≡ true → AllFit before → AllFit after
-    → 0 < row.stride → e < row.count → ((j : ℕ) → bit_and (word j) row.mask ≡ word j)
-    → row_after row (table row.count u) (writes_in (before ++ record { row = row; word = word; from = e; count = 1 } ∷ after)) ≡ table row.count (put u e (word e))
-part_puts row u word e before after far_before far_after fit_before fit_after strides below kept =
-    parts_make row u (put u e (word e)) word e 1 before after far_before far_after fit_before fit_after strides (omega (arith, below)) kept
-    (put_there u word e)
-    (λ j small out. put_beside u e (word e) j out)
-
-put_twice : (u : ℕ → ℕ) (e x y j : ℕ) → put (put u e x) e y j ≡ put u e y j
-put_twice u e x y j = go (eqb j e)
+moved_is : (a b : Option ℕ) → cond (moves a b && is_some b) (valid b) (cond (moves a b && is_some a) 0 (valid a)) ≡ valid b
+moved_is None None = refl
+moved_is None (Some b) = refl
+moved_is (Some a) None = refl
+moved_is (Some a) (Some b) = go (eqb b a) refl
   where
-    go : (b : Bool) → cond b y (cond b x (u j)) ≡ cond b y (u j)
-    go true = refl
-    go false = refl
+    go : (c : Bool) → eqb b a ≡ c → cond (not c && true) (valid (Some b)) (cond (not c && true) 0 (valid (Some a))) ≡ valid (Some b)
+    go true is = ap (λ n. valid (Some n)) (sym (eqb-true b a is))
+    go false is = refl
 
-low_put : (k : HostState) (u : ℕ → ℕ) (e : ℕ) → e < 128 → row_after RAL (table 128 u) (writes_in (first_entry k e)) ≡ table 128 (put u e (low_word k e))
-low_put k u e below =
-    part_puts RAL u (low_word k) e (closing e ∷ []) (high k e ∷ []) refl refl ((omega arith, omega (arith, below)), tt) ((omega arith, omega (arith, below)), tt) (omega arith) below (kept_low k)
-
-high_put : (k : HostState) (u : ℕ → ℕ) (e : ℕ) → e < 128 → row_after RAH (table 128 u) (writes_in (first_entry k e)) ≡ table 128 (put u e (high_word k e))
-high_put k u e below =
-    parts_append RAH (table 128 u) (closing e ∷ []) (low k e ∷ high k e ∷ [])
-    ∙ ap (λ v. row_after RAH v (writes_in (low k e ∷ high k e ∷ []))) (part_puts RAH u (λ j. 0) e [] [] refl refl tt tt (omega arith) below (λ j. refl))
-    ∙ part_puts RAH (put u e 0) (high_word k) e (low k e ∷ []) [] refl refl ((omega arith, omega (arith, below)), tt) tt (omega arith) below (kept_high k)
-    ∙ table_same 128 (put (put u e 0) e (high_word k e)) (put u e (high_word k e)) (λ j small. put_twice u e 0 (high_word k e) j)
-
--- both entries of the pool have what they are to have, and all others had it
-two_put : (h : HostState) (p : ℕ) (f : Function) (word : Option ℕ → ℕ) (j : ℕ) → p < 64 → j < 128
-    → put (put (λ e. word (entry h e)) p (word (entry (with_function h p f) p))) (64 + p) (word (entry (with_function h p f) (64 + p))) j ≡ word (entry (with_function h p f) j)
-two_put h p f word j small below = go (eqb j (64 + p)) refl (eqb j p) refl
+-- a row of receive address entries, by what the writes of an entry make of its word
+entries_settle : (h : HostState) (p : ℕ) (f : Function) (word : Option ℕ → ℕ) (made : Bool → Option ℕ → Option ℕ → ℕ → ℕ) (j : ℕ) → p < 64 → j < 128
+    → ((a b : Option ℕ) (x : ℕ) → made false a b x ≡ x) → ((a b : Option ℕ) → made true a b (word a) ≡ word b)
+    → made (within (64 + p) 1 j) (function_at h p).second (function_at (with_function h p f) p).second (made (within p 1 j) (function_at h p).address (function_at (with_function h p f) p).address (word (entry h j)))
+    ≡ word (entry (with_function h p f) j)
+entries_settle h p f word made j small below stays makes =
+    (λ i. made (one_place (64 + p) j i) old.second new.second (made (one_place p j i) old.address new.address (word (entry h j))))
+    ∙ go (eqb j (64 + p)) refl (eqb j p) refl
   where
     k : HostState
     k = with_function h p f
 
-    go : (b : Bool) → eqb j (64 + p) ≡ b → (c : Bool) → eqb j p ≡ c → cond b (word (entry k (64 + p))) (cond c (word (entry k p)) (word (entry h j))) ≡ word (entry k j)
-    go true is c also = ap (λ e. word (entry k e)) (sym (eqb-true j (64 + p) is))
-    go false is true also = ap (λ e. word (entry k e)) (sym (eqb-true j p also))
-    go false is false also = ap word (sym (entry_stays h p (j % 64) j f (λ same. grind (arith, nat_tests, is, also, same, small, below)) below refl))
+    old : Function
+    old = function_at h p
+
+    new : Function
+    new = function_at k p
+
+    first : (g : HostState) → j ≡ p → entry g j ≡ (function_at g p).address
+    first g at = let is : ltb j 64 ≡ true = grind (arith, nat_tests, at, small) in ap (λ b. cond b (function_at g j).address (function_at g (j - 64)).second) is ∙ ap (λ n. (function_at g n).address) at
+
+    second : (g : HostState) → j ≡ 64 + p → entry g j ≡ (function_at g p).second
+    second g at =
+        let is : ltb j 64 ≡ false = grind (arith, nat_tests, at) in
+        let place : j - 64 ≡ p = omega (arith, at) in
+        ap (λ b. cond b (function_at g j).address (function_at g (j - 64)).second) is ∙ ap (λ n. (function_at g n).second) place
+
+    go : (b : Bool) → eqb j (64 + p) ≡ b → (c : Bool) → eqb j p ≡ c → made b old.second new.second (made c old.address new.address (word (entry h j))) ≡ word (entry k j)
+    go true is true also = absurd (omega (arith, eqb-true j (64 + p) is, eqb-true j p also))
+    go true is false also =
+        let at : j ≡ 64 + p = eqb-true j (64 + p) is in
+        ap (made true old.second new.second) (stays old.address new.address (word (entry h j)) ∙ ap word (second h at)) ∙ makes old.second new.second ∙ ap word (sym (second k at))
+    go false is true also =
+        let at : j ≡ p = eqb-true j p also in
+        stays old.second new.second _ ∙ ap (λ o. made true old.address new.address (word o)) (first h at) ∙ makes old.address new.address ∙ ap word (sym (first k at))
+    go false is false also =
+        stays old.second new.second _ ∙ stays old.address new.address _
+        ∙ ap word (sym (entry_stays h p (j % 64) j f (λ same. grind (arith, nat_tests, is, also, same, small, below)) below refl))
+
+-- a row with a word for each pool
+pool_settles : (h : HostState) (p : ℕ) (f : Function) (word : Function → ℕ) (j : ℕ)
+    → cond (within p 1 j && changes (word (function_at h p)) (word (function_at (with_function h p f) p))) (word (function_at (with_function h p f) p)) (word (function_at h j)) ≡ word (function_at (with_function h p f) j)
+pool_settles h p f word j = ap (λ b. cond (b && changes (word (function_at h p)) (word (function_at k p))) (word (function_at k p)) (word (function_at h j))) (one_place p j) ∙ go (eqb j p) refl
+  where
+    k : HostState
+    k = with_function h p f
+
+    go : (b : Bool) → eqb j p ≡ b → cond (b && changes (word (function_at h p)) (word (function_at k p))) (word (function_at k p)) (word (function_at h j)) ≡ word (function_at k j)
+    go true is =
+        let at : j ≡ p = eqb-true j p is in
+        ap (λ n. cond (changes (word (function_at h p)) (word (function_at k p))) (word (function_at k p)) (word (function_at h n))) at
+        ∙ changed_is (word (function_at h p)) (word (function_at k p)) ∙ ap (λ n. word (function_at k n)) (sym at)
+    go false is = ap word (sym (function_stays h p j f (eqb-false j p is)))
+
+-- a word of 32 pools, of which p alone may have turned
+half_settles : (t u : ℕ → Bool) (p half : ℕ) → ((q : ℕ) → q ≢ p → t q ≡ u q) → cond (eqb half (p / 32) && turns (t p) (u p)) (mask_from u (32 * half) 32) (mask_from t (32 * half) 32) ≡ mask_from u (32 * half) 32
+half_settles t u p half others = go (eqb half (p / 32)) refl (turns (t p) (u p)) refl
+  where
+    turned : (a b : Bool) → turns a b ≡ false → a ≡ b
+    turned true true is = refl
+    turned true false is = absurd (true≢false is)
+    turned false true is = absurd (true≢false is)
+    turned false false is = refl
+
+    one : ((q : ℕ) → q / 32 ≡ half → q ≡ p → t q ≡ u q) → mask_from t (32 * half) 32 ≡ mask_from u (32 * half) 32
+    one at = mask_same t u (32 * half) 32 (λ i small. by (32 * half + i) (omega (arith, small)) (eqb (32 * half + i) p) refl)
+      where
+        by : (q : ℕ) → q / 32 ≡ half → (b : Bool) → eqb q p ≡ b → t q ≡ u q
+        by q in_half true is = at q in_half (eqb-true q p is)
+        by q in_half false is = others q (eqb-false q p is)
+
+    go : (b : Bool) → eqb half (p / 32) ≡ b → (c : Bool) → turns (t p) (u p) ≡ c → cond (b && c) (mask_from u (32 * half) 32) (mask_from t (32 * half) 32) ≡ mask_from u (32 * half) 32
+    go true is true also = refl
+    go true is false also = one (λ q in_half at. ap t at ∙ turned (t p) (u p) also ∙ ap u (sym at))
+    go false is c also = one (λ q in_half at. absurd (eqb-false half (p / 32) is (sym in_half ∙ ap (λ n. n / 32) at)))
 
 -- ---- all rows
 
-rows_settle : (h : HostState) (p : ℕ) (f : Function) → p < 64 → length h.ids ≤ 64 → rows_after (settings_of h) (writes_in (parts (with_function h p f) p)) ≡ settings_of (with_function h p f)
+rows_settle : (h : HostState) (p : ℕ) (f : Function) → p < 64 → length h.ids ≤ 64 → rows_after (settings_of h) (writes_in (parts (with_function h p f) p (function_at h p))) ≡ settings_of (with_function h p f)
 unfolding settings_of addresses_of vlans_of
 rows_settle h p f small few = λ i. record {
   addresses = record {
@@ -206,93 +277,84 @@ rows_settle h p f small few = λ i. record {
     k : HostState
     k = with_function h p f
 
-    fit : AllFit (parts k p)
-    fit = parts_fit k p small few
+    old : Function
+    old = function_at h p
 
-    entries_fit : AllFit (first_entry k p ++ second_entry k p)
-    entries_fit = (fit.0, (fit.1.0, (fit.1.1.0, (fit.1.1.1.0, (fit.1.1.1.1.0, (fit.1.1.1.1.1.0, tt))))))
+    new : Function
+    new = function_at k p
 
-    pool_fit : AllFit (pool_parts k p)
-    pool_fit = pool_fits k p small few
+    fit : AllFit (parts k p old)
+    fit = parts_fit k p old small few
 
-    skipped : (row : Row) (words : List ℕ) → all_far row (parts k p) ≡ true → row_after row words (writes_in (parts k p)) ≡ words
-    skipped row words far = parts_skip row words (parts k p) far fit
+    skipped : (row : Row) (words : List ℕ) → all_far row (parts k p old) ≡ true → row_after row words (writes_in (parts k p old)) ≡ words
+    skipped row words far = row_spared row words (writes_in (parts k p old)) (each_far row (parts k p old) far fit)
 
-    spared : (first : ℕ) (keep : ℕ → ℕ) (word : ℕ) → all_far (one_row first) (parts k p) ≡ true → word_after first keep word (writes_in (parts k p)) ≡ word
-    spared first keep word far = parts_spare first keep word (parts k p) far fit
+    spared : (first : ℕ) (keep : ℕ → ℕ) (word : ℕ) → all_far (one_row first) (parts k p old) ≡ true → word_after first keep word (writes_in (parts k p old)) ≡ word
+    spared first keep word far = word_spared first keep word (writes_in (parts k p old)) (each_far (one_row first) (parts k p old) far fit)
 
-    past_entries : (row : Row) (words : List ℕ) → all_far row (first_entry k p ++ second_entry k p) ≡ true → row_after row words (writes_in (parts k p)) ≡ row_after row words (writes_in (pool_parts k p))
-    past_entries row words far =
-        parts_append row words (first_entry k p ++ second_entry k p) (pool_parts k p)
-        ∙ ap (λ v. row_after row v (writes_in (pool_parts k p))) (parts_skip row words (first_entry k p ++ second_entry k p) far entries_fit)
-
-    lows : row_after RAL (table 128 (low_word h)) (writes_in (parts k p)) ≡ table 128 (low_word k)
+    lows : row_after RAL (table 128 (low_word h)) (writes_in (parts k p old)) ≡ table 128 (low_word k)
     lows =
-        parts_append RAL (table 128 (low_word h)) (first_entry k p) (second_entry k p ++ pool_parts k p)
-        ∙ ap (λ v. row_after RAL v (writes_in (second_entry k p ++ pool_parts k p))) (low_put k (low_word h) p (omega (arith, small)))
-        ∙ parts_append RAL (table 128 (put (low_word h) p (low_word k p))) (second_entry k p) (pool_parts k p)
-        ∙ ap (λ v. row_after RAL v (writes_in (pool_parts k p))) (low_put k (put (low_word h) p (low_word k p)) (64 + p) (omega (arith, small)))
-        ∙ parts_skip RAL _ (pool_parts k p) refl pool_fit
-        ∙ table_same 128 (put (put (low_word h) p (low_word k p)) (64 + p) (low_word k (64 + p))) (low_word k) (λ j below. two_put h p f low_part j small below)
+        parts_make RAL (low_word h) (parts k p old)
+        (refl, ((refl, λ j. low_kept new.address), (refl, (refl, ((refl, λ j. low_kept new.second), (refl, (refl, (refl, (refl, (refl, (refl, tt))))))))))) fit
+        ∙ table_same 128 _ (low_word k) (λ j below. entries_settle h p f low_part (λ b o n x. cond (b && changes (low_part o) (low_part n)) (low_part n) x) j small below (λ a b x. refl) (λ a b. changed_is (low_part a) (low_part b)))
 
-    highs : row_after RAH (table 128 (high_word h)) (writes_in (parts k p)) ≡ table 128 (high_word k)
+    highs : row_after RAH (table 128 (high_word h)) (writes_in (parts k p old)) ≡ table 128 (high_word k)
     highs =
-        parts_append RAH (table 128 (high_word h)) (first_entry k p) (second_entry k p ++ pool_parts k p)
-        ∙ ap (λ v. row_after RAH v (writes_in (second_entry k p ++ pool_parts k p))) (high_put k (high_word h) p (omega (arith, small)))
-        ∙ parts_append RAH (table 128 (put (high_word h) p (high_word k p))) (second_entry k p) (pool_parts k p)
-        ∙ ap (λ v. row_after RAH v (writes_in (pool_parts k p))) (high_put k (put (high_word h) p (high_word k p)) (64 + p) (omega (arith, small)))
-        ∙ parts_skip RAH _ (pool_parts k p) refl pool_fit
-        ∙ table_same 128 (put (put (high_word h) p (high_word k p)) (64 + p) (high_word k (64 + p))) (high_word k) (λ j below. two_put h p f valid j small below)
+        parts_make RAH (high_word h) (parts k p old)
+        ((refl, λ j. refl), (refl, ((refl, λ j. valid_kept new.address), ((refl, λ j. refl), (refl, ((refl, λ j. valid_kept new.second), (refl, (refl, (refl, (refl, (refl, tt))))))))))) fit
+        ∙ table_same 128 _ (high_word k) (λ j below. entries_settle h p f valid (λ b o n x. cond (b && (moves o n && is_some n)) (valid n) (cond (b && (moves o n && is_some o)) 0 x)) j small below (λ a b x. refl) moved_is)
 
-    -- the pools' words are the same but for p's
-    beside : (word : Function → ℕ) (j : ℕ) → j < 64 → (j < p) ⊎ (p + 1 ≤ j) → word (function_at h j) ≡ word (function_at k j)
-    beside word j below (inl before) = ap word (sym (function_stays h p j f (λ same. absurd (omega (arith, before, same)))))
-    beside word j below (inr past) = ap word (sym (function_stays h p j f (λ same. absurd (omega (arith, past, same)))))
-
-    flag_words : row_after VMOLR (table 64 (λ q. flags_word (function_at h q))) (writes_in (parts k p)) ≡ table 64 (λ q. flags_word (function_at k q))
+    flag_words : row_after VMOLR (table 64 (λ q. flags_word (function_at h q))) (writes_in (parts k p old)) ≡ table 64 (λ q. flags_word (function_at k q))
     flag_words =
-        past_entries VMOLR _ refl
-        ∙ parts_make VMOLR _ (λ q. flags_word (function_at k q)) (λ q. flags_word (function_at k q)) p 1 [] (port k p ∷ receive k ∷ transmit k ∷ members k ∷ []) refl refl tt pool_fit.1 (omega arith) (omega (arith, small)) (λ q. kept_flags (function_at k q))
-        (λ j past below. refl) (beside flags_word)
+        parts_make VMOLR (λ q. flags_word (function_at h q)) (parts k p old)
+        (refl, (refl, (refl, (refl, (refl, (refl, ((refl, λ j. kept_flags new), (refl, (refl, (refl, (refl, tt))))))))))) fit
+        ∙ table_same 64 _ (λ q. flags_word (function_at k q)) (λ j below. pool_settles h p f flags_word j)
 
-    ports : row_after VMVIR (table 64 (λ q. port_word (function_at h q))) (writes_in (parts k p)) ≡ table 64 (λ q. port_word (function_at k q))
+    ports : row_after VMVIR (table 64 (λ q. port_word (function_at h q))) (writes_in (parts k p old)) ≡ table 64 (λ q. port_word (function_at k q))
     ports =
-        past_entries VMVIR _ refl
-        ∙ parts_make VMVIR _ (λ q. port_word (function_at k q)) (λ q. port_word (function_at k q)) p 1 (flags k p ∷ []) (receive k ∷ transmit k ∷ members k ∷ []) refl refl (pool_fit.0, tt) pool_fit.1.1 (omega arith) (omega (arith, small)) (λ q. kept_port (function_at k q))
-        (λ j past below. refl) (beside port_word)
+        parts_make VMVIR (λ q. port_word (function_at h q)) (parts k p old)
+        (refl, (refl, (refl, (refl, (refl, (refl, (refl, ((refl, λ j. kept_port new), (refl, (refl, (refl, tt))))))))))) fit
+        ∙ table_same 64 _ (λ q. port_word (function_at k q)) (λ j below. pool_settles h p f port_word j)
 
-    never : (n j : ℕ) → j < n → (j < 0) ⊎ (n ≤ j) → ⊥
-    never n j below (inl none) = omega (arith, none)
-    never n j below (inr past) = omega (arith, below, past)
+    ups_stay : (q : ℕ) → q ≢ p → is_up h q ≡ is_up k q
+    ups_stay q other = ap (λ g. g.is_up) (sym (function_stays h p q f other))
 
-    receives : row_after PFVFRE (table 2 (up_word h)) (writes_in (parts k p)) ≡ table 2 (up_word k)
+    up_settles : (j : ℕ) → cond (within (p / 32) 1 j && turns old.is_up new.is_up) (up_word k j) (up_word h j) ≡ up_word k j
+    up_settles j = ap (λ b. cond (b && turns old.is_up new.is_up) (up_word k j) (up_word h j)) (one_place (p / 32) j) ∙ half_settles (is_up h) (is_up k) p j ups_stay
+
+    receives : row_after PFVFRE (table 2 (up_word h)) (writes_in (parts k p old)) ≡ table 2 (up_word k)
     receives =
-        past_entries PFVFRE _ refl
-        ∙ parts_make PFVFRE (up_word h) (up_word k) (up_word k) 0 2 (flags k p ∷ port k p ∷ []) (transmit k ∷ members k ∷ []) refl refl (pool_fit.0, (pool_fit.1.0, tt)) pool_fit.1.1.1 (omega arith) (omega arith) (λ j. kept_mask (is_up k) (32 * j))
-        (λ j past below. refl) (λ j below out. absurd (never 2 j below out))
+        parts_make PFVFRE (up_word h) (parts k p old)
+        (refl, (refl, (refl, (refl, (refl, (refl, (refl, (refl, ((refl, λ j. kept_mask (is_up k) (32 * j)), (refl, (refl, tt))))))))))) fit
+        ∙ table_same 2 _ (up_word k) (λ j below. up_settles j)
 
-    transmits : row_after PFVFTE (table 2 (up_word h)) (writes_in (parts k p)) ≡ table 2 (up_word k)
+    transmits : row_after PFVFTE (table 2 (up_word h)) (writes_in (parts k p old)) ≡ table 2 (up_word k)
     transmits =
-        past_entries PFVFTE _ refl
-        ∙ parts_make PFVFTE (up_word h) (up_word k) (up_word k) 0 2 (flags k p ∷ port k p ∷ receive k ∷ []) (members k ∷ []) refl refl (pool_fit.0, (pool_fit.1.0, (pool_fit.1.1.0, tt))) pool_fit.1.1.1.1 (omega arith) (omega arith) (λ j. kept_mask (is_up k) (32 * j))
-        (λ j past below. refl) (λ j below out. absurd (never 2 j below out))
+        parts_make PFVFTE (up_word h) (parts k p old)
+        (refl, (refl, (refl, (refl, (refl, (refl, (refl, (refl, (refl, ((refl, λ j. kept_mask (is_up k) (32 * j)), (refl, tt))))))))))) fit
+        ∙ table_same 2 _ (up_word k) (λ j below. up_settles j)
 
-    -- an entry without an id has no pool in either host
-    without_id : (g : HostState) (j : ℕ) → 2 * length g.ids ≤ j → member_word g j ≡ 0
-    without_id g j past = let no : ltb j (2 * length g.ids) ≡ false = grind (arith, nat_tests, past) in ap (λ b. cond b (mask_from (has_joined g (j / 2)) (32 * (j % 2)) 32) 0) no
+    joins_stay : (n q : ℕ) → q ≢ p → has_joined h n q ≡ has_joined k n q
+    joins_stay n q other = ap (λ g. has_bit g.joined n) (sym (function_stays h p q f other))
 
-    outside : (j : ℕ) → j < 128 → (j < 0) ⊎ (0 + 2 * length h.ids ≤ j) → member_word h j ≡ member_word k j
-    outside j below (inl none) = absurd (omega (arith, none))
-    outside j below (inr past) = without_id h j (omega (arith, past)) ∙ sym (without_id k j (omega (arith, past)))
+    member_settles : (j : ℕ) → cond (within 0 (2 * length h.ids) j && joins_or_leaves p old new j) (member_word k j) (member_word h j) ≡ member_word k j
+    member_settles j = ap (λ b. cond (b && joins_or_leaves p old new j) (member_word k j) (member_word h j)) first ∙ go (ltb j (2 * length h.ids))
+      where
+        first : within 0 (2 * length h.ids) j ≡ ltb j (2 * length h.ids)
+        first = grind (arith, nat_tests)
 
-    member_words : row_after VLVFB (table 128 (member_word h)) (writes_in (parts k p)) ≡ table 128 (member_word k)
+        go : (b : Bool) → cond (b && joins_or_leaves p old new j) (cond b (mask_from (has_joined k (j / 2)) (32 * (j % 2)) 32) 0) (cond b (mask_from (has_joined h (j / 2)) (32 * (j % 2)) 32) 0) ≡ cond b (mask_from (has_joined k (j / 2)) (32 * (j % 2)) 32) 0
+        go true = half_settles (has_joined h (j / 2)) (has_joined k (j / 2)) p (j % 2) (joins_stay (j / 2))
+        go false = refl
+
+    member_words : row_after VLVFB (table 128 (member_word h)) (writes_in (parts k p old)) ≡ table 128 (member_word k)
     member_words =
-        past_entries VLVFB _ refl
-        ∙ parts_make VLVFB (member_word h) (member_word k) (member_word k) 0 (2 * length k.ids) (flags k p ∷ port k p ∷ receive k ∷ transmit k ∷ []) [] refl refl (pool_fit.0, (pool_fit.1.0, (pool_fit.1.1.0, (pool_fit.1.1.1.0, tt)))) tt (omega arith) (omega (arith, few)) (kept_members k)
-        (λ j past below. refl) outside
+        parts_make VLVFB (member_word h) (parts k p old)
+        (refl, (refl, (refl, (refl, (refl, (refl, (refl, (refl, (refl, (refl, ((refl, kept_members k), tt))))))))))) fit
+        ∙ table_same 128 _ (member_word k) (λ j below. member_settles j)
 
-pub settled : (h : HostState) (p : ℕ) (f : Function) → p < 64 → length h.ids ≤ 64 → after_writes (settings_of h) (writes_of (with_function h p f) p) ≡ settings_of (with_function h p f)
+pub settled : (h : HostState) (p : ℕ) (f : Function) → p < 64 → length h.ids ≤ 64 → after_writes (settings_of h) (writes_of (with_function h p f) p (function_at h p)) ≡ settings_of (with_function h p f)
 settled h p f small few =
-    by_rows (settings_of h) (writes_of (with_function h p f) p)
-    ∙ ap (rows_after (settings_of h)) (in_parts (with_function h p f) p)
+    by_rows (settings_of h) (writes_of (with_function h p f) p (function_at h p))
+    ∙ ap (rows_after (settings_of h)) (in_parts (with_function h p f) p (function_at h p))
     ∙ rows_settle h p f small few

@@ -1,19 +1,17 @@
 -- What a message, a reset and a policy make of the settings.
-use Rattle.std.proofs.Common.{arith, ◌≡◌, ℕ, ◌+◌, ◌-◌, ◌*◌, ◌/◌, ◌%◌, ◌^◌, ◌<◌, ◌≤◌, Bool, true, false, cond, ◌&&◌, List, [], replicate, length, Option, Some, None, refl, ap, true≢false, eqb, eqb-true, leb, ltb, is_none}
-use Rattle.std.specs.Option.{is_some}
-use Rattle.std.proofs.lemmas.Bool.{eqb-false, ltb-true, ltb-false}
-use Rattle.std.proofs.lemmas.List.{get_or-set_same, get_or_past, length-set}
+use Rattle.std.proofs.Common.{arith, ◌≡◌, ℕ, zero, suc, ◌+◌, ◌*◌, ◌/◌, ◌%◌, ◌<◌, ◌≤◌, Bool, true, false, cond, ◌&&◌, [], ◌++◌, length, Option, Some, None, refl, sym, ap, ◌∙◌, true≢false, eqb, is_none, is_some}
+use Rattle.std.proofs.lemmas.Bool.Decides.{nat_tests}
 use Rattle.wire_frame.specs.Bits.{has_bit}
+use Rattle.wire_frame.specs.declared.row.Row.{Row}
 use Rattle.mailbox.specs.declared.function.Function.{Function}
 use Rattle.mailbox.specs.declared.message.Message.{Message}
-use Rattle.mailbox.specs.declared.message.Message.TheVariants.{Reset, SetAddress, SetMulticast, SetVlan, SetFrameLength, SetSecondAddress, NegotiateApi, GetQueues, SetMulticastMode, GetLinkState, Other}
-use Rattle.mailbox.specs.Function.{absent, low_part, gone, is_version, is_heard, granted, answered}
-use Rattle.mailbox.specs.Host.{HostState, function_at, with_function, is_taken, address_in, host_with, host_after, host_without, outcome}
-use Rattle.mailbox.specs.Words.{table, table_word, id_word, pool_word, control_word, mask_from, low_word, valid, high_word, entry, has_joined, is_up, member_word, up_word, flags_word, port_word, addresses_of, vlans_of, settings_of}
-use Rattle.mailbox.specs.Writes.{writes_of, after_writes, sets_registers, writes_with, writes_after, writes_without}
-use Rattle.mailbox.proofs.Isolation.{function_stays}
-use Rattle.mailbox.proofs.Masks.{mask_same}
-use Rattle.mailbox.proofs.Rows.{table_same}
+use Rattle.mailbox.specs.Function.{low_part, gone}
+use Rattle.mailbox.specs.Host.{HostState, function_at, with_function, host_with, host_after, host_without, outcome}
+use Rattle.vlan_table.specs.Registers.{VLVFB}
+use Rattle.pool_filter.specs.Registers.{PFVFRE, PFVFTE, VMVIR, VMOLR}
+use Rattle.mailbox.specs.Words.{flags_word, port_word, up_word, member_word, settings_of}
+use Rattle.mailbox.specs.Writes.{writes_where, changes, turns, moves, joins_or_leaves, entry_writes, writes_of, after_writes, writes_with, writes_after, writes_without}
+use Rattle.mailbox.proofs.Isolation.{and_no}
 use Rattle.mailbox.proofs.Settle.{settled}
 
 pub some_is : {X : Type 0} {x y : X} → Some x ≡ Some y → x ≡ y
@@ -36,129 +34,61 @@ pub record IsAlike (f g : Function) : Type 0 where
   pub flags : flags_word f ≡ flags_word g
   pub port : port_word f ≡ port_word g
 
-alike_itself : (f : Function) → IsAlike f f
-alike_itself f = record { up = refl; address = refl; second = refl; joined = refl; flags = refl; port = refl }
+none_changes : (x : ℕ) → changes x x ≡ false
+none_changes x = grind (arith, nat_tests)
 
-alike_at : (h : HostState) (p : ℕ) (f : Function) (j : ℕ) → IsAlike (function_at h p) f → IsAlike (function_at h j) (function_at (with_function h p f) j)
-alike_at h p f j alike = go (eqb j p) refl
+none_turns : (b : Bool) → turns b b ≡ false
+none_turns true = refl
+none_turns false = refl
+
+none_moves : (a : Option ℕ) → moves a a ≡ false
+none_moves None = refl
+none_moves (Some a) = none_changes a
+
+-- where the test holds of no place, nothing is written
+no_writes : (t : ℕ → Bool) (row : Row) (word : ℕ → ℕ) (i n : ℕ) → ((j : ℕ) → t j ≡ false) → writes_where t row word i n ≡ []
+no_writes t row word i zero never = refl
+no_writes t row word i (suc n) never = rw (never i) (no_writes t row word (suc i) n never)
+
+no_entry : (e : ℕ) (a : Option ℕ) → entry_writes e a a ≡ []
+no_entry e a = rw (none_moves a, none_changes (low_part a)) refl
+
+-- nothing is written for a function that makes the same registers
+unchanged : (k : HostState) (p : ℕ) (f : Function) → IsAlike f (function_at k p) → writes_of k p f ≡ []
+unfolding writes_of
+unchanged k p f alike =
+    (λ i. entry_writes p (alike.address i) g.address ++ entry_writes (64 + p) (alike.second i) g.second
+    ++ (writes_where (λ j. changes (alike.flags i) (flags_word g)) VMOLR (λ j. flags_word g) p 1 ++ writes_where (λ j. changes (alike.port i) (port_word g)) VMVIR (λ j. port_word g) p 1)
+    ++ (writes_where (λ j. turns (alike.up i) g.is_up) PFVFRE (up_word k) (p / 32) 1 ++ writes_where (λ j. turns (alike.up i) g.is_up) PFVFTE (up_word k) (p / 32) 1
+    ++ writes_where (λ j. eqb (j % 2) (p / 32) && turns (has_bit (alike.joined i) (j / 2)) (has_bit g.joined (j / 2))) VLVFB (member_word k) 0 (2 * length k.ids)))
+    ∙ (λ i. no_entry p g.address i ++ no_entry (64 + p) g.second i
+    ++ (no_writes (λ j. changes (flags_word g) (flags_word g)) VMOLR (λ j. flags_word g) p 1 (λ j. none_changes (flags_word g)) i ++ no_writes (λ j. changes (port_word g) (port_word g)) VMVIR (λ j. port_word g) p 1 (λ j. none_changes (port_word g)) i)
+    ++ (no_writes (λ j. turns g.is_up g.is_up) PFVFRE (up_word k) (p / 32) 1 (λ j. none_turns g.is_up) i ++ no_writes (λ j. turns g.is_up g.is_up) PFVFTE (up_word k) (p / 32) 1 (λ j. none_turns g.is_up) i
+    ++ no_writes (joins_or_leaves p g g) VLVFB (member_word k) 0 (2 * length k.ids) (λ j. ap (λ b. eqb (j % 2) (p / 32) && b) (none_turns (has_bit g.joined (j / 2))) ∙ and_no (eqb (j % 2) (p / 32))) i))
   where
-    here : (b : Bool) → ltb p (length h.functions) ≡ b → IsAlike (function_at h p) (function_at (with_function h p f) p)
-    here true is = rw (get_or-set_same h.functions p f absent (ltb-true p (length h.functions) is)) alike
-    here false is =
-        let past = ltb-false p (length h.functions) is in
-        let was : function_at h p ≡ absent = get_or_past h.functions p absent past in
-        let now : function_at (with_function h p f) p ≡ absent = get_or_past (with_function h p f).functions p absent (omega (arith, past, length-set h.functions p f)) in
-        rw (was, now) (alike_itself absent)
+    g : Function
+    g = function_at k p
 
-    go : (b : Bool) → eqb j p ≡ b → IsAlike (function_at h j) (function_at (with_function h p f) j)
-    go true is = let same : j ≡ p = eqb-true j p is in rw same (here (ltb p (length h.functions)) refl)
-    go false is = rw (function_stays h p j f (eqb-false j p is)) (alike_itself (function_at h j))
-
--- hosts whose functions all make the same registers stand for the same settings
-pub settings_alike : (h : HostState) (p : ℕ) (f : Function) → IsAlike (function_at h p) f → settings_of h ≡ settings_of (with_function h p f)
-unfolding settings_of addresses_of vlans_of
-settings_alike h p f alike = λ i. record {
-  addresses = record {
-    low = table_same 128 (low_word h) (low_word k) (λ e below. ap low_part (entries e)) i;
-    high = table_same 128 (high_word h) (high_word k) (λ e below. ap valid (entries e)) i;
-    pools = table 256 pool_word;
-    hashes = replicate 128 0;
-    control = 0;
-  };
-  vlans = record {
-    control = 2 ^ 30;
-    table = table 128 (table_word h);
-    entries = table 64 (id_word h);
-    pools = table_same 128 (member_word h) (member_word k) (λ j below. ap (λ m. cond (ltb j (2 * length h.ids)) m 0) (joins (j / 2) (32 * (j % 2)))) i;
-  };
-  pool_control = control_word h.default_pool;
-  receive_enable = ups i;
-  transmit_enable = ups i;
-  port_vlans = table_same 64 (λ q. port_word (function_at h q)) (λ q. port_word (function_at k q)) (λ q below. (at q).port) i;
-  sender_checks = replicate 8 0xFFFF;
-  loopback = 1;
-  pool_flags = table_same 64 (λ q. flags_word (function_at h q)) (λ q. flags_word (function_at k q)) (λ q below. (at q).flags) i;
-}
-  where
-    k : HostState
-    k = with_function h p f
-
-    at : (j : ℕ) → IsAlike (function_at h j) (function_at k j)
-    at j = alike_at h p f j alike
-
-    entries : (e : ℕ) → entry h e ≡ entry k e
-    entries e = go (ltb e 64)
-      where
-        go : (b : Bool) → cond b (function_at h e).address (function_at h (e - 64)).second ≡ cond b (function_at k e).address (function_at k (e - 64)).second
-        go true = (at e).address
-        go false = (at (e - 64)).second
-
-    joins : (place first : ℕ) → mask_from (has_joined h place) first 32 ≡ mask_from (has_joined k place) first 32
-    joins place first = mask_same (has_joined h place) (has_joined k place) first 32 (λ j below. ap (λ n. has_bit n place) (at (first + j)).joined)
-
-    ups : table 2 (up_word h) ≡ table 2 (up_word k)
-    ups = table_same 2 (up_word h) (up_word k) (λ j below. mask_same (is_up h) (is_up k) (32 * j) 32 (λ n small. (at (32 * j + n)).up))
-
--- ---- messages that set no register
-
-quiet_granted : (ids : List ℕ) (limit : ℕ) (taken : Bool) (f g : Function) (message : Message) → sets_registers message ≡ false → granted ids limit taken f message ≡ Some g → IsAlike f g
-unfolding granted
-quiet_granted ids limit taken f g Reset none is = absurd (true≢false none)
-quiet_granted ids limit taken f g (SetAddress a) none is = absurd (true≢false none)
-quiet_granted ids limit taken f g (SetMulticast count) none is = absurd (true≢false none)
-quiet_granted ids limit taken f g (SetVlan add id) none is = absurd (true≢false none)
-quiet_granted ids limit taken f g (SetFrameLength n) none is = go (leb n (limit + 4)) is
-  where
-    go : (b : Bool) → cond b (Some (record f { frame_length = n })) None ≡ Some g → IsAlike f g
-    go true same = let e = some_is same in rw (← e) (record { up = refl; address = refl; second = refl; joined = refl; flags = refl; port = refl })
-    go false same = absurd (none_is same)
-quiet_granted ids limit taken f g (SetSecondAddress index a) none is = absurd (true≢false none)
-quiet_granted ids limit taken f g (NegotiateApi api) none is = go (is_version api) is
-  where
-    go : (b : Bool) → cond b (Some (record f { api = api })) None ≡ Some g → IsAlike f g
-    go true same = let e = some_is same in rw (← e) (record { up = refl; address = refl; second = refl; joined = refl; flags = refl; port = refl })
-    go false same = absurd (none_is same)
-quiet_granted ids limit taken f g GetQueues none is = go (leb 2 f.api) is
-  where
-    go : (b : Bool) → cond b (Some f) None ≡ Some g → IsAlike f g
-    go true same = let e = some_is same in rw (← e) (alike_itself f)
-    go false same = absurd (none_is same)
-quiet_granted ids limit taken f g (SetMulticastMode mode) none is = absurd (true≢false none)
-quiet_granted ids limit taken f g GetLinkState none is = go (leb 3 f.api) is
-  where
-    go : (b : Bool) → cond b (Some f) None ≡ Some g → IsAlike f g
-    go true same = let e = some_is same in rw (← e) (alike_itself f)
-    go false same = absurd (none_is same)
-quiet_granted ids limit taken f g Other none is = absurd (none_is is)
-
-quiet_answered : (ids : List ℕ) (limit : ℕ) (taken : Bool) (f g : Function) (message : Message) → sets_registers message ≡ false → answered ids limit taken f message ≡ Some g → IsAlike f g
-unfolding answered
-quiet_answered ids limit taken f g message none is = go (is_heard f message) is
-  where
-    go : (b : Bool) → cond b (granted ids limit taken f message) None ≡ Some g → IsAlike f g
-    go true same = quiet_granted ids limit taken f g message none same
-    go false same = absurd (none_is same)
+-- a host stands for the same settings with a function that makes the same registers
+pub settings_alike : (h : HostState) (p : ℕ) (f : Function) → p < 64 → length h.ids ≤ 64 → IsAlike (function_at h p) (function_at (with_function h p f) p) → settings_of h ≡ settings_of (with_function h p f)
+settings_alike h p f small few alike =
+    sym (ap (after_writes (settings_of h)) (unchanged (with_function h p f) p (function_at h p) alike)) ∙ settled h p f small few
 
 -- ---- turns
 
-message_settles : (h : HostState) (p : ℕ) (message : Message) → p < 64 → length h.ids ≤ 64 → (o : Option Function) → outcome h p message ≡ o → after_writes (settings_of h) (writes_with h p message o) ≡ settings_of (host_with h p o)
-unfolding outcome
-message_settles h p message small few None is = refl
-message_settles h p message small few (Some f) is = go (sets_registers message) refl
-  where
-    go : (b : Bool) → sets_registers message ≡ b → after_writes (settings_of h) (cond b (writes_of (with_function h p f) p) []) ≡ settings_of (with_function h p f)
-    go true sets = settled h p f small few
-    go false none = settings_alike h p f (quiet_answered h.ids h.limit (is_taken h p (address_in message)) (function_at h p) f message none is)
-
--- the writes by whether the message was granted
-pub writes_by : (h : HostState) (p : ℕ) (message : Message) (o : Option Function) → cond (is_some o && sets_registers message) (writes_of (host_with h p o) p) [] ≡ writes_with h p message o
-writes_by h p message None = refl
-writes_by h p message (Some f) = refl
+with_settles : (h : HostState) (p : ℕ) (o : Option Function) → p < 64 → length h.ids ≤ 64 → after_writes (settings_of h) (writes_with h p o) ≡ settings_of (host_with h p o)
+with_settles h p None small few = refl
+with_settles h p (Some f) small few = settled h p f small few
 
 pub after_message : (h : HostState) (p : ℕ) (message : Message) → p < 64 → length h.ids ≤ 64 → after_writes (settings_of h) (writes_after h p message) ≡ settings_of (host_after h p message)
 unfolding host_after writes_after
-after_message h p message small few = message_settles h p message small few (outcome h p message) refl
+after_message h p message small few = with_settles h p (outcome h p message) small few
 
 pub after_reset : (h : HostState) (p : ℕ) → p < 64 → length h.ids ≤ 64 → after_writes (settings_of h) (writes_without h p) ≡ settings_of (host_without h p)
 unfolding host_without writes_without
 after_reset h p small few = settled h p (gone (function_at h p)) small few
+
+-- the writes by whether the message was granted
+pub writes_by : (h : HostState) (p : ℕ) (o : Option Function) → cond (is_some o) (writes_of (host_with h p o) p (function_at h p)) [] ≡ writes_with h p o
+writes_by h p None = refl
+writes_by h p (Some f) = refl

@@ -1,17 +1,17 @@
 -- The writes that bring the registers of the physical function up: every word of every register, row by row.
-use Rattle.std.specs.Prelude.{◌≡◌, ℕ, ◌^◌, List, [], ◌∷◌, ◌++◌, length}
+use Rattle.std.specs.Prelude.{◌≡◌, ℕ, ◌^◌, true, List, [], ◌∷◌, ◌++◌, length}
 use Rattle.wire_frame.specs.declared.row.Row.{Row}
 use Rattle.addr_tables.specs.Registers.{RAL, RAH, MPSAR, MTA, MCSTCTRL}
-use Rattle.vlan_table.specs.Registers.{VLNCTRL, VFTA, VLVF, VLVFB}
-use Rattle.pool_filter.specs.Registers.{PF_VT_CTL, PFVFRE, PFVFTE, VMVIR, PFVFSPOOF, PFDTXGSWC, VMOLR}
+use Rattle.vlan_table.specs.Registers.{VLNCTRL, VFTA, VLVF, VLVFB, VFE}
+use Rattle.pool_filter.specs.Registers.{PF_VT_CTL, PFVFRE, PFVFTE, VMVIR, PFVFSPOOF, PFDTXGSWC, VMOLR, LOOPBACK}
 use Rattle.pool_filter.specs.Map.{one_row}
 use Rattle.pool_filter.specs.Settings.{Settings}
 use Rattle.mailbox.specs.declared.start.Register.{Register}
 use Rattle.mailbox.specs.declared.start.Register.TheVariants.{SourceChecks, LowAddress, HighAddress, AddressPools, MulticastTable, MulticastControl, VlanControl, VlanTable, VlanIds, VlanPools, PoolControl, PortVlans, Loopback, PoolFlags, ReceiveEnable, TransmitEnable}
 use Rattle.mailbox.specs.declared.writes.Write.{Write}
 use Rattle.mailbox.specs.Host.{HostState, function_at}
-use Rattle.mailbox.specs.Words.{low_word, high_word, pool_word, table_word, id_word, member_word, up_word, flags_word, port_word, control_word}
-use Rattle.mailbox.specs.Writes.{writes_from}
+use Rattle.mailbox.specs.Words.{low_word, high_word, pool_word, table_word, id_word, member_word, up_word, flags_word, port_word, control_word, CHECKS_ON}
+use Rattle.mailbox.specs.Writes.{writes_where}
 
 -- the source checks come first, and who may receive and transmit last
 abbrev pub registers : List Register
@@ -40,26 +40,26 @@ row_of TransmitEnable = PFVFTE
 
 -- the register's word at a place, for the host
 abbrev pub word_of : HostState → Register → ℕ → ℕ
-word_of h SourceChecks i = 0xFFFF
+word_of h SourceChecks i = CHECKS_ON
 word_of h LowAddress i = low_word h i
 word_of h HighAddress i = high_word h i
 word_of h AddressPools i = pool_word i
 word_of h MulticastTable i = 0
 word_of h MulticastControl i = 0
-word_of h VlanControl i = 2 ^ 30
+word_of h VlanControl i = 2 ^ VFE
 word_of h VlanTable i = table_word h i
 word_of h VlanIds i = id_word h i
 word_of h VlanPools i = member_word h i
 word_of h PoolControl i = control_word h.default_pool
 word_of h PortVlans i = port_word (function_at h i)
-word_of h Loopback i = 1
+word_of h Loopback i = 2 ^ LOOPBACK
 word_of h PoolFlags i = flags_word (function_at h i)
 word_of h ReceiveEnable i = up_word h i
 word_of h TransmitEnable i = up_word h i
 
 -- all words of a register
 abbrev pub register_writes : HostState → Register → List Write
-register_writes h register = writes_from (row_of register) (word_of h register) 0 (row_of register).count
+register_writes h register = writes_where (λ i. true) (row_of register) (word_of h register) 0 (row_of register).count
 
 -- all words of registers, one register after another
 abbrev pub writes_to : HostState → List Register → List Write

@@ -3,7 +3,10 @@ use Rattle.std.specs.Prelude.{ℕ, zero, suc, ◌+◌, ◌-◌, ◌*◌, ◌/◌
 use Rattle.std.specs.List.{range_with_len}
 use Rattle.wire_frame.specs.Bits.{has_bit}
 use Rattle.addr_tables.specs.Addresses.{Addresses}
+use Rattle.addr_tables.specs.Registers.{VALID as ENTRY_VALID}
 use Rattle.vlan_table.specs.Vlans.{Vlans}
+use Rattle.vlan_table.specs.Registers.{VFE, VALID as VLAN_VALID}
+use Rattle.pool_filter.specs.Registers.{AUPE, BAM, MPE, PORT_VLAN_RULE, ALWAYS, LOOPBACK, PF_VT_CTL_SET, DEFAULT_POOL, DEFAULT_POOL_OFF}
 use Rattle.pool_filter.specs.Settings.{Settings}
 use Rattle.pool_filter.specs.Own.{contains}
 use Rattle.mailbox.specs.declared.function.Function.{Function}
@@ -54,7 +57,7 @@ low_word h e = low_part (entry h e)
 -- RAH: AV, and bytes 4 and 5
 abbrev pub valid : Option ℕ → ℕ
 valid None = 0
-valid (Some a) = 2 ^ 31 + high_part (Some a)
+valid (Some a) = 2 ^ ENTRY_VALID + high_part (Some a)
 
 abbrev pub high_word : HostState → ℕ → ℕ
 high_word h e = valid (entry h e)
@@ -67,7 +70,7 @@ pool_word i = if i / 2 % 64 / 32 == i % 2 then 2 ^ (i / 2 % 64 % 32) else 0
 
 -- VLVF: VI_En, and the id
 abbrev pub id_word : HostState → ℕ → ℕ
-id_word h k = if nat_lt k (length h.ids) then 2 ^ 31 + slice_index h.ids k % 4096 else 0
+id_word h k = if nat_lt k (length h.ids) then 2 ^ VLAN_VALID + slice_index h.ids k % 2 ^ 12 else 0
 
 -- VFTA: every id that a policy names
 abbrev pub table_word : HostState → ℕ → ℕ
@@ -87,21 +90,25 @@ up_word h half = mask_from (is_up h) (32 * half) 32
 abbrev pub flags_word : Function → ℕ
 flags_word f =
     if f.is_up
-    then 2 ^ 27 + (if is_none f.port then 2 ^ 24 else 0) + (if f.groups || f.mode == 2 then 2 ^ 28 else 0)
+    then 2 ^ BAM + (if is_none f.port then 2 ^ AUPE else 0) + (if f.groups || f.mode == 2 then 2 ^ MPE else 0)
     else 0
 
 -- VMVIR: a port VLAN is inserted always
 abbrev pub inserted : Option ℕ → ℕ
 inserted None = 0
-inserted (Some id) = 2 ^ 30 + id % 4096
+inserted (Some id) = ALWAYS * 2 ^ PORT_VLAN_RULE + id % 2 ^ 12
 
 abbrev pub port_word : Function → ℕ
 port_word f = if f.is_up then inserted f.port else 0
 
 -- PF_VT_CTL: the default pool, or that there is none
 abbrev pub control_word : Option ℕ → ℕ
-control_word None = 0x60000001
-control_word (Some pool) = 0x40000001 + pool % 64 * 2 ^ 7
+control_word None = PF_VT_CTL_SET + 2 ^ DEFAULT_POOL_OFF
+control_word (Some pool) = PF_VT_CTL_SET + pool % 64 * 2 ^ DEFAULT_POOL
+
+-- PFVFSPOOF: the address check and the VLAN check of eight pools
+abbrev pub CHECKS_ON : ℕ
+CHECKS_ON = 0xFFFF
 
 -- ---- all of them
 
@@ -117,7 +124,7 @@ addresses_of h = record {
 -- VLANs are filtered
 unfoldable pub vlans_of : HostState → Vlans
 vlans_of h = record {
-  control = 2 ^ 30;
+  control = 2 ^ VFE;
   table = table 128 (table_word h);
   entries = table 64 (id_word h);
   pools = table 128 (member_word h);
@@ -132,7 +139,7 @@ settings_of h = record {
   receive_enable = table 2 (up_word h);
   transmit_enable = table 2 (up_word h);
   port_vlans = table 64 (λ p. port_word (function_at h p));
-  sender_checks = replicate 8 0xFFFF;
-  loopback = 1;
+  sender_checks = replicate 8 CHECKS_ON;
+  loopback = 2 ^ LOOPBACK;
   pool_flags = table 64 (λ p. flags_word (function_at h p));
 }

@@ -1,5 +1,6 @@
--- The writes to the physical function's registers that make one pool's registers what its function is.
-use Rattle.std.specs.Prelude.{ℕ, zero, suc, ◌+◌, ◌*◌, Bool, true, false, List, [], ◌∷◌, ◌++◌, length, Option, Some, None, if◌then◌else◌}
+-- The writes to the physical function's registers that make one pool's registers what its function became: those that change a word.
+use Rattle.std.specs.Prelude.{ℕ, zero, suc, ◌+◌, ◌*◌, ◌/◌, ◌%◌, Bool, true, false, not, ◌&&◌, ◌==◌, List, [], ◌∷◌, ◌++◌, length, Option, Some, None, is_some, if◌then◌else◌}
+use Rattle.wire_frame.specs.Bits.{has_bit}
 use Rattle.wire_frame.specs.declared.row.Row.{Row}
 use Rattle.addr_tables.specs.Registers.{RAL, RAH}
 use Rattle.vlan_table.specs.Registers.{VLVFB}
@@ -7,10 +8,10 @@ use Rattle.pool_filter.specs.Registers.{PFVFRE, PFVFTE, VMVIR, VMOLR}
 use Rattle.pool_filter.specs.Settings.{Settings, settings_after}
 use Rattle.mailbox.specs.declared.function.Function.{Function}
 use Rattle.mailbox.specs.declared.message.Message.{Message}
-use Rattle.mailbox.specs.declared.message.Message.TheVariants.{Reset, SetAddress, SetMulticast, SetVlan, SetSecondAddress, SetMulticastMode}
 use Rattle.mailbox.specs.declared.writes.Write.{Write}
-use Rattle.mailbox.specs.Host.{HostState, function_at, outcome, host_with, host_without}
-use Rattle.mailbox.specs.Words.{low_word, high_word, member_word, up_word, flags_word, port_word}
+use Rattle.mailbox.specs.Host.{HostState, function_at, with_function, outcome, host_without}
+use Rattle.mailbox.specs.Function.{is_number, low_part}
+use Rattle.mailbox.specs.Words.{valid, member_word, up_word, flags_word, port_word}
 
 -- a write of the row's word at a place
 abbrev pub write_at : Row → ℕ → ℕ → Write
@@ -21,50 +22,71 @@ abbrev pub after_writes : Settings → List Write → Settings
 after_writes s [] = s
 after_writes s (w ∷ ws) = after_writes (settings_after s w.offset w.value) ws
 
--- entry e is not valid while its address changes
-abbrev pub entry_writes : HostState → ℕ → List Write
-entry_writes h e = write_at RAH e 0 ∷ write_at RAL e (low_word h e) ∷ write_at RAH e (high_word h e) ∷ []
+-- writes of the row's words of n places from i on, where the test holds of the place
+abbrev pub writes_where : (ℕ → Bool) → Row → (ℕ → ℕ) → ℕ → ℕ → List Write
+writes_where t row word i zero = []
+writes_where t row word i (suc n) =
+    if t i
+    then write_at row i (word i) ∷ writes_where t row word (suc i) n
+    else writes_where t row word (suc i) n
 
-abbrev pub up_writes : HostState → List Write
-up_writes h =
-    write_at PFVFRE 0 (up_word h 0) ∷ write_at PFVFRE 1 (up_word h 1)
-    ∷ write_at PFVFTE 0 (up_word h 0) ∷ write_at PFVFTE 1 (up_word h 1) ∷ []
+-- ---- what changes
 
--- writes of the row's n words from place i on
-abbrev pub writes_from : Row → (ℕ → ℕ) → ℕ → ℕ → List Write
-writes_from row word i zero = []
-writes_from row word i (suc n) = write_at row i (word i) ∷ writes_from row word (suc i) n
+abbrev pub changes : ℕ → ℕ → Bool
+changes old new = not (old == new)
 
--- the pools of all VLAN entries that have an id
-abbrev pub member_writes : HostState → List Write
-member_writes h = writes_from VLVFB (member_word h) 0 (2 * length h.ids)
+abbrev pub turns : Bool → Bool → Bool
+turns true new = not new
+turns false new = new
 
--- all registers of pool p
-unfoldable pub writes_of : HostState → ℕ → List Write
-writes_of h p =
-    entry_writes h p ++ entry_writes h (64 + p)
-    ++ write_at VMOLR p (flags_word (function_at h p)) ∷ write_at VMVIR p (port_word (function_at h p)) ∷ []
-    ++ up_writes h
-    ++ member_writes h
+abbrev pub moves : Option ℕ → Option ℕ → Bool
+moves None new = is_some new
+moves (Some a) new = not (is_number new a)
 
--- the message changes registers, where it is granted
-abbrev pub sets_registers : Message → Bool
-sets_registers Reset = true
-sets_registers (SetAddress a) = true
-sets_registers (SetMulticast count) = true
-sets_registers (SetVlan add id) = true
-sets_registers (SetSecondAddress index a) = true
-sets_registers (SetMulticastMode mode) = true
-sets_registers message = false
+-- word i of two words for 64 pools has pool p, and the function joined or left the VLAN of the entry
+abbrev pub joins_or_leaves : ℕ → Function → Function → ℕ → Bool
+joins_or_leaves p old new i = i % 2 == p / 32 && turns (has_bit old.joined (i / 2)) (has_bit new.joined (i / 2))
 
-abbrev pub writes_with : HostState → ℕ → Message → Option Function → List Write
-writes_with h p message None = []
-writes_with h p message (Some f) = if sets_registers message then writes_of (host_with h p (Some f)) p else []
+-- ---- the registers of a pool
+
+-- entry e goes from one address to another: it is not valid meanwhile
+abbrev pub entry_writes : ℕ → Option ℕ → Option ℕ → List Write
+entry_writes e old new =
+    writes_where (λ i. moves old new && is_some old) RAH (λ i. 0) e 1
+    ++ writes_where (λ i. changes (low_part old) (low_part new)) RAL (λ i. low_part new) e 1
+    ++ writes_where (λ i. moves old new && is_some new) RAH (λ i. valid new) e 1
+
+-- pool p's flags and its port VLAN
+abbrev pub pool_writes : ℕ → Function → Function → List Write
+pool_writes p old new =
+    writes_where (λ i. changes (flags_word old) (flags_word new)) VMOLR (λ i. flags_word new) p 1
+    ++ writes_where (λ i. changes (port_word old) (port_word new)) VMVIR (λ i. port_word new) p 1
+
+-- the words of 32 pools in which pool p stands: who may receive, who may transmit, and who joined a VLAN
+abbrev pub shared_writes : HostState → ℕ → Function → Function → List Write
+shared_writes h p old new =
+    writes_where (λ i. turns old.is_up new.is_up) PFVFRE (up_word h) (p / 32) 1
+    ++ writes_where (λ i. turns old.is_up new.is_up) PFVFTE (up_word h) (p / 32) 1
+    ++ writes_where (joins_or_leaves p old new) VLVFB (member_word h) 0 (2 * length h.ids)
+
+-- for the host as it is, and what the function of pool p was before
+unfoldable pub writes_of : HostState → ℕ → Function → List Write
+writes_of h p old =
+    entry_writes p old.address (function_at h p).address
+    ++ entry_writes (64 + p) old.second (function_at h p).second
+    ++ pool_writes p old (function_at h p)
+    ++ shared_writes h p old (function_at h p)
+
+-- ---- a message and a reset
+
+abbrev pub writes_with : HostState → ℕ → Option Function → List Write
+writes_with h p None = []
+writes_with h p (Some f) = writes_of (with_function h p f) p (function_at h p)
 
 -- the writes after a message of pool p
 unfoldable pub writes_after : HostState → ℕ → Message → List Write
-writes_after h p message = writes_with h p message (outcome h p message)
+writes_after h p message = writes_with h p (outcome h p message)
 
 -- the writes after the guest of pool p is gone
 unfoldable pub writes_without : HostState → ℕ → List Write
-writes_without h p = writes_of (host_without h p) p
+writes_without h p = writes_of (host_without h p) p (function_at h p)

@@ -323,7 +323,7 @@ impl Function {
 }
 
 // Whether the number is there, and is that one.
-fn is_number(number: Option<u64>, address: u64) -> bool
+pub(crate) fn is_number(number: Option<u64>, address: u64) -> bool
     ensures { result ≡ is_number number address }
 {
     match number {

@@ -8,18 +8,15 @@ ghost use Rattle.mailbox.specs.Message.{message_of};
 ghost use Rattle.mailbox.specs.Replies.{reply_to};
 ghost use Rattle.mailbox.specs.Within.{IsWithin, KeepsPolicies};
 ghost use Rattle.mailbox.specs.Words.{settings_of};
-ghost use Rattle.mailbox.specs.Writes.{entry_writes, up_writes, member_writes, writes_of, after_writes, sets_registers, writes_after, writes_without};
+ghost use Rattle.mailbox.specs.Writes.{writes_of, after_writes, writes_after, writes_without};
 
 use crate::function::{Function, is_unicast};
 use crate::mailbox::Mailbox;
 use crate::message::Message;
 use crate::policy::Policy;
 use crate::writes::Writes;
-use addr_tables::registers::{RAH, RAL};
 use arrayvec::ArrayVec;
-use pool_filter::registers::{PFVFRE, PFVFTE, VMOLR, VMVIR};
 use std::marker::Model;
-use vlan_table::registers::VLVFB;
 use wire_frame::{Fault, FrameLimit, PoolId, Vid};
 
 /// For each of 64 functions what its policy grants and what it has asked for so far, and the VLAN ids that policies name.
@@ -107,6 +104,7 @@ impl Host {
         ensures variant { is_ok result ≡ is_admitted self.old pool policy.now }
         ensures err { IfErr result (λ e. e ≡ Fault.BadMake) }
         ensures pool { pool < 64 }
+        ensures few { length self.old.ids ≤ 64 }
     {
         let p = usize::from(pool.get());
         if !self.is_admitted(pool, policy) {
@@ -121,11 +119,13 @@ impl Host {
     fn is_admitted(&self, pool: PoolId, policy: &Policy) -> bool
         ensures value { result ≡ is_admitted self.now pool policy.now }
         ensures placed { result ≡ true → is_placed self.now.ids policy.now.vlans ≡ true }
+        ensures few { length self.now.ids ≤ 64 }
     {
+        let ids = self.ids.as_slice();
         let address = policy.address.number();
         is_unicast(address)
             && !self.is_taken(pool, address)
-            && policy.vlans.is_placed(self.ids.as_slice())
+            && policy.vlans.is_placed(ids)
             && !self.functions[usize::from(pool.get())].is_up
     }
 }
@@ -148,11 +148,19 @@ impl Host {
     }
 
     /// The function of a pool.
-    pub(crate) fn function_at(&self, pool: u32) -> Function
+    pub(crate) fn function_at(&self, pool: u32) -> &Function
         requires { pool < 64 }
-        ensures { result ≡ function_at self.now pool }
+        ensures { result.now ≡ function_at self.now pool }
     {
-        self.functions[pool as usize]
+        &self.functions[pool as usize]
+    }
+
+    // The function of a pool.
+    fn function(&self, pool: PoolId) -> Function
+        ensures value { result ≡ function_at self.now pool }
+        ensures pool { pool < 64 }
+    {
+        self.functions[usize::from(pool.get())]
     }
 
     // Whether a function other than the pool's holds the address.
@@ -202,6 +210,16 @@ impl Host {
         outcome
     }
 
+    // The writes after a message that left the pool's function as another, or was refused.
+    fn writes_with(&self, pool: PoolId, before: &Function, granted: Option<Function>) -> Writes
+        ensures { result ≡ (if is_some granted then writes_of self.now pool before.now else []) }
+    {
+        match granted {
+            None => Writes::new(),
+            Some(_) => self.writes_since(pool, before),
+        }
+    }
+
     // Forgets what the pool's guest asked for.
     #[tactic(auto, unfolding(crate::specs::Host::host_without))]
     fn forget(&mut self, pool: PoolId)
@@ -210,17 +228,6 @@ impl Host {
     {
         let p = usize::from(pool.get());
         self.functions[p] = self.functions[p].gone();
-    }
-
-    // The writes after a message that made the pool's function what it is, or was refused.
-    fn writes_for(&self, pool: PoolId, message: Message, granted: bool) -> Writes
-        ensures { result ≡ (if granted && sets_registers message then writes_of self.now pool else []) }
-    {
-        if granted && sets_registers(message) {
-            self.writes_of(pool)
-        } else {
-            Writes::new()
-        }
     }
 
     /// Answers the message that stands in the mailbox of the pool's function: puts the reply there, and gives the writes to the
@@ -270,10 +277,10 @@ impl Host {
         ensures policies { IsWithin self.old → KeepsPolicies self.old self.new }
     {
         let message = mailbox.message();
-        let function = self.function_at(u32::from(pool.get()));
+        let before = self.function(pool);
         let granted = self.grant(pool, message);
-        mailbox.answer(&function, message, granted);
-        self.writes_for(pool, message, granted.is_some())
+        mailbox.answer(&before, message, granted);
+        self.writes_with(pool, &before, granted)
     }
 
     /// Forgets what the guest of the pool's function asked for, where the function is reset from outside or by VFCTRL and
@@ -293,81 +300,10 @@ impl Host {
         ensures within { IsWithin self.old → IsWithin self.new }
         ensures policies { IsWithin self.old → KeepsPolicies self.old self.new }
     {
+        let before = self.function(pool);
         self.forget(pool);
-        self.writes_of(pool)
+        self.writes_since(pool, &before)
     }
-}
-
-/// Writes.
-impl Host {
-    // The three writes of a receive address entry.
-    fn put_entry(&self, writes: &mut Writes, e: u32)
-        requires entry { e < 128 }
-        requires room { length writes.old ≤ 137 }
-        ensures list { writes.new ≡ writes.old ++ entry_writes self.now e }
-        ensures more { length writes.new ≡ length writes.old + 3 }
-    {
-        writes.put(RAH, e, 0);
-        writes.put(RAL, e, self.low_word(e));
-        writes.put(RAH, e, self.high_word(e));
-    }
-
-    // Which functions are up, for receiving and for transmitting.
-    fn put_up(&self, writes: &mut Writes)
-        requires { length writes.old ≤ 136 }
-        ensures list { writes.new ≡ writes.old ++ up_writes self.now }
-        ensures more { length writes.new ≡ length writes.old + 4 }
-    {
-        writes.put(PFVFRE, 0, self.up_word(0));
-        writes.put(PFVFRE, 1, self.up_word(1));
-        writes.put(PFVFTE, 0, self.up_word(0));
-        writes.put(PFVFTE, 1, self.up_word(1));
-    }
-
-    // The pools of all VLAN entries that have an id.
-    fn put_members(&self, writes: &mut Writes)
-        requires { length writes.old ≤ 12 }
-        ensures list { writes.new ≡ writes.old ++ member_writes self.now }
-        ensures few { length self.now.ids ≤ 64 }
-    {
-        let count = 2 * self.ids().len() as u32;
-        for i in 0..count {
-            writes.put(VLVFB, i, self.member_word(i));
-        }
-    }
-
-    // All registers of the pool.
-    #[tactic(auto, unfolding(crate::specs::Writes::writes_of))]
-    fn writes_of(&self, pool: PoolId) -> Writes
-        ensures writes { result ≡ writes_of self.now pool }
-        ensures few { length self.now.ids ≤ 64 }
-    {
-        let p = u32::from(pool.get());
-        let function = self.function_at(p);
-        let mut writes = Writes::new();
-        self.put_entry(&mut writes, p);
-        self.put_entry(&mut writes, 64 + p);
-        writes.put(VMOLR, p, function.flags_word());
-        writes.put(VMVIR, p, function.port_word());
-        self.put_up(&mut writes);
-        self.put_members(&mut writes);
-        writes
-    }
-}
-
-// Whether the message changes registers, where it is granted.
-fn sets_registers(message: Message) -> bool
-    ensures { result ≡ sets_registers message }
-{
-    matches!(
-        message,
-        Message::Reset
-            | Message::SetAddress(_)
-            | Message::SetMulticast(_)
-            | Message::SetVlan(_, _)
-            | Message::SetSecondAddress(_, _)
-            | Message::SetMulticastMode(_)
-    )
 }
 
 // The address that a message asks for.

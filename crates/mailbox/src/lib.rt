@@ -12,6 +12,7 @@
 //! than its policy grants, and no two hold one address. What comes of it in a device, the crate `mailbox_laws` says.
 #![tactic(auto)]
 
+pub mod changed;
 pub mod function;
 pub mod host;
 pub mod laws;

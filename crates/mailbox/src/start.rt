@@ -8,9 +8,15 @@ ghost use Rattle.mailbox.specs.Words.{pool_word, id_word, control_word};
 use crate::host::Host;
 use crate::writes::Write;
 use addr_tables::registers::{MCSTCTRL, MPSAR, MTA, RAH, RAL};
-use pool_filter::registers::{PF_VT_CTL, PFDTXGSWC, PFVFRE, PFVFSPOOF, PFVFTE, VMOLR, VMVIR};
-use vlan_table::registers::{VFTA, VLNCTRL, VLVF, VLVFB};
+use pool_filter::registers::{
+    DEFAULT_POOL, DEFAULT_POOL_OFF, LOOPBACK, PF_VT_CTL, PF_VT_CTL_SET, PFDTXGSWC, PFVFRE,
+    PFVFSPOOF, PFVFTE, VMOLR, VMVIR,
+};
+use vlan_table::registers::{VALID, VFE, VFTA, VLNCTRL, VLVF, VLVFB};
 use wire_frame::{PoolId, Row};
+
+/// The word of PFVFSPOOF in which all checks on the senders of eight pools are on, of addresses and of VLANs.
+const CHECKS_ON: u32 = 0xFFFF;
 
 /// A register of the physical function, or a row of registers of one kind.
 #[derive(Clone, Copy, Debug, PartialEq, Eq)]
@@ -127,18 +133,18 @@ impl Host {
         ensures { result ≡ word_of self.now register place }
     {
         match register {
-            Register::SourceChecks => 0xFFFF,
+            Register::SourceChecks => CHECKS_ON,
             Register::LowAddress => self.low_word(place),
             Register::HighAddress => self.high_word(place),
             Register::AddressPools => pool_word(place),
             Register::MulticastTable | Register::MulticastControl => 0,
-            Register::VlanControl => 0x4000_0000,
+            Register::VlanControl => 1 << VFE,
             Register::VlanTable => self.table_word(place),
             Register::VlanIds => self.id_word(place),
             Register::VlanPools => self.member_word(place),
             Register::PoolControl => control_word(self.default_pool()),
             Register::PortVlans => self.function_at(place).port_word(),
-            Register::Loopback => 1,
+            Register::Loopback => 1 << LOOPBACK,
             Register::PoolFlags => self.function_at(place).flags_word(),
             Register::ReceiveEnable | Register::TransmitEnable => self.up_word(place),
         }
@@ -152,7 +158,7 @@ impl Host {
         let ids = self.ids();
         let k = k as usize;
         if k < ids.len() {
-            0x8000_0000 + u32::from(ids[k] % 4096)
+            (1 << VALID) + u32::from(ids[k] % 4096)
         } else {
             0
         }
@@ -188,7 +194,7 @@ fn control_word(default_pool: Option<PoolId>) -> u32
     ensures { result ≡ control_word default_pool }
 {
     match default_pool {
-        None => 0x6000_0001,
-        Some(pool) => 0x4000_0001 + u32::from(pool.get() % 64) * 0x80,
+        None => PF_VT_CTL_SET + (1 << DEFAULT_POOL_OFF),
+        Some(pool) => PF_VT_CTL_SET + (u32::from(pool.get() % 64) << DEFAULT_POOL),
     }
 }

@@ -6,6 +6,8 @@ ghost use Rattle.mailbox.specs.Words.{mask_from, is_in_set, reaches, entry, low_
 
 use crate::function::{Function, high_part, low_part};
 use crate::host::Host;
+use pool_filter::PoolFlags;
+use pool_filter::registers::{ALWAYS, PORT_VLAN_RULE};
 use wire_frame::has_bit;
 
 /// A set of pools or of VLAN ids, by their numbers.
@@ -117,13 +119,17 @@ impl Function {
         if !self.is_up {
             return 0;
         }
-        let untagged = if self.port.is_some() { 0 } else { 0x0100_0000 };
+        let untagged = if self.port.is_some() {
+            0
+        } else {
+            PoolFlags::AUPE.0
+        };
         let multicast = if self.groups || self.mode == 2 {
-            0x1000_0000
+            PoolFlags::MPE.0
         } else {
             0
         };
-        0x0800_0000 + untagged + multicast
+        PoolFlags::BAM.0 + untagged + multicast
     }
 
     /// Its word of VMVIR.
@@ -143,13 +149,13 @@ fn one_more(word: u32, bit: bool) -> u32
 }
 
 // AV, and bytes 4 and 5 of an address.
-fn valid(address: Option<u64>) -> u32
+pub(crate) fn valid(address: Option<u64>) -> u32
     ensures { result ≡ valid address }
 {
     if address.is_none() {
         0
     } else {
-        0x8000_0000 + high_part(address)
+        (1 << addr_tables::registers::VALID) + high_part(address)
     }
 }
 
@@ -159,7 +165,7 @@ fn inserted(port: Option<u16>) -> u32
 {
     match port {
         None => 0,
-        Some(id) => 0x4000_0000 + u32::from(id % 4096),
+        Some(id) => (ALWAYS << PORT_VLAN_RULE) + u32::from(id % 4096),
     }
 }
 

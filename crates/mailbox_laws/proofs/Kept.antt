@@ -27,16 +27,15 @@ use Rattle.mailbox.specs.Function.{gone}
 use Rattle.mailbox.specs.Host.{HostState, function_at, with_function, outcome, host_with, host_after, host_without}
 use Rattle.mailbox.specs.Isolation.{IsSameFor}
 use Rattle.mailbox.specs.Words.{settings_of}
-use Rattle.mailbox.specs.Writes.{write_at, writes_from, writes_of, after_writes, sets_registers as changes, writes_with, writes_after, writes_without}
+use Rattle.mailbox.specs.Writes.{write_at, writes_of, after_writes, writes_with, writes_after, writes_without}
 use Rattle.mailbox.specs.declared.start.Register.{Register}
 use Rattle.mailbox.specs.declared.start.Register.TheVariants.{SourceChecks, LowAddress, HighAddress, AddressPools, MulticastTable, MulticastControl, VlanControl, VlanTable, VlanIds, VlanPools, PoolControl, PortVlans, Loopback, PoolFlags, ReceiveEnable, TransmitEnable}
 use Rattle.mailbox.specs.Start.{registers, row_of, word_of, register_writes, writes_to, first_writes}
 use Rattle.mailbox.proofs.First.{first_settled, whole_at_first}
-use Rattle.mailbox.proofs.Meanwhile.{Each, each_append, each_from}
 use Rattle.mailbox.proofs.Others.{message_meanwhile, reset_meanwhile}
 use Rattle.mailbox.proofs.Turns.{after_message, after_reset}
-use Rattle.mailbox.proofs.Rows.{Part, writes_in}
-use Rattle.mailbox.proofs.Settle.{parts, in_parts}
+use Rattle.mailbox.proofs.Rows.{Each, each_append, each_where, Part, part_writes, writes_in, AllFit}
+use Rattle.mailbox.proofs.Settle.{parts, parts_fit, in_parts}
 use Rattle.mailbox_laws.specs.Turns.{Turn, Happens, Answers, Forgets, sets_registers, IsTurn, write_event, write_events, host_of, events_in, host_at_end, events_of, kept_in, kept_of_turns}
 
 -- ---- the device takes each write
@@ -44,74 +43,11 @@ use Rattle.mailbox_laws.specs.Turns.{Turn, Happens, Answers, Forgets, sets_regis
 abbrev pub IsTaken : Write → Type 0
 IsTaken w = is_bad_offset PF_SPACE w.offset ≡ false
 
-abbrev pub AllTaken : List Part → Type 0
-AllTaken [] = ⊤
-AllTaken (g ∷ gs) = ((j : ℕ) → g.from ≤ j → j < g.from + g.count → IsTaken (write_at g.row j (g.word j))) × AllTaken gs
-
-each_taken : (gs : List Part) → AllTaken gs → Each IsTaken (writes_in gs)
-each_taken [] all = tt
-each_taken (g ∷ gs) all = each_append IsTaken (writes_from g.row g.word g.from g.count) (writes_in gs) (each_from IsTaken g.row g.word g.from g.count all.0) (each_taken gs all.1)
-
 taken : (offset : ℕ) → offset % 4 ≡ 0 → offset < 0x20000 → is_bad_offset PF_SPACE offset ≡ false
 taken offset whole below =
     let even : eqb (offset % 4) 0 ≡ true = grind (arith, nat_tests, whole) in
     let inside : leb 0x20000 offset ≡ false = grind (arith, nat_tests, below) in
     λ i. not (even i) || inside i
-
-parts_taken : (k : HostState) (p : ℕ) → p < 64 → length k.ids ≤ 64 → AllTaken (parts k p)
-parts_taken k p small few = (
-  λ j past below. taken (0xA204 + 8 * j) (omega arith) (omega (arith, below, small)),
-  (
-    λ j past below. taken (0xA200 + 8 * j) (omega arith) (omega (arith, below, small)),
-    (
-      λ j past below. taken (0xA204 + 8 * j) (omega arith) (omega (arith, below, small)),
-      (
-        λ j past below. taken (0xA204 + 8 * j) (omega arith) (omega (arith, below, small)),
-        (
-          λ j past below. taken (0xA200 + 8 * j) (omega arith) (omega (arith, below, small)),
-          (
-            λ j past below. taken (0xA204 + 8 * j) (omega arith) (omega (arith, below, small)),
-            (
-              λ j past below. taken (0xF000 + 4 * j) (omega arith) (omega (arith, below, small)),
-              (
-                λ j past below. taken (0x8000 + 4 * j) (omega arith) (omega (arith, below, small)),
-                (
-                  λ j past below. taken (0x51E0 + 4 * j) (omega arith) (omega (arith, below)),
-                  (
-                    λ j past below. taken (0x8110 + 4 * j) (omega arith) (omega (arith, below)),
-                    (
-                      λ j past below. taken (0xF200 + 4 * j) (omega arith) (omega (arith, below, few)),
-                      tt,
-                    ),
-                  ),
-                ),
-              ),
-            ),
-          ),
-        ),
-      ),
-    ),
-  ),
-)
-
-pub pool_taken : (k : HostState) (p : ℕ) → p < 64 → length k.ids ≤ 64 → Each IsTaken (writes_of k p)
-pool_taken k p small few = subst (Each IsTaken) (sym (in_parts k p)) (each_taken (parts k p) (parts_taken k p small few))
-
-message_taken : (h : HostState) (p : ℕ) (message : Message) → p < 64 → length h.ids ≤ 64 → Each IsTaken (writes_after h p message)
-unfolding writes_after
-message_taken h p message small few = go (outcome h p message)
-  where
-    some : (f : Function) (b : Bool) → Each IsTaken (cond b (writes_of (with_function h p f) p) [])
-    some f true = pool_taken (with_function h p f) p small few
-    some f false = tt
-
-    go : (o : Option Function) → Each IsTaken (writes_with h p message o)
-    go None = tt
-    go (Some f) = some f (changes message)
-
-reset_taken : (h : HostState) (p : ℕ) → p < 64 → length h.ids ≤ 64 → Each IsTaken (writes_without h p)
-unfolding writes_without host_without
-reset_taken h p small few = pool_taken (with_function h p (gone (function_at h p))) p small few
 
 register_taken : (r : Register) (j x : ℕ) → j < (row_of r).count → IsTaken (write_at (row_of r) j x)
 register_taken SourceChecks j x below = taken (0x8200 + 4 * j) (omega arith) (omega (arith, below))
@@ -131,11 +67,59 @@ register_taken PoolFlags j x below = taken (0xF000 + 4 * j) (omega arith) (omega
 register_taken ReceiveEnable j x below = taken (0x51E0 + 4 * j) (omega arith) (omega (arith, below))
 register_taken TransmitEnable j x below = taken (0x8110 + 4 * j) (omega arith) (omega (arith, below))
 
+-- every word of the part's row
+abbrev pub AllTaken : List Part → Type 0
+AllTaken [] = ⊤
+AllTaken (g ∷ gs) = ((j x : ℕ) → j < g.row.count → IsTaken (write_at g.row j x)) × AllTaken gs
+
+each_taken : (gs : List Part) → AllFit gs → AllTaken gs → Each IsTaken (writes_in gs)
+each_taken [] fit all = tt
+each_taken (g ∷ gs) fit all =
+    each_append IsTaken (part_writes g) (writes_in gs)
+    (each_where IsTaken g.test g.row g.word g.from g.count (λ j past below. all.0 j (g.word j) (omega (arith, below, fit.0.1))))
+    (each_taken gs fit.1 all.1)
+
+parts_taken : (k : HostState) (p : ℕ) (old : Function) → AllTaken (parts k p old)
+parts_taken k p old = (
+  register_taken HighAddress,
+  (
+    register_taken LowAddress,
+    (
+      register_taken HighAddress,
+      (
+        register_taken HighAddress,
+        (
+          register_taken LowAddress,
+          (
+            register_taken HighAddress,
+            (register_taken PoolFlags, (register_taken PortVlans, (register_taken ReceiveEnable, (register_taken TransmitEnable, (register_taken VlanPools, tt))))),
+          ),
+        ),
+      ),
+    ),
+  ),
+)
+
+pub pool_taken : (k : HostState) (p : ℕ) (old : Function) → p < 64 → length k.ids ≤ 64 → Each IsTaken (writes_of k p old)
+pool_taken k p old small few = subst (Each IsTaken) (sym (in_parts k p old)) (each_taken (parts k p old) (parts_fit k p old small few) (parts_taken k p old))
+
+message_taken : (h : HostState) (p : ℕ) (message : Message) → p < 64 → length h.ids ≤ 64 → Each IsTaken (writes_after h p message)
+unfolding writes_after
+message_taken h p message small few = go (outcome h p message)
+  where
+    go : (o : Option Function) → Each IsTaken (writes_with h p o)
+    go None = tt
+    go (Some f) = pool_taken (with_function h p f) p (function_at h p) small few
+
+reset_taken : (h : HostState) (p : ℕ) → p < 64 → length h.ids ≤ 64 → Each IsTaken (writes_without h p)
+unfolding writes_without host_without
+reset_taken h p small few = pool_taken (with_function h p (gone (function_at h p))) p (function_at h p) small few
+
 registers_taken : (h : HostState) (rs : List Register) → Each IsTaken (writes_to h rs)
 registers_taken h [] = tt
 registers_taken h (r ∷ rs) =
     each_append IsTaken (register_writes h r) (writes_to h rs)
-    (each_from IsTaken (row_of r) (word_of h r) 0 (row_of r).count (λ j past below. register_taken r j (word_of h r j) (omega (arith, below))))
+    (each_where IsTaken (λ j. true) (row_of r) (word_of h r) 0 (row_of r).count (λ j past below. register_taken r j (word_of h r j) (omega (arith, below))))
     (registers_taken h rs)
 
 first_taken : (h : HostState) → Each IsTaken (first_writes h)

@@ -21,7 +21,7 @@ fn each_has_its_own(rt: HostRuntime) -> Result<(), Fail> {
         let own = u32::from(number) * 0x200;
         assert_eq!(rt; words(&mut mailbox), [0x8000_0001, 0x9059_8202, own, 0, 0]);
         assert_eq!(rt;
-            writes.as_slice().get(2).copied(),
+            writes.as_slice().get(1).copied(),
             Some(Write {
                 offset: RAH + 8 * u32::from(number),
                 value: VALID + own,

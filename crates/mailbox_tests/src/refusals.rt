@@ -158,8 +158,9 @@ fn all_multicast(rt: HostRuntime) -> Result<(), Fail> {
     let writes = ask(&mut host, pool, &mut mailbox, [12, 2, 0])?;
     assert_eq!(rt; mailbox.read(VFMBMEM), Some(0xA000_000C));
     assert_eq!(rt;
-        writes.as_slice().get(6).map(|write| write.value),
+        writes.as_slice().first().map(|write| write.value),
         Some(0x1900_0000)
     );
+    assert_eq!(rt; writes.as_slice().len(), 1);
     Ok(())
 }

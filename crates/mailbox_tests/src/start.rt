@@ -1,6 +1,6 @@
 //! A driver's start.
 use crate::driver::{ask, host, policy, words};
-use mailbox::{Mailbox, Write};
+use mailbox::{Mailbox, Policy, VlanPolicy, Write};
 use script_support::registers::{
     PFVFRE, PFVFTE, RAH, RAL, VALID, VFMAILBOX, VFMBMEM, VLVFB, VMOLR, VMVIR,
 };
@@ -42,41 +42,104 @@ fn starts(rt: HostRuntime) -> Result<(), Fail> {
     Ok(())
 }
 
-/// The writes after RESET of pool 7, and the word of VLVFB after it joined VLAN 100: RAH, RAL, RAH of entries 7 and 71, VMOLR,
-/// VMVIR, two words each of PFVFRE and PFVFTE, and VLVFB.
+/// What changes a register, and nothing else. RESET of pool 7: RAL and RAH of entry 7, VMOLR, and its words of PFVFRE and PFVFTE.
+/// That it joins VLAN 100: its word of VLVFB. The same again, the version, queues and a length: nothing. A second address: RAL and
+/// RAH of entry 71; another one: RAH, RAL and RAH. That it goes: RAH and RAL of both entries, and the others.
 #[test]
-fn writes_of_a_reset(rt: HostRuntime) -> Result<(), Fail> {
+fn writes_what_changes(rt: HostRuntime) -> Result<(), Fail> {
     let pool = PoolId::new(7).ok_or("no such pool")?;
     let mut host = host()?;
-    host.admit(pool, &policy(0x10))?;
+    host.admit(
+        pool,
+        &Policy {
+            may_choose: true,
+            ..policy(0x10)
+        },
+    )?;
     let mut mailbox = Mailbox::new();
     let writes = ask(&mut host, pool, &mut mailbox, [1, 0, 0])?;
     let wanted = [
-        write(RAH + 8 * 7, 0),
         write(RAL + 8 * 7, 0x9059_8202),
         write(RAH + 8 * 7, VALID | 0x1000),
-        write(RAH + 8 * 71, 0),
-        write(RAL + 8 * 71, 0),
-        write(RAH + 8 * 71, 0),
         write(VMOLR + 4 * 7, 0x0900_0000),
-        write(VMVIR + 4 * 7, 0),
         write(PFVFRE, 0x80),
-        write(PFVFRE + 4, 0),
         write(PFVFTE, 0x80),
-        write(PFVFTE + 4, 0),
-        write(VLVFB, 0),
-        write(VLVFB + 4, 0),
-        write(VLVFB + 8, 0),
-        write(VLVFB + 8 + 4, 0),
-        write(VLVFB + 8 * 2, 0),
-        write(VLVFB + 8 * 2 + 4, 0),
     ];
     assert!(rt; writes.as_slice() == wanted.as_slice());
     let writes = ask(&mut host, pool, &mut mailbox, [0x1_0004, 100, 0])?;
-    assert_eq!(rt;
-        writes.as_slice().get(14).copied(),
-        Some(write(VLVFB + 8, 0x80))
-    );
+    assert!(rt; writes.as_slice() == [write(VLVFB + 8, 0x80)].as_slice());
+    for message in [
+        [0x1_0004, 100, 0],
+        [8, 4, 0],
+        [9, 0, 0],
+        [5, 9022, 0],
+        [2, 0x9059_8202, 0x1000],
+    ] {
+        let writes = ask(&mut host, pool, &mut mailbox, message)?;
+        assert_eq!(rt; writes.as_slice().len(), 0);
+    }
+    let writes = ask(
+        &mut host,
+        pool,
+        &mut mailbox,
+        [0x1_0006, 0x9059_8202, 0x2000],
+    )?;
+    let wanted = [
+        write(RAL + 8 * 71, 0x9059_8202),
+        write(RAH + 8 * 71, VALID | 0x2000),
+    ];
+    assert!(rt; writes.as_slice() == wanted.as_slice());
+    let writes = ask(
+        &mut host,
+        pool,
+        &mut mailbox,
+        [0x1_0006, 0x9059_8204, 0x2000],
+    )?;
+    let wanted = [
+        write(RAH + 8 * 71, 0),
+        write(RAL + 8 * 71, 0x9059_8204),
+        write(RAH + 8 * 71, VALID | 0x2000),
+    ];
+    assert!(rt; writes.as_slice() == wanted.as_slice());
+    let writes = host.reset(pool);
+    let wanted = [
+        write(RAH + 8 * 7, 0),
+        write(RAL + 8 * 7, 0),
+        write(RAH + 8 * 71, 0),
+        write(RAL + 8 * 71, 0),
+        write(VMOLR + 4 * 7, 0),
+        write(PFVFRE, 0),
+        write(PFVFTE, 0),
+        write(VLVFB + 8, 0),
+    ];
+    assert!(rt; writes.as_slice() == wanted.as_slice());
+    Ok(())
+}
+
+/// A port VLAN is written to VMVIR as the function comes up, and its place's word of VLVFB in the half of its pool.
+#[test]
+fn writes_a_port_vlan(rt: HostRuntime) -> Result<(), Fail> {
+    let pool = PoolId::new(40).ok_or("no such pool")?;
+    let mut host = host()?;
+    host.admit(
+        pool,
+        &Policy {
+            vlans: VlanPolicy::Port(1),
+            ..policy(0x10)
+        },
+    )?;
+    let mut mailbox = Mailbox::new();
+    let writes = ask(&mut host, pool, &mut mailbox, [1, 0, 0])?;
+    let wanted = [
+        write(RAL + 8 * 40, 0x9059_8202),
+        write(RAH + 8 * 40, VALID | 0x1000),
+        write(VMOLR + 4 * 40, 0x0800_0000),
+        write(VMVIR + 4 * 40, 0x4000_0064),
+        write(PFVFRE + 4, 0x100),
+        write(PFVFTE + 4, 0x100),
+        write(VLVFB + 8 + 4, 0x100),
+    ];
+    assert!(rt; writes.as_slice() == wanted.as_slice());
     Ok(())
 }
 

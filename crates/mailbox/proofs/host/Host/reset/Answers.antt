@@ -8,13 +8,13 @@ use Rattle.mailbox.proofs.Policies.{reset_within, reset_policies}
 use Rattle.mailbox.proofs.Turns.{after_reset}
 use Rattle.mailbox.proofs.host.Host.reset.Goals as goal
 
-few_before : (c : goal.After-writes_of) → length c.args.self.now.ids ≤ 64
+few_before : (c : goal.After-writes_since) → length c.args.self.now.ids ≤ 64
 unfolding host_without
-few_before c = subst (λ (h : HostState). length h.ids ≤ 64) c.forget.ensures.host c.writes_of.ensures.few
+few_before c = subst (λ (h : HostState). length h.ids ≤ 64) c.forget.ensures.host c.writes_since.ensures.few
 
-writes_are : (c : goal.After-writes_of) → c.writes_of.result ≡ writes_without c.args.self.now c.args.pool
+writes_are : (c : goal.After-writes_since) → c.writes_since.result ≡ writes_without c.args.self.now c.args.pool
 unfolding writes_without
-writes_are c = c.writes_of.ensures.writes ∙ ap (λ h. writes_of h c.args.pool) c.forget.ensures.host
+writes_are c = c.writes_since.ensures.writes ∙ (λ i. writes_of (c.forget.ensures.host i) c.args.pool (c.function-before.ensures.value i))
 
 pub returns-clause-others : goal.returns-clause-others
 returns-clause-others c = λ q small other. rw c.forget.ensures.host (reset_others c.args.self.now c.args.pool q c.forget.ensures.pool (few_before c) small other)

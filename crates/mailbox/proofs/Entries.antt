@@ -7,8 +7,8 @@ use Rattle.std.proofs.lemmas.Nat.Bits.{bit_at-pow_same, bit_at-pow_other}
 use Rattle.std.proofs.lemmas.List.FromFn.{get_or-map-range_with_len}
 use Rattle.wire_frame.specs.Bits.{has_bit, has_bit_in, two_words}
 use Rattle.wire_frame.proofs.BitLemmas.{has_bit_zero}
-use Rattle.mailbox.specs.Host.{HostState}
-use Rattle.mailbox.specs.Words.{table, mask_from, pool_word, has_joined, member_word, is_up, up_word}
+use Rattle.mailbox.specs.State.{HostState}
+use Rattle.mailbox.specs.Words.{table, mask_from, pool_word, joined_at, member_word, up_at, up_word}
 use Rattle.mailbox.proofs.Masks.{has_bit_mask}
 
 -- a word of a table is the one of its place
@@ -62,19 +62,19 @@ mask_or_none true t half q is = has_bit_mask t (32 * half) 32 (q % 32) (omega ar
 mask_or_none false t half q is = has_bit_zero (q % 32)
 
 -- a VLAN entry has the pools that joined
-pub entry_member : (h : HostState) (k q : ℕ) → k < 64 → q < 64 → has_bit_in (two_words (table 128 (member_word h)) k) q ≡ (ltb (2 * k + q / 32) (2 * length h.ids) && has_joined h k q)
+pub entry_member : (h : HostState) (k q : ℕ) → k < 64 → q < 64 → has_bit_in (two_words (table 128 (member_word h)) k) q ≡ (ltb (2 * k + q / 32) (2 * length h.ids) && joined_at h k q)
 entry_member h k q small below =
     let at_entry : (2 * k + q / 32) / 2 ≡ k = omega arith in
     let part : (2 * k + q / 32) % 2 ≡ q / 32 = omega arith in
     let place : 32 * (q / 32) + q % 32 ≡ q = omega arith in
     two_words_at (table 128 (member_word h)) k q below
     ∙ ap (λ w. has_bit w (q % 32)) (table_at (member_word h) 128 (2 * k + q / 32) (omega arith))
-    ∙ (λ i. has_bit (cond (ltb (2 * k + q / 32) (2 * length h.ids)) (mask_from (has_joined h (at_entry i)) (32 * part i) 32) 0) (q % 32))
-    ∙ mask_or_none (ltb (2 * k + q / 32) (2 * length h.ids)) (has_joined h k) (q / 32) q place
+    ∙ (λ i. has_bit (cond (ltb (2 * k + q / 32) (2 * length h.ids)) (mask_from (joined_at h (at_entry i)) (32 * part i) 32) 0) (q % 32))
+    ∙ mask_or_none (ltb (2 * k + q / 32) (2 * length h.ids)) (joined_at h k) (q / 32) q place
 
 -- the pools that may receive and transmit are those whose functions are up
-pub up_bit : (h : HostState) (q : ℕ) → q < 64 → has_bit_in (table 2 (up_word h)) q ≡ is_up h q
+pub up_bit : (h : HostState) (q : ℕ) → q < 64 → has_bit_in (table 2 (up_word h)) q ≡ up_at h q
 up_bit h q below =
     let place : 32 * (q / 32) + q % 32 ≡ q = omega arith in
     ap (λ w. has_bit w (q % 32)) (table_at (up_word h) 2 (q / 32) (omega arith))
-    ∙ has_bit_mask (is_up h) (32 * (q / 32)) 32 (q % 32) (omega arith) ∙ ap (is_up h) place
+    ∙ has_bit_mask (up_at h) (32 * (q / 32)) 32 (q % 32) (omega arith) ∙ ap (up_at h) place

@@ -10,9 +10,9 @@ use Rattle.addr_tables.specs.Addresses.{initial_addresses, addresses_after}
 use Rattle.vlan_table.specs.Vlans.{initial_vlans, vlans_after}
 use Rattle.mailbox.specs.declared.start.Register.{Register}
 use Rattle.mailbox.specs.declared.start.Register.TheVariants.{SourceChecks, LowAddress, HighAddress, AddressPools, MulticastTable, MulticastControl, VlanControl, VlanTable, VlanIds, VlanPools, PoolControl, PortVlans, Loopback, PoolFlags, ReceiveEnable, TransmitEnable}
-use Rattle.mailbox.specs.Host.{HostState, function_at}
+use Rattle.mailbox.specs.State.{HostState, slot_at}
 use Rattle.mailbox.specs.Start.{registers, row_of, word_of, register_writes, writes_to, first_writes, IsWhole}
-use Rattle.mailbox.specs.Words.{table, is_up, control_word, addresses_of, vlans_of, settings_of}
+use Rattle.mailbox.specs.Words.{table, up_at, control_word, addresses_of, vlans_of, settings_of}
 use Rattle.std.specs.List.{slice_get}
 use Rattle.std.proofs.Math.Seq.{drop-cons}
 use Rattle.std.proofs.lemmas.Bool.Decides.{nat_tests}
@@ -115,12 +115,12 @@ rows_first h s whole = λ i. record {
     pools = made h VlanPools (take 9 registers) (drop 10 registers) s.vlans.pools refl refl (kept_members h) whole.vlan_pools i;
   };
   pool_control = controls i;
-  receive_enable = made h ReceiveEnable (take 14 registers) (drop 15 registers) s.receive_enable refl refl (λ j. kept_mask (is_up h) (32 * j)) whole.receive_enable i;
-  transmit_enable = made h TransmitEnable (take 15 registers) (drop 16 registers) s.transmit_enable refl refl (λ j. kept_mask (is_up h) (32 * j)) whole.transmit_enable i;
-  port_vlans = made h PortVlans (take 11 registers) (drop 12 registers) s.port_vlans refl refl (λ j. kept_port (function_at h j)) whole.port_vlans i;
+  receive_enable = made h ReceiveEnable (take 14 registers) (drop 15 registers) s.receive_enable refl refl (λ j. kept_mask (up_at h) (32 * j)) whole.receive_enable i;
+  transmit_enable = made h TransmitEnable (take 15 registers) (drop 16 registers) s.transmit_enable refl refl (λ j. kept_mask (up_at h) (32 * j)) whole.transmit_enable i;
+  port_vlans = made h PortVlans (take 11 registers) (drop 12 registers) s.port_vlans refl refl (λ j. kept_port h.ids (slot_at h j)) whole.port_vlans i;
   sender_checks = made h SourceChecks (take 0 registers) (drop 1 registers) s.sender_checks refl refl (λ j. refl) whole.sender_checks i;
   loopback = kept_one h Loopback PFDTXGSWC (kept_of PFDTXGSWC_KEPT) s.loopback (take 12 registers) (drop 13 registers) refl refl refl i;
-  pool_flags = made h PoolFlags (take 13 registers) (drop 14 registers) s.pool_flags refl refl (λ j. kept_flags (function_at h j)) whole.pool_flags i;
+  pool_flags = made h PoolFlags (take 13 registers) (drop 14 registers) s.pool_flags refl refl (λ j. kept_flags (slot_at h j)) whole.pool_flags i;
 }
   where
     controls : word_after PF_VT_CTL control_of s.pool_control (writes_in (register_parts h registers)) ≡ control_word h.default_pool

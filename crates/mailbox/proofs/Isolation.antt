@@ -16,28 +16,29 @@ use Rattle.pool_filter.specs.Own.{addresses_of as own_addresses, vlan_ids_of as 
 use Rattle.pool_filter.specs.Accepts.{flags_of, takes_kind, takes_group, is_in_vlan, accepts}
 use Rattle.pool_filter.proofs.OwnLemmas.{contains_own_addresses, contains_own_vlan_ids}
 use Rattle.anti_spoof.specs.Permitted.{permitted}
-use Rattle.mailbox.specs.declared.function.Function.{Function}
-use Rattle.mailbox.specs.Function.{absent}
-use Rattle.mailbox.specs.Host.{HostState, function_at, with_function}
+use Rattle.mailbox.specs.declared.slot.Slot.{Slot}
+use Rattle.mailbox.specs.declared.slot.Slot.TheVariants.{Absent}
+use Rattle.mailbox.specs.Slot.{own_address, second_address}
+use Rattle.mailbox.specs.State.{HostState, slot_at, with_slot}
 use Rattle.mailbox.specs.Words.{entry}
 use Rattle.mailbox.specs.Isolation.{IsSameFor, IsSameForAll}
 use Rattle.mailbox.proofs.Alike.{filtered_alike}
 
 -- ---- what other functions were, they are
 
-pub function_stays : (h : HostState) (p q : ℕ) (f : Function) → q ≢ p → function_at (with_function h p f) q ≡ function_at h q
-function_stays h p q f other = get_or-set_other h.functions p q f absent other
+pub slot_stays : (h : HostState) (p q : ℕ) (f : Slot) → q ≢ p → slot_at (with_slot h p f) q ≡ slot_at h q
+slot_stays h p q f other = get_or-set_other h.slots p q f Absent other
 
 -- an entry of pool q holds what it held
-pub entry_stays : (h : HostState) (p q e : ℕ) (f : Function) → q ≢ p → e < 128 → e % 64 ≡ q → entry (with_function h p f) e ≡ entry h e
+pub entry_stays : (h : HostState) (p q e : ℕ) (f : Slot) → q ≢ p → e < 128 → e % 64 ≡ q → entry (with_slot h p f) e ≡ entry h e
 entry_stays h p q e f other below is = go (ltb e 64) refl
   where
     k : HostState
-    k = with_function h p f
+    k = with_slot h p f
 
-    go : (b : Bool) → ltb e 64 ≡ b → cond b (function_at k e).address (function_at k (e - 64)).second ≡ cond b (function_at h e).address (function_at h (e - 64)).second
-    go true here = let past = ltb-true e 64 here in ap (λ g. g.address) (function_stays h p e f (λ same. other (omega (arith, is, same, past))))
-    go false there = let past = ltb-false e 64 there in ap (λ g. g.second) (function_stays h p (e - 64) f (λ same. other (omega (arith, is, same, past))))
+    go : (b : Bool) → ltb e 64 ≡ b → cond b (own_address (slot_at k e)) (second_address (slot_at k (e - 64))) ≡ cond b (own_address (slot_at h e)) (second_address (slot_at h (e - 64)))
+    go true here = let past = ltb-true e 64 here in ap own_address (slot_stays h p e f (λ same. other (omega (arith, is, same, past))))
+    go false there = let past = ltb-false e 64 there in ap second_address (slot_stays h p (e - 64) f (λ same. other (omega (arith, is, same, past))))
 
 -- ---- settings that agree at the words of a pool
 

@@ -1,13 +1,17 @@
 -- The words of a host are words that their registers keep.
-use Rattle.std.proofs.Common.{arith, ◌≡◌, ℕ, zero, suc, ◌+◌, ◌*◌, ◌/◌, ◌%◌, ◌^◌, ◌<◌, ◌≤◌, Bool, true, false, cond, ◌||◌, Option, Some, None, is_none, length, get_or, refl, ap, ◌∙◌, eqb, eqb-true, ltb, bit_and, bit_or}
+use Rattle.std.proofs.Common.{arith, ◌≡◌, ℕ, zero, suc, ◌+◌, ◌*◌, ◌/◌, ◌%◌, ◌^◌, ◌<◌, ◌≤◌, Bool, true, false, cond, ◌||◌, Option, Some, None, List, length, get_or, refl, ap, ◌∙◌, eqb, eqb-true, ltb, bit_and, bit_or}
 use Rattle.std.specs.List.{list_all, range_with_len}
 use Rattle.std.proofs.Math.Nat.{pow-le-pow_right}
 use Rattle.std.proofs.lemmas.Bool.{and_parts}
 use Rattle.std.proofs.lemmas.Nat.{and_mask, and_block}
-use Rattle.mailbox.specs.declared.function.Function.{Function}
-use Rattle.mailbox.specs.Function.{low_part}
-use Rattle.mailbox.specs.Host.{HostState}
-use Rattle.mailbox.specs.Words.{mask_from, entry, low_word, valid, high_word, pool_word, id_word, member_word, has_joined, flags_word, inserted, port_word, control_word}
+use Rattle.mailbox.specs.declared.slot.Slot.{Slot}
+use Rattle.mailbox.specs.declared.slot.Guest.{Guest}
+use Rattle.mailbox.specs.declared.slot.Slot.TheVariants.{Absent, Admitted}
+use Rattle.mailbox.specs.Address.{low_part}
+use Rattle.mailbox.specs.Policy.{port_of}
+use Rattle.mailbox.specs.Slot.{guest_of, has_port}
+use Rattle.mailbox.specs.State.{HostState}
+use Rattle.mailbox.specs.Words.{mask_from, entry, low_word, valid, high_word, pool_word, id_word, member_word, joined_at, is_all, flags_with, flags_word, inserted, port_word, control_word}
 use Rattle.mailbox.proofs.Masks.{mask_below}
 
 -- ---- masks
@@ -73,8 +77,8 @@ kept_mask t first = kept_whole (mask_from t first 32) (mask_below t first 32)
 pub kept_members : (h : HostState) (i : ℕ) → bit_and (member_word h i) 0xFFFFFFFF ≡ member_word h i
 kept_members h i = go (ltb i (2 * length h.ids))
   where
-    go : (b : Bool) → bit_and (cond b (mask_from (has_joined h (i / 2)) (32 * (i % 2)) 32) 0) 0xFFFFFFFF ≡ cond b (mask_from (has_joined h (i / 2)) (32 * (i % 2)) 32) 0
-    go true = kept_mask (has_joined h (i / 2)) (32 * (i % 2))
+    go : (b : Bool) → bit_and (cond b (mask_from (joined_at h (i / 2)) (32 * (i % 2)) 32) 0) 0xFFFFFFFF ≡ cond b (mask_from (joined_at h (i / 2)) (32 * (i % 2)) 32) 0
+    go true = kept_mask (joined_at h (i / 2)) (32 * (i % 2))
     go false = refl
 
 pub kept_id : (h : HostState) (k : ℕ) → bit_and (id_word h k) 0x80000FFF ≡ id_word h k
@@ -86,26 +90,29 @@ kept_id h k = go (ltb k (length h.ids))
 
 -- ---- pools
 
-pub kept_flags : (f : Function) → bit_and (flags_word f) 0x1B000000 ≡ flags_word f
-kept_flags f = go f.is_up (is_none f.port) (f.groups || eqb f.mode 2)
+pub kept_flags : (s : Slot) → bit_and (flags_word s) 0x1B000000 ≡ flags_word s
+kept_flags s = go (has_port s) (guest_of s)
   where
-    go : (a b c : Bool) → bit_and (cond a (2 ^ 27 + cond b (2 ^ 24) 0 + cond c (2 ^ 28) 0) 0) 0x1B000000 ≡ cond a (2 ^ 27 + cond b (2 ^ 24) 0 + cond c (2 ^ 28) 0) 0
-    go true true true = refl
-    go true true false = refl
-    go true false true = refl
-    go true false false = refl
-    go false b c = refl
+    bits : (b c d : Bool) → bit_and (2 ^ 27 + cond b 0 (2 ^ 24) + cond (c || d) (2 ^ 28) 0) 0x1B000000 ≡ 2 ^ 27 + cond b 0 (2 ^ 24) + cond (c || d) (2 ^ 28) 0
+    bits true true d = refl
+    bits true false true = refl
+    bits true false false = refl
+    bits false true d = refl
+    bits false false true = refl
+    bits false false false = refl
 
-inserted_kept : (id : Option ℕ) → bit_and (inserted id) 0xC000FFFF ≡ inserted id
+    go : (port : Bool) (guest : Option Guest) → bit_and (flags_with port guest) 0x1B000000 ≡ flags_with port guest
+    go port None = refl
+    go port (Some g) = bits port g.groups (is_all g.multicast)
+
+inserted_kept : (a : Option ℕ) → bit_and (inserted a) 0xC000FFFF ≡ inserted a
 inserted_kept None = refl
 inserted_kept (Some id) = tag_kept (id % 4096) (omega arith)
 
-pub kept_port : (f : Function) → bit_and (port_word f) 0xC000FFFF ≡ port_word f
-kept_port f = go f.is_up
-  where
-    go : (b : Bool) → bit_and (cond b (inserted f.port) 0) 0xC000FFFF ≡ cond b (inserted f.port) 0
-    go true = inserted_kept f.port
-    go false = refl
+pub kept_port : (ids : List ℕ) (s : Slot) → bit_and (port_word ids s) 0xC000FFFF ≡ port_word ids s
+kept_port ids Absent = refl
+kept_port ids (Admitted policy None) = refl
+kept_port ids (Admitted policy (Some g)) = inserted_kept (port_of ids policy.vlans)
 
 -- a test of all numbers of a range
 all_at : (t : ℕ → Bool) (a n i : ℕ) → list_all t (range_with_len a n) ≡ true → i < n → t (a + i) ≡ true

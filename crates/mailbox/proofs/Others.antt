@@ -10,16 +10,18 @@ use Rattle.addr_tables.specs.Addresses.{multicast_hit}
 use Rattle.vlan_table.specs.Vlans.{is_filtering}
 use Rattle.pool_filter.specs.Map.{one_row}
 use Rattle.pool_filter.specs.Settings.{Settings}
-use Rattle.mailbox.specs.declared.function.Function.{Function}
+use Rattle.mailbox.specs.declared.slot.Slot.{Slot}
 use Rattle.mailbox.specs.declared.message.Message.{Message}
 use Rattle.mailbox.specs.declared.writes.Write.{Write}
-use Rattle.mailbox.specs.Function.{gone}
-use Rattle.mailbox.specs.Host.{HostState, function_at, with_function, outcome, host_with, host_after, host_without}
+use Rattle.mailbox.specs.declared.slot.Guest.{Guest}
+use Rattle.mailbox.specs.Slot.{is_up, has_joined, with_guest}
+use Rattle.mailbox.specs.State.{HostState, slot_at, with_slot}
+use Rattle.mailbox.specs.Host.{outcome, host_with, host_after, host_without}
 use Rattle.mailbox.specs.Isolation.{IsSameFor, IsSameForAll}
-use Rattle.mailbox.specs.Words.{table, low_word, high_word, pool_word, table_word, id_word, member_word, has_joined, is_up, up_word, flags_word, port_word, control_word, addresses_of, vlans_of, settings_of}
+use Rattle.mailbox.specs.Words.{table, low_word, high_word, pool_word, table_word, id_word, member_word, joined_at, up_at, up_word, flags_word, port_word, control_word, addresses_of, vlans_of, settings_of}
 use Rattle.mailbox.specs.Writes.{writes_of, after_writes, writes_with, writes_after, writes_without}
 use Rattle.mailbox.proofs.Entries.{table_at, entry_pool, two_words_at, mask_or_none}
-use Rattle.mailbox.proofs.Isolation.{function_stays, Agrees, agrees_same}
+use Rattle.mailbox.proofs.Isolation.{slot_stays, Agrees, agrees_same}
 use Rattle.mailbox.proofs.Kept.{kept_mask, kept_members}
 use Rattle.mailbox.proofs.Masks.{has_bit_mask}
 use Rattle.mailbox.proofs.Rows.{row_after, word_after, writes_in, AllFit, all_far, Among, Each, each_front, each_far, Spares, row_spared, word_spared, Gives, Giving, parts_give, row_holds}
@@ -39,17 +41,17 @@ abbrev pub HoldsBit : Bool → ℕ → ℕ → ℕ → Type 0
 HoldsBit b q j x = j ≡ q / 32 → has_bit x (q % 32) ≡ b
 
 abbrev pub HoldsJoin : HostState → ℕ → ℕ → ℕ → Type 0
-HoldsJoin h q j x = j < 128 → j % 2 ≡ q / 32 → has_bit x (q % 32) ≡ (ltb j (2 * length h.ids) && has_joined h (j / 2) q)
+HoldsJoin h q j x = j < 128 → j % 2 ≡ q / 32 → has_bit x (q % 32) ≡ (ltb j (2 * length h.ids) && joined_at h (j / 2) q)
 
-member_bit : (h : HostState) (q j : ℕ) → q < 64 → j % 2 ≡ q / 32 → has_bit (member_word h j) (q % 32) ≡ (ltb j (2 * length h.ids) && has_joined h (j / 2) q)
+member_bit : (h : HostState) (q j : ℕ) → q < 64 → j % 2 ≡ q / 32 → has_bit (member_word h j) (q % 32) ≡ (ltb j (2 * length h.ids) && joined_at h (j / 2) q)
 member_bit h q j small half =
     let place : 32 * (j % 2) + q % 32 ≡ q = omega (arith, half) in
-    mask_or_none (ltb j (2 * length h.ids)) (has_joined h (j / 2)) (j % 2) q place
+    mask_or_none (ltb j (2 * length h.ids)) (joined_at h (j / 2)) (j % 2) q place
 
-up_word_bit : (h : HostState) (q j : ℕ) → q < 64 → j ≡ q / 32 → has_bit (up_word h j) (q % 32) ≡ is_up h q
+up_word_bit : (h : HostState) (q j : ℕ) → q < 64 → j ≡ q / 32 → has_bit (up_word h j) (q % 32) ≡ up_at h q
 up_word_bit h q j small half =
     let place : 32 * j + q % 32 ≡ q = omega (arith, half) in
-    has_bit_mask (is_up h) (32 * j) 32 (q % 32) (omega arith) ∙ ap (is_up h) place
+    has_bit_mask (up_at h) (32 * j) 32 (q % 32) (omega arith) ∙ ap (up_at h) place
 
 -- ---- what all pools have
 
@@ -64,7 +66,7 @@ all_from s t loopback filtering pool hashes control = record {
 
 -- ---- the pool's words after some of the writes
 
-meanwhile : (h : HostState) (p q : ℕ) (f : Function) (done left : List Write) → p < 64 → length h.ids ≤ 64 → q < 64 → q ≢ p → done ++ left ≡ writes_in (parts (with_function h p f) p (function_at h p)) → Agrees (settings_of h) (rows_after (settings_of h) done) q
+meanwhile : (h : HostState) (p q : ℕ) (f : Slot) (done left : List Write) → p < 64 → length h.ids ≤ 64 → q < 64 → q ≢ p → done ++ left ≡ writes_in (parts (with_slot h p f) p (slot_at h p)) → Agrees (settings_of h) (rows_after (settings_of h) done) q
 unfolding settings_of addresses_of vlans_of
 meanwhile h p q f done left small few q_small other is = record {
   mine = λ e below. entry_pool e q below q_small;
@@ -76,9 +78,9 @@ meanwhile h p q f done left small few q_small other is = record {
   members = λ m below. joins m below;
   receives = up_bits (table 2 (up_word h)) (old_up (q / 32) refl) ∙ sym (receive_bits (q / 32) refl);
   transmits = up_bits (table 2 (up_word h)) (old_up (q / 32) refl) ∙ sym (transmit_bits (q / 32) refl);
-  port = table_at (λ n. port_word (function_at h n)) 64 q q_small ∙ sym (ports q refl);
+  port = table_at (λ n. port_word h.ids (slot_at h n)) 64 q q_small ∙ sym (ports q refl);
   checks = sym (spared PFVFSPOOF (replicate 8 0xFFFF) refl);
-  flags = table_at (λ n. flags_word (function_at h n)) 64 q q_small ∙ sym (flag_words q refl);
+  flags = table_at (λ n. flags_word (slot_at h n)) 64 q q_small ∙ sym (flag_words q refl);
   all = all_from (settings_of h) (rows_after (settings_of h) done)
       (sym (word_spare PFDTXGSWC (kept_of PFDTXGSWC_KEPT) 1 refl))
       (sym (word_spare VLNCTRL (kept_of VLNCTRL_KEPT) (2 ^ 30) refl))
@@ -88,23 +90,23 @@ meanwhile h p q f done left small few q_small other is = record {
 }
   where
     k : HostState
-    k = with_function h p f
+    k = with_slot h p f
 
-    fit : AllFit (parts k p (function_at h p))
-    fit = parts_fit k p (function_at h p) small few
+    fit : AllFit (parts k p (slot_at h p))
+    fit = parts_fit k p (slot_at h p) small few
 
-    front : (P : Write → Type 0) → Each P (writes_in (parts k p (function_at h p))) → Each P done
+    front : (P : Write → Type 0) → Each P (writes_in (parts k p (slot_at h p))) → Each P done
     front P each = each_front P done left (subst (Each P) (sym is) each)
 
-    spared : (row : Row) (words : List ℕ) → all_far row (parts k p (function_at h p)) ≡ true → row_after row words done ≡ words
-    spared row words far = row_spared row words done (front (Spares row) (each_far row (parts k p (function_at h p)) far fit))
+    spared : (row : Row) (words : List ℕ) → all_far row (parts k p (slot_at h p)) ≡ true → row_after row words done ≡ words
+    spared row words far = row_spared row words done (front (Spares row) (each_far row (parts k p (slot_at h p)) far fit))
 
-    word_spare : (first : ℕ) (keep : ℕ → ℕ) (word : ℕ) → all_far (one_row first) (parts k p (function_at h p)) ≡ true → word_after first keep word done ≡ word
-    word_spare first keep word far = word_spared first keep word done (front (Spares (one_row first)) (each_far (one_row first) (parts k p (function_at h p)) far fit))
+    word_spare : (first : ℕ) (keep : ℕ → ℕ) (word : ℕ) → all_far (one_row first) (parts k p (slot_at h p)) ≡ true → word_after first keep word done ≡ word
+    word_spare first keep word far = word_spared first keep word done (front (Spares (one_row first)) (each_far (one_row first) (parts k p (slot_at h p)) far fit))
 
     -- what holds of the words of a row, and of those that are written, holds of them at every moment
-    holds_on : (row : Row) (P : ℕ → ℕ → Type 0) (words : List ℕ) → ((j : ℕ) → P j (get_or words j 0)) → Among row (Giving row P) (parts k p (function_at h p)) → (j : ℕ) → P j (get_or (row_after row words done) j 0)
-    holds_on row P words old among = row_holds row P words done old (front (Gives row P) (parts_give row P (parts k p (function_at h p)) among fit))
+    holds_on : (row : Row) (P : ℕ → ℕ → Type 0) (words : List ℕ) → ((j : ℕ) → P j (get_or words j 0)) → Among row (Giving row P) (parts k p (slot_at h p)) → (j : ℕ) → P j (get_or (row_after row words done) j 0)
+    holds_on row P words old among = row_holds row P words done old (front (Gives row P) (parts_give row P (parts k p (slot_at h p)) among fit))
 
     -- p's own entries are none of q's, and its words neither
     first_out : (word : HostState → ℕ → ℕ) (j x : ℕ) → p ≤ j → j < p + 1 → HoldsEntry h word q j x
@@ -116,8 +118,8 @@ meanwhile h p q f done left small few q_small other is = record {
     word_out : (word j x : ℕ) → p ≤ j → j < p + 1 → HoldsWord word q j x
     word_out word j x past below at = absurd (other (omega (arith, past, below, at)))
 
-    same : function_at k q ≡ function_at h q
-    same = function_stays h p q f other
+    same : slot_at k q ≡ slot_at h q
+    same = slot_stays h p q f other
 
     lows : (e : ℕ) → HoldsEntry h low_word q e (get_or (row_after RAL (table 128 (low_word h)) done) e 0)
     lows = holds_on RAL (HoldsEntry h low_word q) (table 128 (low_word h)) (λ e below at. table_at (low_word h) 128 e below)
@@ -127,38 +129,38 @@ meanwhile h p q f done left small few q_small other is = record {
     highs = holds_on RAH (HoldsEntry h high_word q) (table 128 (high_word h)) (λ e below at. table_at (high_word h) 128 e below)
         ((refl, λ j. first_out high_word j _), (refl, ((refl, λ j. first_out high_word j _), ((refl, λ j. second_out high_word j _), (refl, ((refl, λ j. second_out high_word j _), (refl, (refl, (refl, (refl, (refl, tt)))))))))))
 
-    flag_words : (j : ℕ) → HoldsWord (flags_word (function_at h q)) q j (get_or (row_after VMOLR (table 64 (λ n. flags_word (function_at h n))) done) j 0)
-    flag_words = holds_on VMOLR (HoldsWord (flags_word (function_at h q)) q) (table 64 (λ n. flags_word (function_at h n)))
-        (λ j at. table_at (λ n. flags_word (function_at h n)) 64 j (omega (arith, at, q_small)) ∙ ap (λ n. flags_word (function_at h n)) at)
-        (refl, (refl, (refl, (refl, (refl, (refl, ((refl, λ j. word_out (flags_word (function_at h q)) j _), (refl, (refl, (refl, (refl, tt)))))))))))
+    flag_words : (j : ℕ) → HoldsWord (flags_word (slot_at h q)) q j (get_or (row_after VMOLR (table 64 (λ n. flags_word (slot_at h n))) done) j 0)
+    flag_words = holds_on VMOLR (HoldsWord (flags_word (slot_at h q)) q) (table 64 (λ n. flags_word (slot_at h n)))
+        (λ j at. table_at (λ n. flags_word (slot_at h n)) 64 j (omega (arith, at, q_small)) ∙ ap (λ n. flags_word (slot_at h n)) at)
+        (refl, (refl, (refl, (refl, (refl, (refl, ((refl, λ j. word_out (flags_word (slot_at h q)) j _), (refl, (refl, (refl, (refl, tt)))))))))))
 
-    ports : (j : ℕ) → HoldsWord (port_word (function_at h q)) q j (get_or (row_after VMVIR (table 64 (λ n. port_word (function_at h n))) done) j 0)
-    ports = holds_on VMVIR (HoldsWord (port_word (function_at h q)) q) (table 64 (λ n. port_word (function_at h n)))
-        (λ j at. table_at (λ n. port_word (function_at h n)) 64 j (omega (arith, at, q_small)) ∙ ap (λ n. port_word (function_at h n)) at)
-        (refl, (refl, (refl, (refl, (refl, (refl, (refl, ((refl, λ j. word_out (port_word (function_at h q)) j _), (refl, (refl, (refl, tt)))))))))))
+    ports : (j : ℕ) → HoldsWord (port_word h.ids (slot_at h q)) q j (get_or (row_after VMVIR (table 64 (λ n. port_word h.ids (slot_at h n))) done) j 0)
+    ports = holds_on VMVIR (HoldsWord (port_word h.ids (slot_at h q)) q) (table 64 (λ n. port_word h.ids (slot_at h n)))
+        (λ j at. table_at (λ n. port_word h.ids (slot_at h n)) 64 j (omega (arith, at, q_small)) ∙ ap (λ n. port_word h.ids (slot_at h n)) at)
+        (refl, (refl, (refl, (refl, (refl, (refl, (refl, ((refl, λ j. word_out (port_word h.ids (slot_at h q)) j _), (refl, (refl, (refl, tt)))))))))))
 
     -- the bit of q in a word of pools
-    old_up : (j : ℕ) → HoldsBit (is_up h q) q j (get_or (table 2 (up_word h)) j 0)
+    old_up : (j : ℕ) → HoldsBit (up_at h q) q j (get_or (table 2 (up_word h)) j 0)
     old_up j half = ap (λ w. has_bit w (q % 32)) (table_at (up_word h) 2 j (omega (arith, half, q_small))) ∙ up_word_bit h q j q_small half
 
-    new_up : (j : ℕ) → HoldsBit (is_up h q) q j (bit_and (up_word k j) 0xFFFFFFFF)
-    new_up j half = ap (λ w. has_bit w (q % 32)) (kept_mask (is_up k) (32 * j)) ∙ up_word_bit k q j q_small half ∙ ap (λ g. g.is_up) same
+    new_up : (j : ℕ) → HoldsBit (up_at h q) q j (bit_and (up_word k j) 0xFFFFFFFF)
+    new_up j half = ap (λ w. has_bit w (q % 32)) (kept_mask (up_at k) (32 * j)) ∙ up_word_bit k q j q_small half ∙ ap (λ g. (is_up g)) same
 
-    up_bits : (words : List ℕ) → has_bit (get_or words (q / 32) 0) (q % 32) ≡ is_up h q → has_bit_in words q ≡ is_up h q
+    up_bits : (words : List ℕ) → has_bit (get_or words (q / 32) 0) (q % 32) ≡ up_at h q → has_bit_in words q ≡ up_at h q
     up_bits words bit = bit
 
-    receive_bits : (j : ℕ) → HoldsBit (is_up h q) q j (get_or (row_after PFVFRE (table 2 (up_word h)) done) j 0)
-    receive_bits = holds_on PFVFRE (HoldsBit (is_up h q) q) (table 2 (up_word h)) old_up
+    receive_bits : (j : ℕ) → HoldsBit (up_at h q) q j (get_or (row_after PFVFRE (table 2 (up_word h)) done) j 0)
+    receive_bits = holds_on PFVFRE (HoldsBit (up_at h q) q) (table 2 (up_word h)) old_up
         (refl, (refl, (refl, (refl, (refl, (refl, (refl, (refl, ((refl, λ j past below. new_up j), (refl, (refl, tt)))))))))))
 
-    transmit_bits : (j : ℕ) → HoldsBit (is_up h q) q j (get_or (row_after PFVFTE (table 2 (up_word h)) done) j 0)
-    transmit_bits = holds_on PFVFTE (HoldsBit (is_up h q) q) (table 2 (up_word h)) old_up
+    transmit_bits : (j : ℕ) → HoldsBit (up_at h q) q j (get_or (row_after PFVFTE (table 2 (up_word h)) done) j 0)
+    transmit_bits = holds_on PFVFTE (HoldsBit (up_at h q) q) (table 2 (up_word h)) old_up
         (refl, (refl, (refl, (refl, (refl, (refl, (refl, (refl, (refl, ((refl, λ j past below. new_up j), (refl, tt)))))))))))
 
     new_join : (j : ℕ) → HoldsJoin h q j (bit_and (member_word k j) 0xFFFFFFFF)
     new_join j below half =
         ap (λ w. has_bit w (q % 32)) (kept_members k j) ∙ member_bit k q j q_small half
-        ∙ ap (λ g. ltb j (2 * length h.ids) && has_bit g.joined (j / 2)) same
+        ∙ ap (λ g. ltb j (2 * length h.ids) && has_joined g (j / 2)) same
 
     join_bits : (j : ℕ) → HoldsJoin h q j (get_or (row_after VLVFB (table 128 (member_word h)) done) j 0)
     join_bits = holds_on VLVFB (HoldsJoin h q) (table 128 (member_word h))
@@ -178,10 +180,10 @@ meanwhile h p q f done left small few q_small other is = record {
 
 -- ---- the theorem
 
-pub others_meanwhile : (h : HostState) (p q : ℕ) (f : Function) (done left : List Write) → p < 64 → length h.ids ≤ 64 → q < 64 → q ≢ p → done ++ left ≡ writes_of (with_function h p f) p (function_at h p) → IsSameFor (settings_of h) (after_writes (settings_of h) done) q
+pub others_meanwhile : (h : HostState) (p q : ℕ) (f : Slot) (done left : List Write) → p < 64 → length h.ids ≤ 64 → q < 64 → q ≢ p → done ++ left ≡ writes_of (with_slot h p f) p (slot_at h p) → IsSameFor (settings_of h) (after_writes (settings_of h) done) q
 others_meanwhile h p q f done left small few q_small other is =
     subst (λ (t : Settings). IsSameFor (settings_of h) t q) (sym (by_rows (settings_of h) done))
-    (agrees_same (settings_of h) (rows_after (settings_of h) done) q (meanwhile h p q f done left small few q_small other (is ∙ in_parts (with_function h p f) p (function_at h p))))
+    (agrees_same (settings_of h) (rows_after (settings_of h) done) q (meanwhile h p q f done left small few q_small other (is ∙ in_parts (with_slot h p f) p (slot_at h p))))
 
 same_itself : (s : Settings) (q : ℕ) → IsSameFor s s q
 same_itself s q = record { settings = refl; accepts = λ frame. refl; permitted = λ frame. refl }
@@ -194,9 +196,9 @@ nothing_done s q (w ∷ ws) left is = absurd (some_written (ap length is))
     some_written : suc (length (ws ++ left)) ≡ 0 → ⊥
     some_written e = omega (arith, e)
 
-while_answered : (h : HostState) (p q : ℕ) (done left : List Write) → p < 64 → length h.ids ≤ 64 → q < 64 → q ≢ p → (o : Option Function) → done ++ left ≡ writes_with h p o → IsSameFor (settings_of h) (after_writes (settings_of h) done) q
+while_answered : (h : HostState) (p q : ℕ) (done left : List Write) → p < 64 → length h.ids ≤ 64 → q < 64 → q ≢ p → (o : Option Guest) → done ++ left ≡ writes_with h p o → IsSameFor (settings_of h) (after_writes (settings_of h) done) q
 while_answered h p q done left small few q_small other None is = nothing_done (settings_of h) q done left is
-while_answered h p q done left small few q_small other (Some f) is = others_meanwhile h p q f done left small few q_small other is
+while_answered h p q done left small few q_small other (Some g) is = others_meanwhile h p q (with_guest (slot_at h p) (Some g)) done left small few q_small other is
 
 -- a message
 pub message_meanwhile : (h : HostState) (p q : ℕ) (message : Message) (done left : List Write) → p < 64 → length h.ids ≤ 64 → q < 64 → q ≢ p → done ++ left ≡ writes_after h p message → IsSameFor (settings_of h) (after_writes (settings_of h) done) q
@@ -211,7 +213,7 @@ message_others h p q message small few q_small other =
 -- a reset
 pub reset_meanwhile : (h : HostState) (p q : ℕ) (done left : List Write) → p < 64 → length h.ids ≤ 64 → q < 64 → q ≢ p → done ++ left ≡ writes_without h p → IsSameFor (settings_of h) (after_writes (settings_of h) done) q
 unfolding writes_without host_without
-reset_meanwhile h p q done left small few q_small other is = others_meanwhile h p q (gone (function_at h p)) done left small few q_small other is
+reset_meanwhile h p q done left small few q_small other is = others_meanwhile h p q (with_guest (slot_at h p) None) done left small few q_small other is
 
 pub reset_others : (h : HostState) (p q : ℕ) → p < 64 → length h.ids ≤ 64 → q < 64 → q ≢ p → IsSameFor (settings_of h) (settings_of (host_without h p)) q
 reset_others h p q small few q_small other =
@@ -220,13 +222,13 @@ reset_others h p q small few q_small other =
 
 -- ---- what is the same for all
 
-all_alike : (h : HostState) (p : ℕ) (f : Function) → IsSameForAll (settings_of h) (settings_of (with_function h p f))
+all_alike : (h : HostState) (p : ℕ) (f : Slot) → IsSameForAll (settings_of h) (settings_of (with_slot h p f))
 unfolding settings_of addresses_of vlans_of is_filtering multicast_hit
 all_alike h p f = record { loopback = refl; filtering = refl; default_pool = refl; multicast = λ address. refl }
 
-all_with : (h : HostState) (p : ℕ) (o : Option Function) → IsSameForAll (settings_of h) (settings_of (host_with h p o))
+all_with : (h : HostState) (p : ℕ) (o : Option Guest) → IsSameForAll (settings_of h) (settings_of (host_with h p o))
 all_with h p None = record { loopback = refl; filtering = refl; default_pool = refl; multicast = λ address. refl }
-all_with h p (Some f) = all_alike h p f
+all_with h p (Some g) = all_alike h p (with_guest (slot_at h p) (Some g))
 
 pub message_all : (h : HostState) (p : ℕ) (message : Message) → IsSameForAll (settings_of h) (settings_of (host_after h p message))
 unfolding host_after
@@ -234,4 +236,4 @@ message_all h p message = all_with h p (outcome h p message)
 
 pub reset_all : (h : HostState) (p : ℕ) → IsSameForAll (settings_of h) (settings_of (host_without h p))
 unfolding host_without
-reset_all h p = all_alike h p (gone (function_at h p))
+reset_all h p = all_alike h p (with_guest (slot_at h p) None)

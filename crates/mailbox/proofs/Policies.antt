@@ -1,5 +1,5 @@
 -- No function has more than its policy grants, and no two hold one address: what a host keeps from the first on.
-use Rattle.std.proofs.Common.{arith, ◌≡◌, ◌≢◌, ℕ, ◌+◌, ◌^◌, ◌<◌, ◌≤◌, Bool, true, false, cond, not, ◌&&◌, ◌||◌, List, replicate, length, get_or, Option, Some, None, is_none, refl, sym, ap, subst, ◌∙◌, true≢false, eqb, eqb-true, leb, ltb, ⊎_elim, ◌⊎◌, inl, inr}
+use Rattle.std.proofs.Common.{arith, ◌≡◌, ◌≢◌, ℕ, ◌+◌, ◌^◌, ◌<◌, ◌≤◌, Bool, true, false, cond, not, ◌&&◌, ◌||◌, List, replicate, length, get_or, Option, Some, None, refl, sym, ap, subst, ◌∙◌, true≢false, eqb, eqb-true, leb, ltb, ⊎_elim, ◌⊎◌, inl, inr}
 use Rattle.std.specs.List.{range_with_len}
 use Rattle.std.specs.Int.{bit_not, w64}
 use Rattle.std.proofs.Math.Bool.{or-true}
@@ -10,291 +10,224 @@ use Rattle.std.proofs.lemmas.List.FromFn.{get_or-range_with_len}
 use Rattle.std.proofs.lemmas.List.Folds.{list_any_at}
 use Rattle.wire_frame.specs.Bits.{has_bit, with_bit}
 use Rattle.wire_frame.proofs.BitLemmas.{has_bit_or, has_bit_and, has_bit_zero}
-use Rattle.mailbox.specs.declared.function.Function.{Function}
+use Rattle.mailbox.specs.declared.message.Multicast.{Multicast}
+use Rattle.mailbox.specs.declared.message.Multicast.TheVariants.{Off, Asked, All}
 use Rattle.mailbox.specs.declared.message.Message.{Message}
-use Rattle.mailbox.specs.declared.message.Message.TheVariants.{Reset, SetAddress, SetMulticast, SetVlan, SetFrameLength, SetSecondAddress, NegotiateApi, GetQueues, SetMulticastMode, GetLinkState, Other}
+use Rattle.mailbox.specs.declared.message.Message.TheVariants.{Reset, SetAddress, SetMulticast, JoinVlan, LeaveVlan, SetFrameLength, SetSecondAddress, NegotiateApi, GetQueues, SetMulticastMode, GetLinkState, Other}
 use Rattle.mailbox.specs.declared.policy.Policy.{Policy}
-use Rattle.mailbox.specs.Function.{absent, gone, begun, is_number, is_unicast, holds, may_add, is_version, is_heard, place_from, without_bit, joined_at, vlan_set, second_set, mode_for, mode_set, granted, answered}
-use Rattle.mailbox.specs.Host.{HostState, function_at, with_function, is_taken, other_holds, address_in, host_with, host_after, host_without, outcome, address_of, function_of, is_placed, is_admitted, host_admitting}
-use Rattle.mailbox.specs.Within.{is_granted, may_have, IsWithinPolicy, IsWithin, KeepsPolicies}
-use Rattle.mailbox.specs.Words.{inserted, settings_of}
+use Rattle.mailbox.specs.declared.slot.Guest.{Guest}
+use Rattle.mailbox.specs.declared.slot.Slot.{Slot}
+use Rattle.mailbox.specs.declared.slot.Slot.TheVariants.{Absent, Admitted}
+use Rattle.mailbox.specs.Address.{number_of, is_number, is_unicast}
+use Rattle.mailbox.specs.Granting.{may_add, moved, second_set, place_from, place_where, joined_at, without_bit, left_at, wants_groups, with_multicast, granted, when_reset, answered}
+use Rattle.mailbox.specs.Host.{outcome, host_with, host_after, host_without, is_admitted, host_admitting}
+use Rattle.mailbox.specs.Policy.{is_port, is_port_at, may_join, is_placed, multicast_for}
+use Rattle.mailbox.specs.Slot.{policy_of, is_up, with_guest, begun, has_queues, has_modes, holds}
+use Rattle.mailbox.specs.State.{HostState, slot_at, with_slot, is_taken, other_holds}
+use Rattle.mailbox.specs.Within.{is_granted, may_have, IsGuestWithin, IsWithinPolicy, IsWithin, KeepsPolicies}
+use Rattle.mailbox.specs.Words.{is_all, settings_of}
 use Rattle.mailbox.proofs.Entries.{has_bit_pow}
-use Rattle.mailbox.proofs.Isolation.{function_stays}
+use Rattle.mailbox.proofs.Isolation.{slot_stays}
 use Rattle.mailbox.proofs.Turns.{some_is, none_is, IsAlike, settings_alike}
 
--- ---- what one message makes of a function
+-- ---- what one message makes of a guest
 
--- the address is a new one, which no other function holds
-abbrev pub IsNew : Bool → ℕ → Function → ℕ → Type 0
-IsNew taken asked f a = (asked ≡ a) × ((f.may_choose ≡ true) × ((is_unicast asked ≡ true) × (taken ≡ false)))
+-- the function holds the address, or no other one does
+abbrev pub Has : HostState → ℕ → Policy → Option Guest → ℕ → Type 0
+Has h p policy guest a = (holds (Admitted policy guest) a ≡ true) ⊎ (is_taken h p a ≡ false)
 
-pub record Stays (taken : Bool) (asked : ℕ) (f g : Function) : Type 0 where
-  pub within : IsWithinPolicy g
-  pub held : (a : ℕ) → holds g a ≡ true → (holds f a ≡ true) ⊎ IsNew taken asked f a
-  pub policy : gone f ≡ gone g
+-- a guest that may come after another, or after none
+pub record MayCome (h : HostState) (p : ℕ) (policy : Policy) (before : Option Guest) (g : Guest) : Type 0 where
+  pub within : IsGuestWithin policy g
+  pub address : Has h p policy before g.address
+  pub second : (a : ℕ) → g.second ≡ Some a → Has h p policy before a
 
-stays_itself : (taken : Bool) (asked : ℕ) (f : Function) → IsWithinPolicy f → Stays taken asked f f
-stays_itself taken asked f w = record { within = w; held = λ a there. inl there; policy = refl }
+itself : (a : ℕ) → eqb a a ≡ true
+itself a = grind (arith, nat_tests)
 
-added : (taken : Bool) (f : Function) (asked : ℕ) → may_add taken f asked ≡ true → (f.may_choose ≡ true) × ((is_unicast asked ≡ true) × (taken ≡ false))
-added taken f asked may =
-    let a : (f.may_choose ≡ true) × ((is_unicast asked && not taken) ≡ true) = and_parts f.may_choose (is_unicast asked && not taken) may in
-    let b : (is_unicast asked ≡ true) × (not taken ≡ true) = and_parts (is_unicast asked) (not taken) a.1 in
-    (a.0, (b.0, not-true taken b.1))
+own_held : (policy : Policy) (guest : Option Guest) (a : ℕ) → eqb (number_of policy.address) a ≡ true → holds (Admitted policy guest) a ≡ true
+unfolding holds
+own_held policy guest a is = rw is refl
 
--- it holds what it held, or a new address
-with_held : (taken : Bool) (asked : ℕ) (f g : Function) → f.is_up ≡ true → IsWithinPolicy f → gone f ≡ gone g → g.is_up ≡ true → f.joined ≡ g.joined → f.mode ≡ g.mode
-    → ((a : ℕ) → holds g a ≡ true → (holds f a ≡ true) ⊎ IsNew taken asked f a) → Stays taken asked f g
-with_held taken asked f g up w same now joins modes held = record {
+pub address_held : (policy : Policy) (g : Guest) → holds (Admitted policy (Some g)) g.address ≡ true
+unfolding holds
+address_held policy g = ap (λ b. eqb (number_of policy.address) g.address || (b || is_number g.second g.address)) (itself g.address) ∙ or-true (eqb (number_of policy.address) g.address)
+
+pub second_held : (policy : Policy) (g : Guest) (a : ℕ) → g.second ≡ Some a → holds (Admitted policy (Some g)) a ≡ true
+unfolding holds
+second_held policy g a is =
+    ap (λ o. eqb (number_of policy.address) a || (eqb g.address a || is_number o a)) is
+    ∙ ap (λ b. eqb (number_of policy.address) a || (eqb g.address a || b)) (itself a)
+    ∙ ap (λ b. eqb (number_of policy.address) a || b) (or-true (eqb g.address a)) ∙ or-true (eqb (number_of policy.address) a)
+
+same_comes : (h : HostState) (p : ℕ) (policy : Policy) (g : Guest) → IsGuestWithin policy g → MayCome h p policy (Some g) g
+same_comes h p policy g w = record { within = w; address = inl (address_held policy g); second = λ a is. inl (second_held policy g a is) }
+
+-- what no address, VLAN or mode is changed by
+quiet_comes : (h : HostState) (p : ℕ) (policy : Policy) (g k : Guest) → IsGuestWithin policy g → g.address ≡ k.address → g.second ≡ k.second → g.joined ≡ k.joined → g.multicast ≡ k.multicast → MayCome h p policy (Some g) k
+quiet_comes h p policy g k w address second joins mode = record {
   within = record {
-    unicast = λ a there. ⊎_elim (w.unicast a) (λ n. ap is_unicast (sym n.0) ∙ n.1.1.0) (held a there);
-    granted = λ a there. subst (λ (p : Function). is_granted p a ≡ true) same (⊎_elim (w.granted a) (λ n. ap (λ b. is_number f.permanent a || b) n.1.0 ∙ or-true (is_number f.permanent a)) (held a there));
-    joined = λ k there. subst (λ (p : Function). may_have p k ≡ true) same (w.joined k (ap (λ n. has_bit n k) joins ∙ there));
-    multicast = λ is. sym (ap (λ (p : Function). p.may_take_all) same) ∙ w.multicast (modes ∙ is);
-    no_address = λ down. absurd (true≢false (sym now ∙ down));
-    no_second = λ down. absurd (true≢false (sym now ∙ down));
-    no_vlan = λ down. absurd (true≢false (sym now ∙ down));
+    address = subst (λ (a : ℕ). is_granted policy a ≡ true) address w.address;
+    second = λ a is. w.second a (second ∙ is);
+    joined = λ i there. w.joined i (ap (λ n. has_bit n i) joins ∙ there);
+    multicast = λ is. w.multicast (mode ∙ is);
   };
-  held = held;
-  policy = same;
+  address = inl (subst (λ (a : ℕ). holds (Admitted policy (Some g)) a ≡ true) address (address_held policy g));
+  second = λ a is. inl (second_held policy g a (second ∙ is));
 }
 
-not_two : (n : ℕ) → n < 2 → n ≡ 2 → ⊥
-not_two n small same = omega (arith, small, same)
+not_all : (m : Multicast) → is_all m ≡ false → m ≡ All → ⊥
+not_all m is same = true≢false (sym (ap is_all same) ∙ is)
 
-begun_stays : (taken : Bool) (asked : ℕ) (f : Function) → IsWithinPolicy f → Stays taken asked f (begun f)
-unfolding holds
-begun_stays taken asked f w = record {
+begun_comes : (h : HostState) (p : ℕ) (policy : Policy) (before : Option Guest) → MayCome h p policy before (begun policy)
+begun_comes h p policy before = record {
   within = record {
-    unicast = λ a there. w.unicast a (first a there);
-    granted = λ a there. w.granted a (first a there);
-    joined = λ k there. ap (λ b. has_bit f.may_join k || b) there ∙ or-true (has_bit f.may_join k);
-    multicast = λ is. absurd (not_two 1 (omega arith) is);
-    no_address = λ down. absurd (true≢false down);
-    no_second = λ down. absurd (true≢false down);
-    no_vlan = λ down. absurd (true≢false down);
+    address = ap (λ b. b || (policy.may_choose && is_unicast (number_of policy.address))) (itself (number_of policy.address));
+    second = λ a is. absurd (none_is is);
+    joined = λ k there. absurd (true≢false (sym there ∙ has_bit_zero k));
+    multicast = λ is. absurd (not_all Asked refl is);
   };
-  held = λ a there. inl (first a there);
-  policy = refl;
-}
-  where
-    first : (a : ℕ) → (is_number f.permanent a || (is_number f.permanent a || false)) ≡ true → (is_number f.permanent a || (is_number f.address a || is_number f.second a)) ≡ true
-    first a there = go (is_number f.permanent a) there
-      where
-        go : (b : Bool) → (b || (b || false)) ≡ true → (b || (is_number f.address a || is_number f.second a)) ≡ true
-        go true is = refl
-        go false is = absurd (true≢false (sym is))
-
-address_stays : (taken : Bool) (asked : ℕ) (f : Function) → f.is_up ≡ true → IsWithinPolicy f → (is_number f.permanent asked || may_add taken f asked) ≡ true → Stays taken asked f (record f { address = Some asked })
-unfolding holds
-address_stays taken asked f up w may = with_held taken asked f (record f { address = Some asked }) up w refl up refl refl (λ a there. go a (or_cases (is_number f.permanent a) (eqb asked a || is_number f.second a) there))
-  where
-    new : (a : ℕ) → asked ≡ a → (is_number f.permanent asked ≡ true) ⊎ (may_add taken f asked ≡ true) → ((is_number f.permanent a || (is_number f.address a || is_number f.second a)) ≡ true) ⊎ IsNew taken asked f a
-    new a same (inl own) = inl (ap (λ b. b || (is_number f.address a || is_number f.second a)) (subst (λ (n : ℕ). is_number f.permanent n ≡ true) same own))
-    new a same (inr chosen) = inr (same, added taken f asked chosen)
-
-    rest : (a : ℕ) → (eqb asked a ≡ true) ⊎ (is_number f.second a ≡ true) → ((is_number f.permanent a || (is_number f.address a || is_number f.second a)) ≡ true) ⊎ IsNew taken asked f a
-    rest a (inl is) = new a (eqb-true asked a is) (or_cases (is_number f.permanent asked) (may_add taken f asked) may)
-    rest a (inr is) = inl (ap (λ b. is_number f.permanent a || (is_number f.address a || b)) is ∙ ap (λ b. is_number f.permanent a || b) (or-true (is_number f.address a)) ∙ or-true (is_number f.permanent a))
-
-    go : (a : ℕ) → (is_number f.permanent a ≡ true) ⊎ ((eqb asked a || is_number f.second a) ≡ true) → ((is_number f.permanent a || (is_number f.address a || is_number f.second a)) ≡ true) ⊎ IsNew taken asked f a
-    go a (inl own) = inl (ap (λ b. b || (is_number f.address a || is_number f.second a)) own)
-    go a (inr other) = rest a (or_cases (eqb asked a) (is_number f.second a) other)
-
-no_second_stays : (taken : Bool) (asked : ℕ) (f : Function) → f.is_up ≡ true → IsWithinPolicy f → Stays taken asked f (record f { second = None })
-unfolding holds
-no_second_stays taken asked f up w = with_held taken asked f (record f { second = None }) up w refl up refl refl (λ a there. inl (fewer a (is_number f.permanent a) (is_number f.address a) there))
-  where
-    fewer : (a : ℕ) (b c : Bool) → (b || (c || false)) ≡ true → (b || (c || is_number f.second a)) ≡ true
-    fewer a true c is = refl
-    fewer a false true is = refl
-    fewer a false false is = absurd (true≢false (sym is))
-
-second_stays : (taken : Bool) (asked : ℕ) (f : Function) → f.is_up ≡ true → IsWithinPolicy f → may_add taken f asked ≡ true → Stays taken asked f (record f { second = Some asked })
-unfolding holds
-second_stays taken asked f up w may = with_held taken asked f (record f { second = Some asked }) up w refl up refl refl (λ a there. go a (or_cases (is_number f.permanent a) (is_number f.address a || eqb asked a) there))
-  where
-    rest : (a : ℕ) → (is_number f.address a ≡ true) ⊎ (eqb asked a ≡ true) → ((is_number f.permanent a || (is_number f.address a || is_number f.second a)) ≡ true) ⊎ IsNew taken asked f a
-    rest a (inl is) = inl (ap (λ b. is_number f.permanent a || (b || is_number f.second a)) is ∙ or-true (is_number f.permanent a))
-    rest a (inr is) = inr (eqb-true asked a is, added taken f asked may)
-
-    go : (a : ℕ) → (is_number f.permanent a ≡ true) ⊎ ((is_number f.address a || eqb asked a) ≡ true) → ((is_number f.permanent a || (is_number f.address a || is_number f.second a)) ≡ true) ⊎ IsNew taken asked f a
-    go a (inl own) = inl (ap (λ b. b || (is_number f.address a || is_number f.second a)) own)
-    go a (inr other) = rest a (or_cases (is_number f.address a) (eqb asked a) other)
-
--- VLANs: a place that the policy has is joined, or some place is left
-joined_stays : (taken : Bool) (asked : ℕ) (f : Function) (joined : ℕ) → f.is_up ≡ true → IsWithinPolicy f → ((i : ℕ) → has_bit joined i ≡ true → may_have f i ≡ true) → Stays taken asked f (record f { joined = joined })
-unfolding holds
-joined_stays taken asked f joined up w within = record {
-  within = record {
-    unicast = w.unicast;
-    granted = w.granted;
-    joined = within;
-    multicast = w.multicast;
-    no_address = w.no_address;
-    no_second = w.no_second;
-    no_vlan = λ down. absurd (true≢false (sym up ∙ down));
-  };
-  held = λ a there. inl there;
-  policy = refl;
+  address = inl (own_held policy before (number_of policy.address) (itself (number_of policy.address)));
+  second = λ a is. absurd (none_is is);
 }
 
-more_joined : (f : Function) (k : ℕ) → has_bit f.may_join k ≡ true → IsWithinPolicy f → (i : ℕ) → has_bit (with_bit f.joined k) i ≡ true → may_have f i ≡ true
-more_joined f k may w i there = go (or_cases (has_bit f.joined i) (has_bit (2 ^ k) i) (sym (has_bit_or f.joined (2 ^ k) i) ∙ there))
+-- ---- addresses
+
+-- an address that is added is granted, and no other function's
+added : (h : HostState) (p : ℕ) (policy : Policy) (a : ℕ) → may_add h p policy a ≡ true → (is_granted policy a ≡ true) × (is_taken h p a ≡ false)
+added h p policy a may =
+    let all : (policy.may_choose ≡ true) × ((is_unicast a && not (is_taken h p a)) ≡ true) = and_parts policy.may_choose (is_unicast a && not (is_taken h p a)) may in
+    let rest : (is_unicast a ≡ true) × (not (is_taken h p a) ≡ true) = and_parts (is_unicast a) (not (is_taken h p a)) all.1 in
+    ((λ i. eqb (number_of policy.address) a || (all.0 i && rest.0 i)) ∙ or-true (eqb (number_of policy.address) a), not-true (is_taken h p a) rest.1)
+
+moved_comes : (h : HostState) (p : ℕ) (policy : Policy) (g k : Guest) (a : ℕ) → IsGuestWithin policy g → moved h p policy g a ≡ Some k → MayCome h p policy (Some g) k
+moved_comes h p policy g k a w is = go (eqb (number_of policy.address) a) refl (may_add h p policy a) refl is
   where
-    go : (has_bit f.joined i ≡ true) ⊎ (has_bit (2 ^ k) i ≡ true) → may_have f i ≡ true
+    with_one : is_granted policy a ≡ true → Has h p policy (Some g) a → MayCome h p policy (Some g) (record g { address = a })
+    with_one granted has = record {
+      within = record { address = granted; second = w.second; joined = w.joined; multicast = w.multicast };
+      address = has;
+      second = λ b there. inl (second_held policy g b there);
+    }
+
+    go : (b : Bool) → eqb (number_of policy.address) a ≡ b → (c : Bool) → may_add h p policy a ≡ c → cond (b || c) (Some (record g { address = a })) None ≡ Some k → MayCome h p policy (Some g) k
+    go true own c may same = subst (MayCome h p policy (Some g)) (some_is same) (with_one (ap (λ b. b || (policy.may_choose && is_unicast a)) own) (inl (own_held policy (Some g) a own)))
+    go false own true may same = subst (MayCome h p policy (Some g)) (some_is same) (with_one (added h p policy a may).0 (inr (added h p policy a may).1))
+    go false own false may same = absurd (none_is same)
+
+second_comes : (h : HostState) (p : ℕ) (policy : Policy) (g k : Guest) (second : Option ℕ) → IsGuestWithin policy g → second_set h p policy g second ≡ Some k → MayCome h p policy (Some g) k
+second_comes h p policy g k None w is = subst (MayCome h p policy (Some g)) (some_is is) (record {
+  within = record { address = w.address; second = λ a none. absurd (none_is none); joined = w.joined; multicast = w.multicast };
+  address = inl (address_held policy g);
+  second = λ a none. absurd (none_is none);
+})
+second_comes h p policy g k (Some a) w is = go (may_add h p policy a) refl is
+  where
+    go : (b : Bool) → may_add h p policy a ≡ b → cond b (Some (record g { second = Some a })) None ≡ Some k → MayCome h p policy (Some g) k
+    go true may same = subst (MayCome h p policy (Some g)) (some_is same) (record {
+      within = record { address = w.address; second = λ b there. subst (λ (n : ℕ). is_granted policy n ≡ true) (some_is there) (added h p policy a may).0; joined = w.joined; multicast = w.multicast };
+      address = inl (address_held policy g);
+      second = λ b there. inr (subst (λ (n : ℕ). is_taken h p n ≡ false) (some_is there) (added h p policy a may).1);
+    })
+    go false may same = absurd (none_is same)
+
+-- ---- VLANs
+
+-- a place that the policy has is joined, or some place is left
+joined_comes : (h : HostState) (p : ℕ) (policy : Policy) (g : Guest) (places : ℕ) → IsGuestWithin policy g → ((i : ℕ) → has_bit places i ≡ true → may_have policy i ≡ true) → MayCome h p policy (Some g) (record g { joined = places })
+joined_comes h p policy g places w may = record {
+  within = record { address = w.address; second = w.second; joined = may; multicast = w.multicast };
+  address = inl (address_held policy g);
+  second = λ a is. inl (second_held policy g a is);
+}
+
+more_joined : (policy : Policy) (g : Guest) (k : ℕ) → may_join policy.vlans k ≡ true → IsGuestWithin policy g → (i : ℕ) → has_bit (with_bit g.joined k) i ≡ true → may_have policy i ≡ true
+more_joined policy g k may w i there = go (or_cases (has_bit g.joined i) (has_bit (2 ^ k) i) (sym (has_bit_or g.joined (2 ^ k) i) ∙ there))
+  where
+    go : (has_bit g.joined i ≡ true) ⊎ (has_bit (2 ^ k) i ≡ true) → may_have policy i ≡ true
     go (inl before) = w.joined i before
     go (inr new) =
         let same : k ≡ i = eqb-true k i (sym (has_bit_pow k i) ∙ new) in
-        ap (λ b. b || has_bit f.always_joined i) (subst (λ (n : ℕ). has_bit f.may_join n ≡ true) same may)
+        ap (λ b. is_port_at policy.vlans i || b) (subst (λ (n : ℕ). may_join policy.vlans n ≡ true) same may) ∙ or-true (is_port_at policy.vlans i)
 
-fewer_joined : (f : Function) (k : ℕ) → IsWithinPolicy f → (i : ℕ) → has_bit (without_bit f.joined k) i ≡ true → may_have f i ≡ true
-fewer_joined f k w i there =
-    let parts : (has_bit f.joined i ≡ true) × (has_bit (bit_not w64 (2 ^ k)) i ≡ true) = and_parts (has_bit f.joined i) (has_bit (bit_not w64 (2 ^ k)) i) (sym (has_bit_and f.joined (bit_not w64 (2 ^ k)) i) ∙ there) in
-    w.joined i parts.0
+fewer_joined : (policy : Policy) (g : Guest) (k : ℕ) → IsGuestWithin policy g → (i : ℕ) → has_bit (without_bit g.joined k) i ≡ true → may_have policy i ≡ true
+fewer_joined policy g k w i there =
+    w.joined i (and_parts (has_bit g.joined i) (has_bit (bit_not w64 (2 ^ k)) i) (sym (has_bit_and g.joined (bit_not w64 (2 ^ k)) i) ∙ there)).0
 
-vlan_stays : (ids : List ℕ) (taken : Bool) (asked : ℕ) (f g : Function) (add : Bool) (id : ℕ) → f.is_up ≡ true → IsWithinPolicy f → vlan_set ids f add id ≡ Some g → Stays taken asked f g
-vlan_stays ids taken asked f g add id up w is = go (is_none f.port) (not add && eqb id 0) (place_from 0 ids id) is
+join_comes : (h : HostState) (p : ℕ) (policy : Policy) (g k : Guest) (place : Option ℕ) → IsGuestWithin policy g → joined_at g (place_where (may_join policy.vlans) place) ≡ Some k → MayCome h p policy (Some g) k
+join_comes h p policy g k None w is = absurd (none_is is)
+join_comes h p policy g k (Some n) w is = go (may_join policy.vlans n) refl is
   where
-    at : (k : ℕ) (b : Bool) → has_bit f.may_join k ≡ b → cond b (Some (record f { joined = cond add (with_bit f.joined k) (without_bit f.joined k) })) None ≡ Some g → Stays taken asked f g
-    at k true may same = subst (Stays taken asked f) (some_is same) (joined_stays taken asked f (cond add (with_bit f.joined k) (without_bit f.joined k)) up w (both add))
-      where
-        both : (b : Bool) (i : ℕ) → has_bit (cond b (with_bit f.joined k) (without_bit f.joined k)) i ≡ true → may_have f i ≡ true
-        both true = more_joined f k may w
-        both false = fewer_joined f k w
-    at k false may same = absurd (none_is same)
-
-    placed : (place : Option ℕ) → joined_at f add place ≡ Some g → Stays taken asked f g
-    placed None same = absurd (none_is same)
-    placed (Some k) same = at k (has_bit f.may_join k) refl same
-
-    go : (b c : Bool) (place : Option ℕ) → cond (not b) None (cond c (Some f) (joined_at f add place)) ≡ Some g → Stays taken asked f g
-    go false c place same = absurd (none_is same)
-    go true true place same = subst (Stays taken asked f) (some_is same) (stays_itself taken asked f w)
-    go true false place same = placed place same
-
-mode_stays : (taken : Bool) (asked : ℕ) (f g : Function) (mode : ℕ) → f.is_up ≡ true → IsWithinPolicy f → mode_set f (mode_for f mode) ≡ Some g → Stays taken asked f g
-unfolding holds
-mode_stays taken asked f g mode up w is = go (leb 3 f.api && leb (mode_for f mode) 2) is
-  where
-    may : (b c : Bool) → ltb 1 mode ≡ b → f.may_take_all ≡ c → cond (b && not c) 1 mode ≡ 2 → f.may_take_all ≡ true
-    may true false is also two = absurd (omega (arith, two))
-    may true true is also two = also
-    may false c is also two = absurd (grind (arith, nat_tests, is, two))
-
-    go : (b : Bool) → cond b (Some (record f { mode = mode_for f mode; groups = f.groups && not (eqb (mode_for f mode) 0) })) None ≡ Some g → Stays taken asked f g
-    go true same = subst (Stays taken asked f) (some_is same) (record {
-      within = record {
-        unicast = w.unicast;
-        granted = w.granted;
-        joined = w.joined;
-        multicast = may (ltb 1 mode) f.may_take_all refl refl;
-        no_address = w.no_address;
-        no_second = w.no_second;
-        no_vlan = w.no_vlan;
-      };
-      held = λ a there. inl there;
-      policy = refl;
-    })
-    go false same = absurd (none_is same)
-
--- what no address, VLAN or mode is changed by
-quiet_stays : (taken : Bool) (asked : ℕ) (f : Function) (groups : Bool) (frame_length api : ℕ) → IsWithinPolicy f → Stays taken asked f (record f { groups = groups; frame_length = frame_length; api = api })
-unfolding holds
-quiet_stays taken asked f groups frame_length api w = record {
-  within = record {
-    unicast = w.unicast;
-    granted = w.granted;
-    joined = w.joined;
-    multicast = w.multicast;
-    no_address = w.no_address;
-    no_second = w.no_second;
-    no_vlan = w.no_vlan;
-  };
-  held = λ a there. inl there;
-  policy = refl;
-}
-
-second_set_stays : (taken : Bool) (f g : Function) (index a : ℕ) → f.is_up ≡ true → IsWithinPolicy f → second_set taken f index a ≡ Some g → Stays taken a f g
-second_set_stays taken f g index a up w is = go (eqb index 0) (eqb index 1) (may_add taken f a) refl is
-  where
-    go : (b c d : Bool) → may_add taken f a ≡ d → cond b (Some (record f { second = None })) (cond (c && d) (Some (record f { second = Some a })) None) ≡ Some g → Stays taken a f g
-    go true c d may same = subst (Stays taken a f) (some_is same) (no_second_stays taken a f up w)
-    go false true true may same = subst (Stays taken a f) (some_is same) (second_stays taken a f up w may)
-    go false true false may same = absurd (none_is same)
-    go false false d may same = absurd (none_is same)
-
--- every message
-granted_stays : (ids : List ℕ) (limit : ℕ) (taken : Bool) (f g : Function) (message : Message) → is_heard f message ≡ true → IsWithinPolicy f → granted ids limit taken f message ≡ Some g → Stays taken (address_in message) f g
-unfolding granted
-granted_stays ids limit taken f g Reset up w is = go (is_none f.permanent) is
-  where
-    go : (b : Bool) → cond b None (Some (begun f)) ≡ Some g → Stays taken 0 f g
-    go true same = absurd (none_is same)
-    go false same = subst (Stays taken 0 f) (some_is same) (begun_stays taken 0 f w)
-granted_stays ids limit taken f g (SetAddress a) up w is = go (is_number f.permanent a || may_add taken f a) refl is
-  where
-    go : (b : Bool) → (is_number f.permanent a || may_add taken f a) ≡ b → cond b (Some (record f { address = Some a })) None ≡ Some g → Stays taken a f g
-    go true may same = subst (Stays taken a f) (some_is same) (address_stays taken a f up w may)
+    go : (b : Bool) → may_join policy.vlans n ≡ b → joined_at g (cond b (Some n) None) ≡ Some k → MayCome h p policy (Some g) k
+    go true may same = subst (MayCome h p policy (Some g)) (some_is same) (joined_comes h p policy g (with_bit g.joined n) w (more_joined policy g n may w))
     go false may same = absurd (none_is same)
-granted_stays ids limit taken f g (SetMulticast count) up w is = subst (Stays taken 0 f) (some_is is) (quiet_stays taken 0 f (not (eqb count 0)) f.frame_length f.api w)
-granted_stays ids limit taken f g (SetVlan add id) up w is = vlan_stays ids taken 0 f g add id up w is
-granted_stays ids limit taken f g (SetFrameLength n) up w is = go (leb n (limit + 4)) is
-  where
-    go : (b : Bool) → cond b (Some (record f { frame_length = n })) None ≡ Some g → Stays taken 0 f g
-    go true same = subst (Stays taken 0 f) (some_is same) (quiet_stays taken 0 f f.groups n f.api w)
-    go false same = absurd (none_is same)
-granted_stays ids limit taken f g (SetSecondAddress index a) up w is = second_set_stays taken f g index a up w is
-granted_stays ids limit taken f g (NegotiateApi api) up w is = go (is_version api) is
-  where
-    go : (b : Bool) → cond b (Some (record f { api = api })) None ≡ Some g → Stays taken 0 f g
-    go true same = subst (Stays taken 0 f) (some_is same) (quiet_stays taken 0 f f.groups f.frame_length api w)
-    go false same = absurd (none_is same)
-granted_stays ids limit taken f g GetQueues up w is = go (leb 2 f.api) is
-  where
-    go : (b : Bool) → cond b (Some f) None ≡ Some g → Stays taken 0 f g
-    go true same = subst (Stays taken 0 f) (some_is same) (stays_itself taken 0 f w)
-    go false same = absurd (none_is same)
-granted_stays ids limit taken f g (SetMulticastMode mode) up w is = mode_stays taken 0 f g mode up w is
-granted_stays ids limit taken f g GetLinkState up w is = go (leb 3 f.api) is
-  where
-    go : (b : Bool) → cond b (Some f) None ≡ Some g → Stays taken 0 f g
-    go true same = subst (Stays taken 0 f) (some_is same) (stays_itself taken 0 f w)
-    go false same = absurd (none_is same)
-granted_stays ids limit taken f g Other up w is = absurd (none_is is)
 
-answered_stays : (ids : List ℕ) (limit : ℕ) (taken : Bool) (f g : Function) (message : Message) → IsWithinPolicy f → answered ids limit taken f message ≡ Some g → Stays taken (address_in message) f g
-unfolding answered
-answered_stays ids limit taken f g message w is = go (is_heard f message) refl is
-  where
-    go : (b : Bool) → is_heard f message ≡ b → cond b (granted ids limit taken f message) None ≡ Some g → Stays taken (address_in message) f g
-    go true up same = granted_stays ids limit taken f g message up w same
-    go false up same = absurd (none_is same)
+leave_comes : (h : HostState) (p : ℕ) (policy : Policy) (g k : Guest) (place : Option ℕ) → IsGuestWithin policy g → left_at g place ≡ Some k → MayCome h p policy (Some g) k
+leave_comes h p policy g k None w is = absurd (none_is is)
+leave_comes h p policy g k (Some n) w is = subst (MayCome h p policy (Some g)) (some_is is) (joined_comes h p policy g (without_bit g.joined n) w (fewer_joined policy g n w))
 
-pub gone_stays : (f : Function) → IsWithinPolicy f → Stays true 0 f (gone f)
-unfolding holds
-gone_stays f w = record {
-  within = record {
-    unicast = λ a there. w.unicast a (first a (is_number f.permanent a) there);
-    granted = λ a there. w.granted a (first a (is_number f.permanent a) there);
-    joined = λ k there. absurd (true≢false (sym there ∙ has_bit_zero k));
-    multicast = λ is. absurd (not_two 0 (omega arith) is);
-    no_address = λ down. refl;
-    no_second = λ down. refl;
-    no_vlan = λ down. refl;
-  };
-  held = λ a there. inl (first a (is_number f.permanent a) there);
-  policy = refl;
+left_comes : (h : HostState) (p : ℕ) (policy : Policy) (g k : Guest) (b : Bool) (place : Option ℕ) → IsGuestWithin policy g → cond b (Some g) (left_at g place) ≡ Some k → MayCome h p policy (Some g) k
+left_comes h p policy g k true place w is = subst (MayCome h p policy (Some g)) (some_is is) (same_comes h p policy g w)
+left_comes h p policy g k false place w is = leave_comes h p policy g k place w is
+
+-- ---- multicast
+
+mode_comes : (h : HostState) (p : ℕ) (policy : Policy) (g : Guest) (m : Multicast) → IsGuestWithin policy g → (m ≡ All → policy.all_multicast ≡ true) → MayCome h p policy (Some g) (record g { multicast = m; groups = g.groups && wants_groups m })
+mode_comes h p policy g m w may = record {
+  within = record { address = w.address; second = w.second; joined = w.joined; multicast = may };
+  address = inl (address_held policy g);
+  second = λ a is. inl (second_held policy g a is);
 }
+
+multicast_comes : (h : HostState) (p : ℕ) (policy : Policy) (g k : Guest) (asked : Option Multicast) → IsGuestWithin policy g → with_multicast g (multicast_for policy asked) ≡ Some k → MayCome h p policy (Some g) k
+multicast_comes h p policy g k asked w is = go asked (policy.all_multicast) refl is
   where
-    first : (a : ℕ) (b : Bool) → (b || (false || false)) ≡ true → (b || (is_number f.address a || is_number f.second a)) ≡ true
-    first a true is = refl
-    first a false is = absurd (true≢false (sym is))
+    one : (m : Multicast) → (m ≡ All → policy.all_multicast ≡ true) → with_multicast g (Some m) ≡ Some k → MayCome h p policy (Some g) k
+    one m may same = subst (MayCome h p policy (Some g)) (some_is same) (mode_comes h p policy g m w may)
+
+    fewer : (m : Multicast) → is_all m ≡ false → m ≡ All → policy.all_multicast ≡ true
+    fewer m less all = absurd (not_all m less all)
+
+    by : (b : Bool) → policy.all_multicast ≡ b → (asked : Option Multicast) → with_multicast g (cond b asked (Some Asked)) ≡ Some k → MayCome h p policy (Some g) k
+    by true may None same = absurd (none_is same)
+    by true may (Some m) same = one m (λ all. may) same
+    by false may asked same = one Asked (fewer Asked refl) same
+
+    go : (asked : Option Multicast) (b : Bool) → policy.all_multicast ≡ b → with_multicast g (multicast_for policy asked) ≡ Some k → MayCome h p policy (Some g) k
+    go None b may same = by policy.all_multicast refl None same
+    go (Some Off) b may same = one Off (fewer Off refl) same
+    go (Some Asked) b may same = one Asked (fewer Asked refl) same
+    go (Some All) b may same = by policy.all_multicast refl (Some All) same
+
+-- ---- every message
+
+when_comes : (h : HostState) (p : ℕ) (policy : Policy) (g k : Guest) (b : Bool) → MayCome h p policy (Some g) k → (l : Guest) → cond b (Some k) None ≡ Some l → MayCome h p policy (Some g) l
+when_comes h p policy g k true comes l is = subst (MayCome h p policy (Some g)) (some_is is) comes
+when_comes h p policy g k false comes l is = absurd (none_is is)
+
+granted_comes : (h : HostState) (p : ℕ) (policy : Policy) (g k : Guest) (message : Message) → IsGuestWithin policy g → granted h p policy g message ≡ Some k → MayCome h p policy (Some g) k
+unfolding granted
+granted_comes h p policy g k Reset w is = subst (MayCome h p policy (Some g)) (some_is is) (begun_comes h p policy (Some g))
+granted_comes h p policy g k (SetAddress a) w is = moved_comes h p policy g k a w is
+granted_comes h p policy g k (SetMulticast groups) w is = subst (MayCome h p policy (Some g)) (some_is is) (quiet_comes h p policy g (record g { groups = groups }) w refl refl refl refl)
+granted_comes h p policy g k (JoinVlan id) w is = join_comes h p policy g k (place_from 0 h.ids id) w is
+granted_comes h p policy g k (LeaveVlan id) w is = left_comes h p policy g k (eqb id 0 && not (is_port policy.vlans)) (place_where (may_join policy.vlans) (place_from 0 h.ids id)) w is
+granted_comes h p policy g k (SetFrameLength n) w is = when_comes h p policy g (record g { frame_length = n }) (leb n (h.limit + 4)) (quiet_comes h p policy g (record g { frame_length = n }) w refl refl refl refl) k is
+granted_comes h p policy g k (SetSecondAddress second) w is = second_comes h p policy g k second w is
+granted_comes h p policy g k (NegotiateApi api) w is = subst (MayCome h p policy (Some g)) (some_is is) (quiet_comes h p policy g (record g { api = api }) w refl refl refl refl)
+granted_comes h p policy g k GetQueues w is = when_comes h p policy g g (has_queues g.api) (same_comes h p policy g w) k is
+granted_comes h p policy g k (SetMulticastMode asked) w is = go (has_modes g.api) is
+  where
+    go : (b : Bool) → cond b (with_multicast g (multicast_for policy asked)) None ≡ Some k → MayCome h p policy (Some g) k
+    go true same = multicast_comes h p policy g k asked w same
+    go false same = absurd (none_is same)
+granted_comes h p policy g k GetLinkState w is = when_comes h p policy g g (has_modes g.api) (same_comes h p policy g w) k is
+granted_comes h p policy g k Other w is = absurd (none_is is)
 
 -- ---- the host
 
 -- the address of another function is taken
-not_taken : (h : HostState) (p q a : ℕ) → q < 64 → q ≢ p → is_taken h p a ≡ false → holds (function_at h q) a ≡ true → ⊥
+not_taken : (h : HostState) (p q a : ℕ) → q < 64 → q ≢ p → is_taken h p a ≡ false → holds (slot_at h q) a ≡ true → ⊥
 unfolding is_taken
 not_taken h p q a small other free there =
     let place : get_or (range_with_len 0 64) q 0 ≡ 0 + q = get_or-range_with_len 0 64 q 0 small in
@@ -304,182 +237,200 @@ not_taken h p q a small other free there =
     true≢false (sym (list_any_at (other_holds h p a) (range_with_len 0 64) q 0 (omega (arith, small)) found) ∙ free)
 
 -- what is asked of a function that is to stand at a pool
-pub record MayStand (h : HostState) (p : ℕ) (g : Function) : Type 0 where
+pub record MayStand (h : HostState) (p : ℕ) (g : Slot) : Type 0 where
   pub within : IsWithinPolicy g
-  pub held : (a : ℕ) → holds g a ≡ true → (holds (function_at h p) a ≡ true) ⊎ (is_taken h p a ≡ false)
+  pub held : (a : ℕ) → holds g a ≡ true → (holds (slot_at h p) a ≡ true) ⊎ (is_taken h p a ≡ false)
 
 -- the function at a pool after the change, if there is such a place
-at_place : (h : HostState) (p q : ℕ) (g : Function) → (function_at (with_function h p g) q ≡ function_at h q) ⊎ ((q ≡ p) × (function_at (with_function h p g) q ≡ g))
+at_place : (h : HostState) (p q : ℕ) (g : Slot) → (slot_at (with_slot h p g) q ≡ slot_at h q) ⊎ ((q ≡ p) × (slot_at (with_slot h p g) q ≡ g))
 at_place h p q g = go (eqb q p) refl
   where
-    here : (b : Bool) → ltb p (length h.functions) ≡ b → (function_at (with_function h p g) p ≡ function_at h p) ⊎ (function_at (with_function h p g) p ≡ g)
-    here true is = inr (get_or-set_same h.functions p g absent (ltb-true p (length h.functions) is))
+    here : (b : Bool) → ltb p (length h.slots) ≡ b → (slot_at (with_slot h p g) p ≡ slot_at h p) ⊎ (slot_at (with_slot h p g) p ≡ g)
+    here true is = inr (get_or-set_same h.slots p g Absent (ltb-true p (length h.slots) is))
     here false is =
-        let past = ltb-false p (length h.functions) is in
-        inl (get_or_past (with_function h p g).functions p absent (omega (arith, past, length-set h.functions p g)) ∙ sym (get_or_past h.functions p absent past))
+        let past = ltb-false p (length h.slots) is in
+        inl (get_or_past (with_slot h p g).slots p Absent (omega (arith, past, length-set h.slots p g)) ∙ sym (get_or_past h.slots p Absent past))
 
-    go : (b : Bool) → eqb q p ≡ b → (function_at (with_function h p g) q ≡ function_at h q) ⊎ ((q ≡ p) × (function_at (with_function h p g) q ≡ g))
+    go : (b : Bool) → eqb q p ≡ b → (slot_at (with_slot h p g) q ≡ slot_at h q) ⊎ ((q ≡ p) × (slot_at (with_slot h p g) q ≡ g))
     go true is =
         let same : q ≡ p = eqb-true q p is in
-        subst (λ (n : ℕ). (function_at (with_function h p g) n ≡ function_at h n) ⊎ ((n ≡ p) × (function_at (with_function h p g) n ≡ g))) (sym same) (⊎_elim (λ e. inl e) (λ e. inr (refl, e)) (here (ltb p (length h.functions)) refl))
-    go false is = inl (function_stays h p q g (eqb-false q p is))
+        subst (λ (n : ℕ). (slot_at (with_slot h p g) n ≡ slot_at h n) ⊎ ((n ≡ p) × (slot_at (with_slot h p g) n ≡ g))) (sym same) (⊎_elim (λ e. inl e) (λ e. inr (refl, e)) (here (ltb p (length h.slots)) refl))
+    go false is = inl (slot_stays h p q g (eqb-false q p is))
 
-pub stands : (h : HostState) (p : ℕ) (g : Function) → p < 64 → IsWithin h → MayStand h p g → IsWithin (with_function h p g)
+pub stands : (h : HostState) (p : ℕ) (g : Slot) → p < 64 → IsWithin h → MayStand h p g → IsWithin (with_slot h p g)
 stands h p g small w may = record {
   policies = λ q below. ⊎_elim (λ same. subst IsWithinPolicy (sym same) (w.policies q below)) (λ same. subst IsWithinPolicy (sym same.1) may.within) (at_place h p q g);
-  one_holder = λ x y a x_small y_small other there. false_from_ne_true (holds (function_at k y) a) (λ also. both x y a x_small y_small other (at_place h p x g) (at_place h p y g) there also);
+  one_holder = λ x y a x_small y_small other there. false_from_ne_true (holds (slot_at k y) a) (λ also. both x y a x_small y_small other (at_place h p x g) (at_place h p y g) there also);
 }
   where
     k : HostState
-    k = with_function h p g
+    k = with_slot h p g
 
     -- two functions that stood there
-    old : (x y a : ℕ) → x < 64 → y < 64 → y ≢ x → holds (function_at h x) a ≡ true → holds (function_at h y) a ≡ true → ⊥
+    old : (x y a : ℕ) → x < 64 → y < 64 → y ≢ x → holds (slot_at h x) a ≡ true → holds (slot_at h y) a ≡ true → ⊥
     old x y a x_small y_small other there also = true≢false (sym also ∙ w.one_holder x y a x_small y_small other there)
 
     -- the new one and one that stood there
-    new : (y a : ℕ) → y < 64 → y ≢ p → holds g a ≡ true → holds (function_at h y) a ≡ true → ⊥
+    new : (y a : ℕ) → y < 64 → y ≢ p → holds g a ≡ true → holds (slot_at h y) a ≡ true → ⊥
     new y a y_small other there also = ⊎_elim (λ before. old p y a small y_small other before also) (λ free. not_taken h p y a y_small other free also) (may.held a there)
 
-    both : (x y a : ℕ) → x < 64 → y < 64 → y ≢ x → (function_at k x ≡ function_at h x) ⊎ ((x ≡ p) × (function_at k x ≡ g)) → (function_at k y ≡ function_at h y) ⊎ ((y ≡ p) × (function_at k y ≡ g)) → holds (function_at k x) a ≡ true → holds (function_at k y) a ≡ true → ⊥
-    both x y a x_small y_small other (inl e) (inl f) there also = old x y a x_small y_small other (subst (λ (v : Function). holds v a ≡ true) e there) (subst (λ (v : Function). holds v a ≡ true) f also)
-    both x y a x_small y_small other (inl e) (inr f) there also = new x a x_small (λ same. other (f.0 ∙ sym same)) (subst (λ (v : Function). holds v a ≡ true) f.1 also) (subst (λ (v : Function). holds v a ≡ true) e there)
-    both x y a x_small y_small other (inr e) (inl f) there also = new y a y_small (λ same. other (same ∙ sym e.0)) (subst (λ (v : Function). holds v a ≡ true) e.1 there) (subst (λ (v : Function). holds v a ≡ true) f also)
+    both : (x y a : ℕ) → x < 64 → y < 64 → y ≢ x → (slot_at k x ≡ slot_at h x) ⊎ ((x ≡ p) × (slot_at k x ≡ g)) → (slot_at k y ≡ slot_at h y) ⊎ ((y ≡ p) × (slot_at k y ≡ g)) → holds (slot_at k x) a ≡ true → holds (slot_at k y) a ≡ true → ⊥
+    both x y a x_small y_small other (inl e) (inl f) there also = old x y a x_small y_small other (subst (λ (v : Slot). holds v a ≡ true) e there) (subst (λ (v : Slot). holds v a ≡ true) f also)
+    both x y a x_small y_small other (inl e) (inr f) there also = new x a x_small (λ same. other (f.0 ∙ sym same)) (subst (λ (v : Slot). holds v a ≡ true) f.1 also) (subst (λ (v : Slot). holds v a ≡ true) e there)
+    both x y a x_small y_small other (inr e) (inl f) there also = new y a y_small (λ same. other (same ∙ sym e.0)) (subst (λ (v : Slot). holds v a ≡ true) e.1 there) (subst (λ (v : Slot). holds v a ≡ true) f also)
     both x y a x_small y_small other (inr e) (inr f) there also = other (f.0 ∙ sym e.0)
 
-may_stand : (h : HostState) (p asked : ℕ) (g : Function) → Stays (is_taken h p asked) asked (function_at h p) g → MayStand h p g
-may_stand h p asked g s = record {
-  within = s.within;
-  held = λ a there. ⊎_elim (λ before. inl before) (λ n. inr (ap (is_taken h p) (sym n.0) ∙ n.1.1.1)) (s.held a there);
-}
+-- the function with the guest that comes
+pub number_is : (o : Option ℕ) (a : ℕ) → is_number o a ≡ true → o ≡ Some a
+number_is None a is = absurd (true≢false (sym is))
+number_is (Some b) a is = ap Some (eqb-true b a is)
 
-outcome_within : (h : HostState) (p : ℕ) (message : Message) → p < 64 → IsWithin h → (o : Option Function) → outcome h p message ≡ o → IsWithin (host_with h p o)
+guest_stands : (h : HostState) (p : ℕ) (policy : Policy) (before : Option Guest) (g : Guest) → slot_at h p ≡ Admitted policy before → is_unicast (number_of policy.address) ≡ true → MayCome h p policy before g → MayStand h p (Admitted policy (Some g))
+unfolding holds
+guest_stands h p policy before g at unicast comes = record {
+  within = (unicast, comes.within);
+  held = λ a there. ⊎_elim (λ has. inl (ap (λ s. holds s a) at ∙ has)) (λ free. inr free) (go a (or_cases (eqb (number_of policy.address) a) (eqb g.address a || is_number g.second a) there));
+}
+  where
+    rest : (a : ℕ) → (eqb g.address a ≡ true) ⊎ (is_number g.second a ≡ true) → Has h p policy before a
+    rest a (inl is) = subst (Has h p policy before) (eqb-true g.address a is) comes.address
+    rest a (inr is) = comes.second a (number_is g.second a is)
+
+    go : (a : ℕ) → (eqb (number_of policy.address) a ≡ true) ⊎ ((eqb g.address a || is_number g.second a) ≡ true) → Has h p policy before a
+    go a (inl own) = inl (own_held policy before a own)
+    go a (inr other) = rest a (or_cases (eqb g.address a) (is_number g.second a) other)
+
+reset_comes : (h : HostState) (p : ℕ) (policy : Policy) (k : Guest) (message : Message) → when_reset policy message ≡ Some k → MayCome h p policy None k
+reset_comes h p policy k Reset is = subst (MayCome h p policy None) (some_is is) (begun_comes h p policy None)
+reset_comes h p policy k (SetAddress a) is = absurd (none_is is)
+reset_comes h p policy k (SetMulticast groups) is = absurd (none_is is)
+reset_comes h p policy k (JoinVlan id) is = absurd (none_is is)
+reset_comes h p policy k (LeaveVlan id) is = absurd (none_is is)
+reset_comes h p policy k (SetFrameLength n) is = absurd (none_is is)
+reset_comes h p policy k (SetSecondAddress second) is = absurd (none_is is)
+reset_comes h p policy k (NegotiateApi api) is = absurd (none_is is)
+reset_comes h p policy k GetQueues is = absurd (none_is is)
+reset_comes h p policy k (SetMulticastMode asked) is = absurd (none_is is)
+reset_comes h p policy k GetLinkState is = absurd (none_is is)
+reset_comes h p policy k Other is = absurd (none_is is)
+
+answered_stands : (h : HostState) (p : ℕ) (s : Slot) (message : Message) (g : Guest) → slot_at h p ≡ s → IsWithinPolicy s → answered h p s message ≡ Some g → MayStand h p (with_guest s (Some g))
+answered_stands h p Absent message g at w is = absurd (none_is is)
+answered_stands h p (Admitted policy None) message g at w is = guest_stands h p policy None g at w (reset_comes h p policy g message is)
+answered_stands h p (Admitted policy (Some old)) message g at w is = guest_stands h p policy (Some old) g at w.0 (granted_comes h p policy old g message w.1 is)
+
+outcome_within : (h : HostState) (p : ℕ) (message : Message) → p < 64 → IsWithin h → (o : Option Guest) → outcome h p message ≡ o → IsWithin (host_with h p o)
 unfolding outcome
 outcome_within h p message small w None is = w
-outcome_within h p message small w (Some g) is = stands h p g small w (may_stand h p (address_in message) g (answered_stays h.ids h.limit (is_taken h p (address_in message)) (function_at h p) g message (w.policies p small) is))
+outcome_within h p message small w (Some g) is = stands h p (with_guest (slot_at h p) (Some g)) small w (answered_stands h p (slot_at h p) message g refl (w.policies p small) is)
 
 pub message_within : (h : HostState) (p : ℕ) (message : Message) → p < 64 → IsWithin h → IsWithin (host_after h p message)
 unfolding host_after
 message_within h p message small w = outcome_within h p message small w (outcome h p message) refl
 
-pub reset_within : (h : HostState) (p : ℕ) → p < 64 → IsWithin h → IsWithin (host_without h p)
-unfolding host_without
-reset_within h p small w =
-    let s = gone_stays (function_at h p) (w.policies p small) in
-    stands h p (gone (function_at h p)) small w (record { within = s.within; held = λ a there. ⊎_elim (λ before. inl before) (λ n. absurd (true≢false n.1.1.1)) (s.held a there) })
-
--- ---- policies
-
-policies_with : (h : HostState) (p : ℕ) (g : Function) → gone (function_at h p) ≡ gone g → KeepsPolicies h (with_function h p g)
-policies_with h p g same q = go (at_place h p q g)
-  where
-    go : (function_at (with_function h p g) q ≡ function_at h q) ⊎ ((q ≡ p) × (function_at (with_function h p g) q ≡ g)) → gone (function_at h q) ≡ gone (function_at (with_function h p g) q)
-    go (inl e) = ap gone (sym e)
-    go (inr e) = ap (λ n. gone (function_at h n)) e.0 ∙ same ∙ ap gone (sym e.1)
-
-outcome_policies : (h : HostState) (p : ℕ) (message : Message) → p < 64 → IsWithin h → (o : Option Function) → outcome h p message ≡ o → KeepsPolicies h (host_with h p o)
-unfolding outcome
-outcome_policies h p message small w None is = λ q. refl
-outcome_policies h p message small w (Some g) is = policies_with h p g (answered_stays h.ids h.limit (is_taken h p (address_in message)) (function_at h p) g message (w.policies p small) is).policy
-
-pub message_policies : (h : HostState) (p : ℕ) (message : Message) → p < 64 → IsWithin h → KeepsPolicies h (host_after h p message)
-unfolding host_after
-message_policies h p message small w = outcome_policies h p message small w (outcome h p message) refl
-
-pub reset_policies : (h : HostState) (p : ℕ) → KeepsPolicies h (host_without h p)
-unfolding host_without
-reset_policies h p = policies_with h p (gone (function_at h p)) refl
-
--- ---- a policy is given
-
-admitted : (h : HostState) (p : ℕ) (policy : Policy) → is_admitted h p policy ≡ true → (is_unicast (address_of policy) ≡ true) × ((is_taken h p (address_of policy) ≡ false) × ((function_at h p).is_up ≡ false))
-unfolding is_admitted
-admitted h p policy is =
-    let a : (is_unicast (address_of policy) ≡ true) × ((not (is_taken h p (address_of policy)) && (is_placed h.ids policy.vlans && not (function_at h p).is_up)) ≡ true) = and_parts (is_unicast (address_of policy)) _ is in
-    let b : (not (is_taken h p (address_of policy)) ≡ true) × ((is_placed h.ids policy.vlans && not (function_at h p).is_up) ≡ true) = and_parts (not (is_taken h p (address_of policy))) _ a.1 in
-    let d : (is_placed h.ids policy.vlans ≡ true) × (not (function_at h p).is_up ≡ true) = and_parts (is_placed h.ids policy.vlans) (not (function_at h p).is_up) b.1 in
-    (a.0, (not-true (is_taken h p (address_of policy)) b.0, not-true (function_at h p).is_up d.1))
-
-new_holds : (h : HostState) (policy : Policy) (a : ℕ) → holds (function_of h.ids policy) a ≡ true → address_of policy ≡ a
+-- a function without a guest holds its permanent address alone
+pub alone : (policy : Policy) (a : ℕ) → holds (Admitted policy None) a ≡ true → eqb (number_of policy.address) a ≡ true
 unfolding holds
-new_holds h policy a there = eqb-true (address_of policy) a (go (eqb (address_of policy) a) there)
+alone policy a there = go (eqb (number_of policy.address) a) there
   where
     go : (b : Bool) → (b || (false || false)) ≡ true → b ≡ true
     go true is = refl
     go false is = is
 
-new_stands : (h : HostState) (p : ℕ) (policy : Policy) → is_admitted h p policy ≡ true → MayStand h p (function_of h.ids policy)
-unfolding holds
-new_stands h p policy is =
-    let parts = admitted h p policy is in
-    record {
-      within = record {
-        unicast = λ a there. subst (λ (n : ℕ). is_unicast n ≡ true) (new_holds h policy a there) parts.0;
-        granted = λ a there. let here : eqb (address_of policy) a ≡ true = let same = new_holds h policy a there in grind (arith, nat_tests, same) in ap (λ b. b || policy.may_choose) here;
-        joined = λ k there. absurd (true≢false (sym there ∙ has_bit_zero k));
-        multicast = λ two. absurd (not_two 0 (omega arith) two);
-        no_address = λ down. refl;
-        no_second = λ down. refl;
-        no_vlan = λ down. refl;
-      };
-      held = λ a there. inr (ap (is_taken h p) (sym (new_holds h policy a there)) ∙ parts.1.0);
-    }
+unicast_of : (policy : Policy) (guest : Option Guest) → IsWithinPolicy (Admitted policy guest) → is_unicast (number_of policy.address) ≡ true
+unicast_of policy None w = w
+unicast_of policy (Some g) w = w.0
+
+gone_stands : (h : HostState) (p : ℕ) (s : Slot) → slot_at h p ≡ s → IsWithinPolicy s → MayStand h p (with_guest s None)
+gone_stands h p Absent at w = record { within = tt; held = λ a there. inl (ap (λ s. holds s a) at ∙ there) }
+gone_stands h p (Admitted policy guest) at w = record {
+  within = unicast_of policy guest w;
+  held = λ a there. inl (ap (λ s. holds s a) at ∙ own_held policy guest a (alone policy a there));
+}
+
+pub reset_within : (h : HostState) (p : ℕ) → p < 64 → IsWithin h → IsWithin (host_without h p)
+unfolding host_without
+reset_within h p small w = stands h p (with_guest (slot_at h p) None) small w (gone_stands h p (slot_at h p) refl (w.policies p small))
+
+-- ---- policies
+
+same_policy : (s : Slot) (guest : Option Guest) → policy_of s ≡ policy_of (with_guest s guest)
+same_policy Absent guest = refl
+same_policy (Admitted policy old) guest = refl
+
+policies_with : (h : HostState) (p : ℕ) (guest : Option Guest) → KeepsPolicies h (with_slot h p (with_guest (slot_at h p) guest))
+policies_with h p guest q = go (at_place h p q (with_guest (slot_at h p) guest))
+  where
+    go : (slot_at (with_slot h p (with_guest (slot_at h p) guest)) q ≡ slot_at h q) ⊎ ((q ≡ p) × (slot_at (with_slot h p (with_guest (slot_at h p) guest)) q ≡ with_guest (slot_at h p) guest))
+        → policy_of (slot_at h q) ≡ policy_of (slot_at (with_slot h p (with_guest (slot_at h p) guest)) q)
+    go (inl e) = ap policy_of (sym e)
+    go (inr e) = ap (λ n. policy_of (slot_at h n)) e.0 ∙ same_policy (slot_at h p) guest ∙ ap policy_of (sym e.1)
+
+outcome_policies : (h : HostState) (p : ℕ) (o : Option Guest) → KeepsPolicies h (host_with h p o)
+outcome_policies h p None = λ q. refl
+outcome_policies h p (Some g) = policies_with h p (Some g)
+
+pub message_policies : (h : HostState) (p : ℕ) (message : Message) → KeepsPolicies h (host_after h p message)
+unfolding host_after
+message_policies h p message = outcome_policies h p (outcome h p message)
+
+pub reset_policies : (h : HostState) (p : ℕ) → KeepsPolicies h (host_without h p)
+unfolding host_without
+reset_policies h p = policies_with h p None
+
+-- ---- a policy is given
+
+admitted : (h : HostState) (p : ℕ) (policy : Policy) → is_admitted h p policy ≡ true → (is_unicast (number_of policy.address) ≡ true) × ((is_taken h p (number_of policy.address) ≡ false) × (is_up (slot_at h p) ≡ false))
+unfolding is_admitted
+admitted h p policy is =
+    let a : (is_unicast (number_of policy.address) ≡ true) × ((not (is_taken h p (number_of policy.address)) && (is_placed h.ids policy.vlans && not (is_up (slot_at h p)))) ≡ true) = and_parts (is_unicast (number_of policy.address)) _ is in
+    let b : (not (is_taken h p (number_of policy.address)) ≡ true) × ((is_placed h.ids policy.vlans && not (is_up (slot_at h p))) ≡ true) = and_parts (not (is_taken h p (number_of policy.address))) _ a.1 in
+    let d : (is_placed h.ids policy.vlans ≡ true) × (not (is_up (slot_at h p)) ≡ true) = and_parts (is_placed h.ids policy.vlans) (not (is_up (slot_at h p))) b.1 in
+    (a.0, (not-true (is_taken h p (number_of policy.address)) b.0, not-true (is_up (slot_at h p)) d.1))
+
+new_stands : (h : HostState) (p : ℕ) (policy : Policy) → is_admitted h p policy ≡ true → MayStand h p (Admitted policy None)
+new_stands h p policy is = record {
+  within = (admitted h p policy is).0;
+  held = λ a there. inr (ap (is_taken h p) (sym (eqb-true (number_of policy.address) a (alone policy a there))) ∙ (admitted h p policy is).1.0);
+}
 
 pub admit_within : (h : HostState) (p : ℕ) (policy : Policy) → p < 64 → IsWithin h → IsWithin (host_admitting h p policy)
 unfolding host_admitting
 admit_within h p policy small w = go (is_admitted h p policy) refl
   where
-    go : (b : Bool) → is_admitted h p policy ≡ b → IsWithin (cond b (with_function h p (function_of h.ids policy)) h)
-    go true is = stands h p (function_of h.ids policy) small w (new_stands h p policy is)
+    go : (b : Bool) → is_admitted h p policy ≡ b → IsWithin (cond b (with_slot h p (Admitted policy None)) h)
+    go true is = stands h p (Admitted policy None) small w (new_stands h p policy is)
     go false is = w
 
 -- a function that is not up makes no register
-admit_alike : (h : HostState) (p : ℕ) (policy : Policy) → p < 64 → IsWithin h → is_admitted h p policy ≡ true → IsAlike (function_at h p) (function_at (with_function h p (function_of h.ids policy)) p)
-admit_alike h p policy small w is = go (at_place h p p (function_of h.ids policy))
-  where
-    down : (function_at h p).is_up ≡ false
-    down = (admitted h p policy is).1.1
+alike_itself : (s : Slot) → IsAlike s s
+alike_itself s = record { up = refl; address = refl; second = refl; joined = λ k. refl; flags = refl; port = λ ids. refl }
 
-    go : (function_at (with_function h p (function_of h.ids policy)) p ≡ function_at h p) ⊎ ((p ≡ p) × (function_at (with_function h p (function_of h.ids policy)) p ≡ function_of h.ids policy))
-        → IsAlike (function_at h p) (function_at (with_function h p (function_of h.ids policy)) p)
-    go (inl same) = rw same (record { up = refl; address = refl; second = refl; joined = refl; flags = refl; port = refl })
-    go (inr new) = rw new.1 (record {
-      up = down;
-      address = (w.policies p small).no_address down;
-      second = (w.policies p small).no_second down;
-      joined = (w.policies p small).no_vlan down;
-      flags = ap (λ b. cond b (2 ^ 27 + cond (is_none (function_at h p).port) (2 ^ 24) 0 + cond ((function_at h p).groups || eqb (function_at h p).mode 2) (2 ^ 28) 0) 0) down;
-      port = ap (λ b. cond b (inserted (function_at h p).port) 0) down;
-    })
+down_alike : (s : Slot) (policy : Policy) → is_up s ≡ false → IsAlike s (Admitted policy None)
+down_alike Absent policy down = record { up = refl; address = refl; second = refl; joined = λ k. refl; flags = refl; port = λ ids. refl }
+down_alike (Admitted old None) policy down = record { up = refl; address = refl; second = refl; joined = λ k. refl; flags = refl; port = λ ids. refl }
+down_alike (Admitted old (Some g)) policy down = absurd (true≢false down)
 
-pub admit_settings : (h : HostState) (p : ℕ) (policy : Policy) → p < 64 → length h.ids ≤ 64 → IsWithin h → settings_of (host_admitting h p policy) ≡ settings_of h
+admit_alike : (h : HostState) (p : ℕ) (policy : Policy) → is_admitted h p policy ≡ true → IsAlike (slot_at h p) (slot_at (with_slot h p (Admitted policy None)) p)
+admit_alike h p policy is =
+    ⊎_elim (λ same. subst (IsAlike (slot_at h p)) (sym same) (alike_itself (slot_at h p))) (λ new. subst (IsAlike (slot_at h p)) (sym new.1) (down_alike (slot_at h p) policy (admitted h p policy is).1.1)) (at_place h p p (Admitted policy None))
+
+pub admit_settings : (h : HostState) (p : ℕ) (policy : Policy) → p < 64 → length h.ids ≤ 64 → settings_of (host_admitting h p policy) ≡ settings_of h
 unfolding host_admitting
-admit_settings h p policy small few w = go (is_admitted h p policy) refl
+admit_settings h p policy small few = go (is_admitted h p policy) refl
   where
-    go : (b : Bool) → is_admitted h p policy ≡ b → settings_of (cond b (with_function h p (function_of h.ids policy)) h) ≡ settings_of h
-    go true is = sym (settings_alike h p (function_of h.ids policy) small few (admit_alike h p policy small w is))
+    go : (b : Bool) → is_admitted h p policy ≡ b → settings_of (cond b (with_slot h p (Admitted policy None)) h) ≡ settings_of h
+    go true is = sym (settings_alike h p (Admitted policy None) small few (admit_alike h p policy is))
     go false is = refl
 
 -- ---- the first host
 
-absent_within : IsWithinPolicy absent
-unfolding holds
-absent_within = record {
-  unicast = λ a there. absurd (true≢false (sym there));
-  granted = λ a there. absurd (true≢false (sym there));
-  joined = λ k there. absurd (true≢false (sym there ∙ has_bit_zero k));
-  multicast = λ two. absurd (not_two 0 (omega arith) two);
-  no_address = λ down. refl;
-  no_second = λ down. refl;
-  no_vlan = λ down. refl;
-}
-
-absent_holds : (a : ℕ) → holds absent a ≡ false
+absent_holds : (a : ℕ) → holds Absent a ≡ false
 unfolding holds
 absent_holds a = refl
 
-pub first_within : (ids : List ℕ) (default_pool : Option ℕ) (limit : ℕ) → IsWithin (record { functions = replicate 64 absent; ids = ids; default_pool = default_pool; limit = limit })
+pub first_within : (ids : List ℕ) (default_pool : Option ℕ) (limit : ℕ) → IsWithin (record { slots = replicate 64 Absent; ids = ids; default_pool = default_pool; limit = limit })
 first_within ids default_pool limit = record {
-  policies = λ p small. subst IsWithinPolicy (sym (get_or-replicate 64 p absent absent small)) absent_within;
-  one_holder = λ p q a p_small q_small other there. ap (λ f. holds f a) (get_or-replicate 64 q absent absent q_small) ∙ absent_holds a;
+  policies = λ p small. subst IsWithinPolicy (sym (get_or-replicate 64 p Absent Absent small)) tt;
+  one_holder = λ p q a p_small q_small other there. ap (λ s. holds s a) (get_or-replicate 64 q Absent Absent q_small) ∙ absent_holds a;
 }

@@ -3,7 +3,6 @@ use Rattle.std.proofs.Common.{arith, ◌≡◌, ℕ, ◌+◌, ◌*◌, ◌/◌, 
 use Rattle.std.proofs.lemmas.Bool.{eqb-false}
 use Rattle.std.proofs.lemmas.Bool.Decides.{nat_tests}
 use Rattle.std.proofs.lemmas.List.{append-nil}
-use Rattle.wire_frame.specs.Bits.{has_bit}
 use Rattle.addr_tables.specs.Registers.{RAL, RAH, MPSAR, MTA, MCSTCTRL, MCSTCTRL_KEPT}
 use Rattle.vlan_table.specs.Registers.{VLNCTRL, VLNCTRL_KEPT, VFTA, VLVF, VLVFB}
 use Rattle.pool_filter.specs.Registers.{PF_VT_CTL, PF_VT_CTL_KEPT, PF_VT_CTL_SET, PFVFRE, PFVFTE, VMVIR, PFVFSPOOF, PFDTXGSWC, PFDTXGSWC_KEPT, VMOLR}
@@ -13,13 +12,14 @@ use Rattle.pool_filter.specs.Settings.{Settings, settings_after, pool_control_af
 use Rattle.wire_frame.specs.declared.row.Row.{Row}
 use Rattle.wire_frame.specs.Row.{one_after}
 use Rattle.pool_filter.specs.Map.{one_row}
-use Rattle.mailbox.specs.declared.function.Function.{Function}
+use Rattle.mailbox.specs.declared.slot.Slot.{Slot}
 use Rattle.mailbox.specs.declared.writes.Write.{Write}
-use Rattle.mailbox.specs.Host.{HostState, function_at, with_function}
-use Rattle.mailbox.specs.Function.{low_part}
-use Rattle.mailbox.specs.Words.{table, mask_from, entry, low_word, valid, high_word, pool_word, table_word, id_word, control_word, member_word, has_joined, is_up, up_word, flags_word, port_word, addresses_of, vlans_of, settings_of}
+use Rattle.mailbox.specs.State.{HostState, slot_at, with_slot}
+use Rattle.mailbox.specs.Address.{low_part}
+use Rattle.mailbox.specs.Slot.{is_up, own_address, second_address, has_joined}
+use Rattle.mailbox.specs.Words.{table, mask_from, entry, low_word, valid, high_word, pool_word, table_word, id_word, control_word, member_word, joined_at, up_at, up_word, flags_word, port_word, addresses_of, vlans_of, settings_of}
 use Rattle.mailbox.specs.Writes.{writes_where, changes, turns, moves, joins_or_leaves, entry_writes, pool_writes, shared_writes, writes_of, after_writes}
-use Rattle.mailbox.proofs.Isolation.{function_stays, entry_stays}
+use Rattle.mailbox.proofs.Isolation.{slot_stays, entry_stays}
 use Rattle.mailbox.proofs.Rows.{row_after, word_after, table_same, Part, part_writes, writes_in, AllFit, all_far, each_far, row_spared, word_spared, within, parts_make}
 use Rattle.mailbox.proofs.Kept.{low_kept, valid_kept, kept_flags, kept_port, kept_mask, kept_members}
 use Rattle.mailbox.proofs.Masks.{mask_same}
@@ -70,25 +70,25 @@ entry_parts e old new =
     ∷ record { test = λ i. moves old new && is_some new; row = RAH; word = λ i. valid new; from = e; count = 1 }
     ∷ []
 
-abbrev pub pool_parts : ℕ → Function → Function → List Part
-pool_parts p old new =
+abbrev pub pool_parts : HostState → ℕ → Slot → Slot → List Part
+pool_parts k p old new =
     record { test = λ i. changes (flags_word old) (flags_word new); row = VMOLR; word = λ i. flags_word new; from = p; count = 1 }
-    ∷ record { test = λ i. changes (port_word old) (port_word new); row = VMVIR; word = λ i. port_word new; from = p; count = 1 }
+    ∷ record { test = λ i. changes (port_word k.ids old) (port_word k.ids new); row = VMVIR; word = λ i. port_word k.ids new; from = p; count = 1 }
     ∷ []
 
-abbrev pub shared_parts : HostState → ℕ → Function → Function → List Part
+abbrev pub shared_parts : HostState → ℕ → Slot → Slot → List Part
 shared_parts k p old new =
-    record { test = λ i. turns old.is_up new.is_up; row = PFVFRE; word = up_word k; from = p / 32; count = 1 }
-    ∷ record { test = λ i. turns old.is_up new.is_up; row = PFVFTE; word = up_word k; from = p / 32; count = 1 }
+    record { test = λ i. turns (is_up old) (is_up new); row = PFVFRE; word = up_word k; from = p / 32; count = 1 }
+    ∷ record { test = λ i. turns (is_up old) (is_up new); row = PFVFTE; word = up_word k; from = p / 32; count = 1 }
     ∷ record { test = joins_or_leaves p old new; row = VLVFB; word = member_word k; from = 0; count = 2 * length k.ids }
     ∷ []
 
-abbrev pub parts : HostState → ℕ → Function → List Part
+abbrev pub parts : HostState → ℕ → Slot → List Part
 parts k p old =
-    entry_parts p old.address (function_at k p).address
-    ++ entry_parts (64 + p) old.second (function_at k p).second
-    ++ pool_parts p old (function_at k p)
-    ++ shared_parts k p old (function_at k p)
+    entry_parts p (own_address old) (own_address (slot_at k p))
+    ++ entry_parts (64 + p) (second_address old) (second_address (slot_at k p))
+    ++ pool_parts k p old (slot_at k p)
+    ++ shared_parts k p old (slot_at k p)
 
 parts_append : (gs hs : List Part) → writes_in gs ++ writes_in hs ≡ writes_in (gs ++ hs)
 parts_append [] hs = refl
@@ -105,27 +105,27 @@ entry_in e old new =
     three_in (writes_where (λ i. moves old new && is_some old) RAH (λ i. 0) e 1) (writes_where (λ i. changes (low_part old) (low_part new)) RAL (λ i. low_part new) e 1)
     (writes_where (λ i. moves old new && is_some new) RAH (λ i. valid new) e 1)
 
-pool_in : (p : ℕ) (old new : Function) → pool_writes p old new ≡ writes_in (pool_parts p old new)
-pool_in p old new =
-    two_in (writes_where (λ i. changes (flags_word old) (flags_word new)) VMOLR (λ i. flags_word new) p 1) (writes_where (λ i. changes (port_word old) (port_word new)) VMVIR (λ i. port_word new) p 1)
+pool_in : (k : HostState) (p : ℕ) (old new : Slot) → pool_writes k p old new ≡ writes_in (pool_parts k p old new)
+pool_in k p old new =
+    two_in (writes_where (λ i. changes (flags_word old) (flags_word new)) VMOLR (λ i. flags_word new) p 1) (writes_where (λ i. changes (port_word k.ids old) (port_word k.ids new)) VMVIR (λ i. port_word k.ids new) p 1)
 
-shared_in : (k : HostState) (p : ℕ) (old new : Function) → shared_writes k p old new ≡ writes_in (shared_parts k p old new)
+shared_in : (k : HostState) (p : ℕ) (old new : Slot) → shared_writes k p old new ≡ writes_in (shared_parts k p old new)
 shared_in k p old new =
-    three_in (writes_where (λ i. turns old.is_up new.is_up) PFVFRE (up_word k) (p / 32) 1) (writes_where (λ i. turns old.is_up new.is_up) PFVFTE (up_word k) (p / 32) 1)
+    three_in (writes_where (λ i. turns (is_up old) (is_up new)) PFVFRE (up_word k) (p / 32) 1) (writes_where (λ i. turns (is_up old) (is_up new)) PFVFTE (up_word k) (p / 32) 1)
     (writes_where (joins_or_leaves p old new) VLVFB (member_word k) 0 (2 * length k.ids))
 
-pub in_parts : (k : HostState) (p : ℕ) (old : Function) → writes_of k p old ≡ writes_in (parts k p old)
+pub in_parts : (k : HostState) (p : ℕ) (old : Slot) → writes_of k p old ≡ writes_in (parts k p old)
 unfolding writes_of
 in_parts k p old =
-    (λ i. entry_in p old.address new.address i ++ entry_in (64 + p) old.second new.second i ++ pool_in p old new i ++ shared_in k p old new i)
-    ∙ ap (λ l. l ++ writes_in (pool_parts p old new) ++ writes_in (shared_parts k p old new)) (parts_append (entry_parts p old.address new.address) (entry_parts (64 + p) old.second new.second))
-    ∙ ap (λ l. l ++ writes_in (shared_parts k p old new)) (parts_append (entry_parts p old.address new.address ++ entry_parts (64 + p) old.second new.second) (pool_parts p old new))
-    ∙ parts_append (entry_parts p old.address new.address ++ entry_parts (64 + p) old.second new.second ++ pool_parts p old new) (shared_parts k p old new)
+    (λ i. entry_in p (own_address old) (own_address new) i ++ entry_in (64 + p) (second_address old) (second_address new) i ++ pool_in k p old new i ++ shared_in k p old new i)
+    ∙ ap (λ l. l ++ writes_in (pool_parts k p old new) ++ writes_in (shared_parts k p old new)) (parts_append (entry_parts p (own_address old) (own_address new)) (entry_parts (64 + p) (second_address old) (second_address new)))
+    ∙ ap (λ l. l ++ writes_in (shared_parts k p old new)) (parts_append (entry_parts p (own_address old) (own_address new) ++ entry_parts (64 + p) (second_address old) (second_address new)) (pool_parts k p old new))
+    ∙ parts_append (entry_parts p (own_address old) (own_address new) ++ entry_parts (64 + p) (second_address old) (second_address new) ++ pool_parts k p old new) (shared_parts k p old new)
   where
-    new : Function
-    new = function_at k p
+    new : Slot
+    new = slot_at k p
 
-pub parts_fit : (k : HostState) (p : ℕ) (old : Function) → p < 64 → length k.ids ≤ 64 → AllFit (parts k p old)
+pub parts_fit : (k : HostState) (p : ℕ) (old : Slot) → p < 64 → length k.ids ≤ 64 → AllFit (parts k p old)
 parts_fit k p old small few = (
   here p (omega arith),
   (
@@ -172,58 +172,58 @@ moved_is (Some a) (Some b) = go (eqb b a) refl
     go false is = refl
 
 -- a row of receive address entries, by what the writes of an entry make of its word
-entries_settle : (h : HostState) (p : ℕ) (f : Function) (word : Option ℕ → ℕ) (made : Bool → Option ℕ → Option ℕ → ℕ → ℕ) (j : ℕ) → p < 64 → j < 128
+entries_settle : (h : HostState) (p : ℕ) (f : Slot) (word : Option ℕ → ℕ) (made : Bool → Option ℕ → Option ℕ → ℕ → ℕ) (j : ℕ) → p < 64 → j < 128
     → ((a b : Option ℕ) (x : ℕ) → made false a b x ≡ x) → ((a b : Option ℕ) → made true a b (word a) ≡ word b)
-    → made (within (64 + p) 1 j) (function_at h p).second (function_at (with_function h p f) p).second (made (within p 1 j) (function_at h p).address (function_at (with_function h p f) p).address (word (entry h j)))
-    ≡ word (entry (with_function h p f) j)
+    → made (within (64 + p) 1 j) (second_address (slot_at h p)) (second_address (slot_at (with_slot h p f) p)) (made (within p 1 j) (own_address (slot_at h p)) (own_address (slot_at (with_slot h p f) p)) (word (entry h j)))
+    ≡ word (entry (with_slot h p f) j)
 entries_settle h p f word made j small below stays makes =
-    (λ i. made (one_place (64 + p) j i) old.second new.second (made (one_place p j i) old.address new.address (word (entry h j))))
+    (λ i. made (one_place (64 + p) j i) (second_address old) (second_address new) (made (one_place p j i) (own_address old) (own_address new) (word (entry h j))))
     ∙ go (eqb j (64 + p)) refl (eqb j p) refl
   where
     k : HostState
-    k = with_function h p f
+    k = with_slot h p f
 
-    old : Function
-    old = function_at h p
+    old : Slot
+    old = slot_at h p
 
-    new : Function
-    new = function_at k p
+    new : Slot
+    new = slot_at k p
 
-    first : (g : HostState) → j ≡ p → entry g j ≡ (function_at g p).address
-    first g at = let is : ltb j 64 ≡ true = grind (arith, nat_tests, at, small) in ap (λ b. cond b (function_at g j).address (function_at g (j - 64)).second) is ∙ ap (λ n. (function_at g n).address) at
+    first : (g : HostState) → j ≡ p → entry g j ≡ (own_address (slot_at g p))
+    first g at = let is : ltb j 64 ≡ true = grind (arith, nat_tests, at, small) in ap (λ b. cond b (own_address (slot_at g j)) (second_address (slot_at g (j - 64)))) is ∙ ap (λ n. (own_address (slot_at g n))) at
 
-    second : (g : HostState) → j ≡ 64 + p → entry g j ≡ (function_at g p).second
+    second : (g : HostState) → j ≡ 64 + p → entry g j ≡ (second_address (slot_at g p))
     second g at =
         let is : ltb j 64 ≡ false = grind (arith, nat_tests, at) in
         let place : j - 64 ≡ p = omega (arith, at) in
-        ap (λ b. cond b (function_at g j).address (function_at g (j - 64)).second) is ∙ ap (λ n. (function_at g n).second) place
+        ap (λ b. cond b (own_address (slot_at g j)) (second_address (slot_at g (j - 64)))) is ∙ ap (λ n. (second_address (slot_at g n))) place
 
-    go : (b : Bool) → eqb j (64 + p) ≡ b → (c : Bool) → eqb j p ≡ c → made b old.second new.second (made c old.address new.address (word (entry h j))) ≡ word (entry k j)
+    go : (b : Bool) → eqb j (64 + p) ≡ b → (c : Bool) → eqb j p ≡ c → made b (second_address old) (second_address new) (made c (own_address old) (own_address new) (word (entry h j))) ≡ word (entry k j)
     go true is true also = absurd (omega (arith, eqb-true j (64 + p) is, eqb-true j p also))
     go true is false also =
         let at : j ≡ 64 + p = eqb-true j (64 + p) is in
-        ap (made true old.second new.second) (stays old.address new.address (word (entry h j)) ∙ ap word (second h at)) ∙ makes old.second new.second ∙ ap word (sym (second k at))
+        ap (made true (second_address old) (second_address new)) (stays (own_address old) (own_address new) (word (entry h j)) ∙ ap word (second h at)) ∙ makes (second_address old) (second_address new) ∙ ap word (sym (second k at))
     go false is true also =
         let at : j ≡ p = eqb-true j p also in
-        stays old.second new.second _ ∙ ap (λ o. made true old.address new.address (word o)) (first h at) ∙ makes old.address new.address ∙ ap word (sym (first k at))
+        stays (second_address old) (second_address new) _ ∙ ap (λ o. made true (own_address old) (own_address new) (word o)) (first h at) ∙ makes (own_address old) (own_address new) ∙ ap word (sym (first k at))
     go false is false also =
-        stays old.second new.second _ ∙ stays old.address new.address _
+        stays (second_address old) (second_address new) _ ∙ stays (own_address old) (own_address new) _
         ∙ ap word (sym (entry_stays h p (j % 64) j f (λ same. grind (arith, nat_tests, is, also, same, small, below)) below refl))
 
 -- a row with a word for each pool
-pool_settles : (h : HostState) (p : ℕ) (f : Function) (word : Function → ℕ) (j : ℕ)
-    → cond (within p 1 j && changes (word (function_at h p)) (word (function_at (with_function h p f) p))) (word (function_at (with_function h p f) p)) (word (function_at h j)) ≡ word (function_at (with_function h p f) j)
-pool_settles h p f word j = ap (λ b. cond (b && changes (word (function_at h p)) (word (function_at k p))) (word (function_at k p)) (word (function_at h j))) (one_place p j) ∙ go (eqb j p) refl
+pool_settles : (h : HostState) (p : ℕ) (f : Slot) (word : Slot → ℕ) (j : ℕ)
+    → cond (within p 1 j && changes (word (slot_at h p)) (word (slot_at (with_slot h p f) p))) (word (slot_at (with_slot h p f) p)) (word (slot_at h j)) ≡ word (slot_at (with_slot h p f) j)
+pool_settles h p f word j = ap (λ b. cond (b && changes (word (slot_at h p)) (word (slot_at k p))) (word (slot_at k p)) (word (slot_at h j))) (one_place p j) ∙ go (eqb j p) refl
   where
     k : HostState
-    k = with_function h p f
+    k = with_slot h p f
 
-    go : (b : Bool) → eqb j p ≡ b → cond (b && changes (word (function_at h p)) (word (function_at k p))) (word (function_at k p)) (word (function_at h j)) ≡ word (function_at k j)
+    go : (b : Bool) → eqb j p ≡ b → cond (b && changes (word (slot_at h p)) (word (slot_at k p))) (word (slot_at k p)) (word (slot_at h j)) ≡ word (slot_at k j)
     go true is =
         let at : j ≡ p = eqb-true j p is in
-        ap (λ n. cond (changes (word (function_at h p)) (word (function_at k p))) (word (function_at k p)) (word (function_at h n))) at
-        ∙ changed_is (word (function_at h p)) (word (function_at k p)) ∙ ap (λ n. word (function_at k n)) (sym at)
-    go false is = ap word (sym (function_stays h p j f (eqb-false j p is)))
+        ap (λ n. cond (changes (word (slot_at h p)) (word (slot_at k p))) (word (slot_at k p)) (word (slot_at h n))) at
+        ∙ changed_is (word (slot_at h p)) (word (slot_at k p)) ∙ ap (λ n. word (slot_at k n)) (sym at)
+    go false is = ap word (sym (slot_stays h p j f (eqb-false j p is)))
 
 -- a word of 32 pools, of which p alone may have turned
 half_settles : (t u : ℕ → Bool) (p half : ℕ) → ((q : ℕ) → q ≢ p → t q ≡ u q) → cond (eqb half (p / 32) && turns (t p) (u p)) (mask_from u (32 * half) 32) (mask_from t (32 * half) 32) ≡ mask_from u (32 * half) 32
@@ -249,7 +249,7 @@ half_settles t u p half others = go (eqb half (p / 32)) refl (turns (t p) (u p))
 
 -- ---- all rows
 
-rows_settle : (h : HostState) (p : ℕ) (f : Function) → p < 64 → length h.ids ≤ 64 → rows_after (settings_of h) (writes_in (parts (with_function h p f) p (function_at h p))) ≡ settings_of (with_function h p f)
+rows_settle : (h : HostState) (p : ℕ) (f : Slot) → p < 64 → length h.ids ≤ 64 → rows_after (settings_of h) (writes_in (parts (with_slot h p f) p (slot_at h p))) ≡ settings_of (with_slot h p f)
 unfolding settings_of addresses_of vlans_of
 rows_settle h p f small few = λ i. record {
   addresses = record {
@@ -275,13 +275,13 @@ rows_settle h p f small few = λ i. record {
 }
   where
     k : HostState
-    k = with_function h p f
+    k = with_slot h p f
 
-    old : Function
-    old = function_at h p
+    old : Slot
+    old = slot_at h p
 
-    new : Function
-    new = function_at k p
+    new : Slot
+    new = slot_at k p
 
     fit : AllFit (parts k p old)
     fit = parts_fit k p old small few
@@ -295,47 +295,47 @@ rows_settle h p f small few = λ i. record {
     lows : row_after RAL (table 128 (low_word h)) (writes_in (parts k p old)) ≡ table 128 (low_word k)
     lows =
         parts_make RAL (low_word h) (parts k p old)
-        (refl, ((refl, λ j. low_kept new.address), (refl, (refl, ((refl, λ j. low_kept new.second), (refl, (refl, (refl, (refl, (refl, (refl, tt))))))))))) fit
+        (refl, ((refl, λ j. low_kept (own_address new)), (refl, (refl, ((refl, λ j. low_kept (second_address new)), (refl, (refl, (refl, (refl, (refl, (refl, tt))))))))))) fit
         ∙ table_same 128 _ (low_word k) (λ j below. entries_settle h p f low_part (λ b o n x. cond (b && changes (low_part o) (low_part n)) (low_part n) x) j small below (λ a b x. refl) (λ a b. changed_is (low_part a) (low_part b)))
 
     highs : row_after RAH (table 128 (high_word h)) (writes_in (parts k p old)) ≡ table 128 (high_word k)
     highs =
         parts_make RAH (high_word h) (parts k p old)
-        ((refl, λ j. refl), (refl, ((refl, λ j. valid_kept new.address), ((refl, λ j. refl), (refl, ((refl, λ j. valid_kept new.second), (refl, (refl, (refl, (refl, (refl, tt))))))))))) fit
+        ((refl, λ j. refl), (refl, ((refl, λ j. valid_kept (own_address new)), ((refl, λ j. refl), (refl, ((refl, λ j. valid_kept (second_address new)), (refl, (refl, (refl, (refl, (refl, tt))))))))))) fit
         ∙ table_same 128 _ (high_word k) (λ j below. entries_settle h p f valid (λ b o n x. cond (b && (moves o n && is_some n)) (valid n) (cond (b && (moves o n && is_some o)) 0 x)) j small below (λ a b x. refl) moved_is)
 
-    flag_words : row_after VMOLR (table 64 (λ q. flags_word (function_at h q))) (writes_in (parts k p old)) ≡ table 64 (λ q. flags_word (function_at k q))
+    flag_words : row_after VMOLR (table 64 (λ q. flags_word (slot_at h q))) (writes_in (parts k p old)) ≡ table 64 (λ q. flags_word (slot_at k q))
     flag_words =
-        parts_make VMOLR (λ q. flags_word (function_at h q)) (parts k p old)
+        parts_make VMOLR (λ q. flags_word (slot_at h q)) (parts k p old)
         (refl, (refl, (refl, (refl, (refl, (refl, ((refl, λ j. kept_flags new), (refl, (refl, (refl, (refl, tt))))))))))) fit
-        ∙ table_same 64 _ (λ q. flags_word (function_at k q)) (λ j below. pool_settles h p f flags_word j)
+        ∙ table_same 64 _ (λ q. flags_word (slot_at k q)) (λ j below. pool_settles h p f flags_word j)
 
-    ports : row_after VMVIR (table 64 (λ q. port_word (function_at h q))) (writes_in (parts k p old)) ≡ table 64 (λ q. port_word (function_at k q))
+    ports : row_after VMVIR (table 64 (λ q. port_word h.ids (slot_at h q))) (writes_in (parts k p old)) ≡ table 64 (λ q. port_word k.ids (slot_at k q))
     ports =
-        parts_make VMVIR (λ q. port_word (function_at h q)) (parts k p old)
-        (refl, (refl, (refl, (refl, (refl, (refl, (refl, ((refl, λ j. kept_port new), (refl, (refl, (refl, tt))))))))))) fit
-        ∙ table_same 64 _ (λ q. port_word (function_at k q)) (λ j below. pool_settles h p f port_word j)
+        parts_make VMVIR (λ q. port_word h.ids (slot_at h q)) (parts k p old)
+        (refl, (refl, (refl, (refl, (refl, (refl, (refl, ((refl, λ j. kept_port h.ids new), (refl, (refl, (refl, tt))))))))))) fit
+        ∙ table_same 64 _ (λ q. port_word k.ids (slot_at k q)) (λ j below. pool_settles h p f (port_word h.ids) j)
 
-    ups_stay : (q : ℕ) → q ≢ p → is_up h q ≡ is_up k q
-    ups_stay q other = ap (λ g. g.is_up) (sym (function_stays h p q f other))
+    ups_stay : (q : ℕ) → q ≢ p → up_at h q ≡ up_at k q
+    ups_stay q other = ap (λ g. (is_up g)) (sym (slot_stays h p q f other))
 
-    up_settles : (j : ℕ) → cond (within (p / 32) 1 j && turns old.is_up new.is_up) (up_word k j) (up_word h j) ≡ up_word k j
-    up_settles j = ap (λ b. cond (b && turns old.is_up new.is_up) (up_word k j) (up_word h j)) (one_place (p / 32) j) ∙ half_settles (is_up h) (is_up k) p j ups_stay
+    up_settles : (j : ℕ) → cond (within (p / 32) 1 j && turns (is_up old) (is_up new)) (up_word k j) (up_word h j) ≡ up_word k j
+    up_settles j = ap (λ b. cond (b && turns (is_up old) (is_up new)) (up_word k j) (up_word h j)) (one_place (p / 32) j) ∙ half_settles (up_at h) (up_at k) p j ups_stay
 
     receives : row_after PFVFRE (table 2 (up_word h)) (writes_in (parts k p old)) ≡ table 2 (up_word k)
     receives =
         parts_make PFVFRE (up_word h) (parts k p old)
-        (refl, (refl, (refl, (refl, (refl, (refl, (refl, (refl, ((refl, λ j. kept_mask (is_up k) (32 * j)), (refl, (refl, tt))))))))))) fit
+        (refl, (refl, (refl, (refl, (refl, (refl, (refl, (refl, ((refl, λ j. kept_mask (up_at k) (32 * j)), (refl, (refl, tt))))))))))) fit
         ∙ table_same 2 _ (up_word k) (λ j below. up_settles j)
 
     transmits : row_after PFVFTE (table 2 (up_word h)) (writes_in (parts k p old)) ≡ table 2 (up_word k)
     transmits =
         parts_make PFVFTE (up_word h) (parts k p old)
-        (refl, (refl, (refl, (refl, (refl, (refl, (refl, (refl, (refl, ((refl, λ j. kept_mask (is_up k) (32 * j)), (refl, tt))))))))))) fit
+        (refl, (refl, (refl, (refl, (refl, (refl, (refl, (refl, (refl, ((refl, λ j. kept_mask (up_at k) (32 * j)), (refl, tt))))))))))) fit
         ∙ table_same 2 _ (up_word k) (λ j below. up_settles j)
 
-    joins_stay : (n q : ℕ) → q ≢ p → has_joined h n q ≡ has_joined k n q
-    joins_stay n q other = ap (λ g. has_bit g.joined n) (sym (function_stays h p q f other))
+    joins_stay : (n q : ℕ) → q ≢ p → joined_at h n q ≡ joined_at k n q
+    joins_stay n q other = ap (λ g. has_joined g n) (sym (slot_stays h p q f other))
 
     member_settles : (j : ℕ) → cond (within 0 (2 * length h.ids) j && joins_or_leaves p old new j) (member_word k j) (member_word h j) ≡ member_word k j
     member_settles j = ap (λ b. cond (b && joins_or_leaves p old new j) (member_word k j) (member_word h j)) first ∙ go (ltb j (2 * length h.ids))
@@ -343,8 +343,8 @@ rows_settle h p f small few = λ i. record {
         first : within 0 (2 * length h.ids) j ≡ ltb j (2 * length h.ids)
         first = grind (arith, nat_tests)
 
-        go : (b : Bool) → cond (b && joins_or_leaves p old new j) (cond b (mask_from (has_joined k (j / 2)) (32 * (j % 2)) 32) 0) (cond b (mask_from (has_joined h (j / 2)) (32 * (j % 2)) 32) 0) ≡ cond b (mask_from (has_joined k (j / 2)) (32 * (j % 2)) 32) 0
-        go true = half_settles (has_joined h (j / 2)) (has_joined k (j / 2)) p (j % 2) (joins_stay (j / 2))
+        go : (b : Bool) → cond (b && joins_or_leaves p old new j) (cond b (mask_from (joined_at k (j / 2)) (32 * (j % 2)) 32) 0) (cond b (mask_from (joined_at h (j / 2)) (32 * (j % 2)) 32) 0) ≡ cond b (mask_from (joined_at k (j / 2)) (32 * (j % 2)) 32) 0
+        go true = half_settles (joined_at h (j / 2)) (joined_at k (j / 2)) p (j % 2) (joins_stay (j / 2))
         go false = refl
 
     member_words : row_after VLVFB (table 128 (member_word h)) (writes_in (parts k p old)) ≡ table 128 (member_word k)
@@ -353,8 +353,8 @@ rows_settle h p f small few = λ i. record {
         (refl, (refl, (refl, (refl, (refl, (refl, (refl, (refl, (refl, (refl, ((refl, kept_members k), tt))))))))))) fit
         ∙ table_same 128 _ (member_word k) (λ j below. member_settles j)
 
-pub settled : (h : HostState) (p : ℕ) (f : Function) → p < 64 → length h.ids ≤ 64 → after_writes (settings_of h) (writes_of (with_function h p f) p (function_at h p)) ≡ settings_of (with_function h p f)
+pub settled : (h : HostState) (p : ℕ) (f : Slot) → p < 64 → length h.ids ≤ 64 → after_writes (settings_of h) (writes_of (with_slot h p f) p (slot_at h p)) ≡ settings_of (with_slot h p f)
 settled h p f small few =
-    by_rows (settings_of h) (writes_of (with_function h p f) p (function_at h p))
-    ∙ ap (rows_after (settings_of h)) (in_parts (with_function h p f) p (function_at h p))
+    by_rows (settings_of h) (writes_of (with_slot h p f) p (slot_at h p))
+    ∙ ap (rows_after (settings_of h)) (in_parts (with_slot h p f) p (slot_at h p))
     ∙ rows_settle h p f small few

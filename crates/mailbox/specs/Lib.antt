@@ -1,11 +1,15 @@
-pub mod Function
+pub mod Address
+pub mod Granting
 pub mod Host
 pub mod Isolation
 pub mod Mailbox
 pub mod Message
+pub mod Policy
 pub mod Registers
 pub mod Replies
+pub mod Slot
 pub mod Start
+pub mod State
 pub mod Within
 pub mod Words
 pub mod Writes

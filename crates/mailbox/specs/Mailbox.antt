@@ -1,5 +1,5 @@
 -- The mailbox of one function: what its driver reads and writes, and what the host puts there.
-use Rattle.std.specs.Prelude.{ℕ, ◌==◌, List, ◌∷◌, Option, Some, None, replicate, slice_set, bit_and, bit_or, if◌then◌else◌}
+use Rattle.std.specs.Prelude.{ℕ, ◌==◌, List, ◌∷◌, Option, Some, None, replicate, slice_index, slice_set, bit_and, bit_or, if◌then◌else◌}
 use Rattle.wire_frame.specs.Bits.{has_bit}
 use Rattle.wire_frame.specs.Row.{is_in, ◌or◌, word_at, words_after, one_at}
 use Rattle.mailbox.specs.Registers.{VFMBMEM, VFMAILBOX, REQ, VFU, ANSWERED, RSTD, READ_KEEPS, WRITE_KEEPS}
@@ -44,6 +44,6 @@ after_write m offset x = record {
 -- the mailbox with a reply in words 0 to 4
 unfoldable pub replied : MailboxState → Reply → MailboxState
 replied m reply = record {
-  words = slice_set (slice_set (slice_set (slice_set (slice_set m.words 0 reply.head) 1 reply.first) 2 reply.second) 3 reply.third) 4 reply.fourth;
+  words = slice_set (slice_set (slice_set (slice_set (slice_set m.words 0 (slice_index reply.words 0)) 1 (slice_index reply.words 1)) 2 (slice_index reply.words 2)) 3 (slice_index reply.words 3)) 4 (slice_index reply.words 4);
   control = bit_or m.control ANSWERED;
 }

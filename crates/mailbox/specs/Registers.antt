@@ -32,3 +32,46 @@ READ_KEEPS = 0x4C
 -- what a write leaves: PFU, PFSTS, PFACK, RSTI and RSTD
 abbrev pub WRITE_KEEPS : ℕ
 WRITE_KEEPS = 0xF8
+
+-- ---- the words of messages (Linux ixgbevf, mbx.h)
+
+-- bits of word 0: CTS, NACK and ACK
+abbrev pub CTS : ℕ
+CTS = 29
+
+abbrev pub NACK : ℕ
+NACK = 30
+
+abbrev pub ACK : ℕ
+ACK = 31
+
+-- RESET is the whole word, and the others are types in bits 15:0
+abbrev pub RESET : ℕ
+RESET = 1
+
+abbrev pub SET_MAC_ADDR : ℕ
+SET_MAC_ADDR = 2
+
+abbrev pub SET_MULTICAST : ℕ
+SET_MULTICAST = 3
+
+abbrev pub SET_VLAN : ℕ
+SET_VLAN = 4
+
+abbrev pub SET_LPE : ℕ
+SET_LPE = 5
+
+abbrev pub SET_MACVLAN : ℕ
+SET_MACVLAN = 6
+
+abbrev pub API_NEGOTIATE : ℕ
+API_NEGOTIATE = 8
+
+abbrev pub GET_QUEUES : ℕ
+GET_QUEUES = 9
+
+abbrev pub UPDATE_XCAST_MODE : ℕ
+UPDATE_XCAST_MODE = 12
+
+abbrev pub GET_LINK_STATE : ℕ
+GET_LINK_STATE = 16

@@ -9,7 +9,7 @@ use Rattle.pool_filter.specs.Settings.{Settings}
 use Rattle.mailbox.specs.declared.start.Register.{Register}
 use Rattle.mailbox.specs.declared.start.Register.TheVariants.{SourceChecks, LowAddress, HighAddress, AddressPools, MulticastTable, MulticastControl, VlanControl, VlanTable, VlanIds, VlanPools, PoolControl, PortVlans, Loopback, PoolFlags, ReceiveEnable, TransmitEnable}
 use Rattle.mailbox.specs.declared.writes.Write.{Write}
-use Rattle.mailbox.specs.Host.{HostState, function_at}
+use Rattle.mailbox.specs.State.{HostState, slot_at}
 use Rattle.mailbox.specs.Words.{low_word, high_word, pool_word, table_word, id_word, member_word, up_word, flags_word, port_word, control_word, CHECKS_ON}
 use Rattle.mailbox.specs.Writes.{writes_where}
 
@@ -51,9 +51,9 @@ word_of h VlanTable i = table_word h i
 word_of h VlanIds i = id_word h i
 word_of h VlanPools i = member_word h i
 word_of h PoolControl i = control_word h.default_pool
-word_of h PortVlans i = port_word (function_at h i)
+word_of h PortVlans i = port_word h.ids (slot_at h i)
 word_of h Loopback i = 2 ^ LOOPBACK
-word_of h PoolFlags i = flags_word (function_at h i)
+word_of h PoolFlags i = flags_word (slot_at h i)
 word_of h ReceiveEnable i = up_word h i
 word_of h TransmitEnable i = up_word h i
 

@@ -1,16 +1,18 @@
 -- The writes to the physical function's registers that make one pool's registers what its function became: those that change a word.
 use Rattle.std.specs.Prelude.{ℕ, zero, suc, ◌+◌, ◌*◌, ◌/◌, ◌%◌, Bool, true, false, not, ◌&&◌, ◌==◌, List, [], ◌∷◌, ◌++◌, length, Option, Some, None, is_some, if◌then◌else◌}
-use Rattle.wire_frame.specs.Bits.{has_bit}
 use Rattle.wire_frame.specs.declared.row.Row.{Row}
 use Rattle.addr_tables.specs.Registers.{RAL, RAH}
 use Rattle.vlan_table.specs.Registers.{VLVFB}
 use Rattle.pool_filter.specs.Registers.{PFVFRE, PFVFTE, VMVIR, VMOLR}
 use Rattle.pool_filter.specs.Settings.{Settings, settings_after}
-use Rattle.mailbox.specs.declared.function.Function.{Function}
+use Rattle.mailbox.specs.declared.slot.Guest.{Guest}
+use Rattle.mailbox.specs.declared.slot.Slot.{Slot}
 use Rattle.mailbox.specs.declared.message.Message.{Message}
 use Rattle.mailbox.specs.declared.writes.Write.{Write}
-use Rattle.mailbox.specs.Host.{HostState, function_at, with_function, outcome, host_without}
-use Rattle.mailbox.specs.Function.{is_number, low_part}
+use Rattle.mailbox.specs.Address.{is_number, low_part}
+use Rattle.mailbox.specs.Slot.{is_up, own_address, second_address, has_joined}
+use Rattle.mailbox.specs.State.{HostState, slot_at}
+use Rattle.mailbox.specs.Host.{outcome, host_with, host_without}
 use Rattle.mailbox.specs.Words.{valid, member_word, up_word, flags_word, port_word}
 
 -- a write of the row's word at a place
@@ -44,8 +46,8 @@ moves None new = is_some new
 moves (Some a) new = not (is_number new a)
 
 -- word i of two words for 64 pools has pool p, and the function joined or left the VLAN of the entry
-abbrev pub joins_or_leaves : ℕ → Function → Function → ℕ → Bool
-joins_or_leaves p old new i = i % 2 == p / 32 && turns (has_bit old.joined (i / 2)) (has_bit new.joined (i / 2))
+abbrev pub joins_or_leaves : ℕ → Slot → Slot → ℕ → Bool
+joins_or_leaves p old new i = i % 2 == p / 32 && turns (has_joined old (i / 2)) (has_joined new (i / 2))
 
 -- ---- the registers of a pool
 
@@ -57,31 +59,31 @@ entry_writes e old new =
     ++ writes_where (λ i. moves old new && is_some new) RAH (λ i. valid new) e 1
 
 -- pool p's flags and its port VLAN
-abbrev pub pool_writes : ℕ → Function → Function → List Write
-pool_writes p old new =
+abbrev pub pool_writes : HostState → ℕ → Slot → Slot → List Write
+pool_writes h p old new =
     writes_where (λ i. changes (flags_word old) (flags_word new)) VMOLR (λ i. flags_word new) p 1
-    ++ writes_where (λ i. changes (port_word old) (port_word new)) VMVIR (λ i. port_word new) p 1
+    ++ writes_where (λ i. changes (port_word h.ids old) (port_word h.ids new)) VMVIR (λ i. port_word h.ids new) p 1
 
 -- the words of 32 pools in which pool p stands: who may receive, who may transmit, and who joined a VLAN
-abbrev pub shared_writes : HostState → ℕ → Function → Function → List Write
+abbrev pub shared_writes : HostState → ℕ → Slot → Slot → List Write
 shared_writes h p old new =
-    writes_where (λ i. turns old.is_up new.is_up) PFVFRE (up_word h) (p / 32) 1
-    ++ writes_where (λ i. turns old.is_up new.is_up) PFVFTE (up_word h) (p / 32) 1
+    writes_where (λ i. turns (is_up old) (is_up new)) PFVFRE (up_word h) (p / 32) 1
+    ++ writes_where (λ i. turns (is_up old) (is_up new)) PFVFTE (up_word h) (p / 32) 1
     ++ writes_where (joins_or_leaves p old new) VLVFB (member_word h) 0 (2 * length h.ids)
 
 -- for the host as it is, and what the function of pool p was before
-unfoldable pub writes_of : HostState → ℕ → Function → List Write
+unfoldable pub writes_of : HostState → ℕ → Slot → List Write
 writes_of h p old =
-    entry_writes p old.address (function_at h p).address
-    ++ entry_writes (64 + p) old.second (function_at h p).second
-    ++ pool_writes p old (function_at h p)
-    ++ shared_writes h p old (function_at h p)
+    entry_writes p (own_address old) (own_address (slot_at h p))
+    ++ entry_writes (64 + p) (second_address old) (second_address (slot_at h p))
+    ++ pool_writes h p old (slot_at h p)
+    ++ shared_writes h p old (slot_at h p)
 
 -- ---- a message and a reset
 
-abbrev pub writes_with : HostState → ℕ → Option Function → List Write
+abbrev pub writes_with : HostState → ℕ → Option Guest → List Write
 writes_with h p None = []
-writes_with h p (Some f) = writes_of (with_function h p f) p (function_at h p)
+writes_with h p (Some g) = writes_of (host_with h p (Some g)) p (slot_at h p)
 
 -- the writes after a message of pool p
 unfoldable pub writes_after : HostState → ℕ → Message → List Write
@@ -89,4 +91,4 @@ writes_after h p message = writes_with h p (outcome h p message)
 
 -- the writes after the guest of pool p is gone
 unfoldable pub writes_without : HostState → ℕ → List Write
-writes_without h p = writes_of (host_without h p) p (function_at h p)
+writes_without h p = writes_of (host_without h p) p (slot_at h p)

@@ -1,8 +1,11 @@
 //! The host.
 ghost use Rattle.std.specs.Prelude.{◌≡◌, ◌≢◌, ℕ, ◌+◌, ◌*◌, ◌<◌, ◌≤◌, ◌++◌, ◌&&◌, [], IfErr, IfSome, List, nat_le, is_some, length, replicate, is_ok, true, if◌then◌else◌};
 ghost use Rattle.mailbox.specs.declared.writes.Write.{Write};
-ghost use Rattle.mailbox.specs.Host.{function_at, other_holds, is_taken, address_in, outcome, host_after, host_without, is_admitted, host_admitting, is_placed};
-ghost use Rattle.mailbox.specs.Function.{absent};
+ghost use Rattle.mailbox.specs.State.{slot_at, with_slot, other_holds, is_taken};
+ghost use Rattle.mailbox.specs.Host.{outcome, host_after, host_without, is_admitted, host_admitting};
+ghost use Rattle.mailbox.specs.Policy.{is_placed};
+ghost use Rattle.mailbox.specs.Slot.{with_guest};
+ghost use Rattle.mailbox.specs.declared.slot.Slot.TheVariants.{Absent};
 ghost use Rattle.mailbox.specs.Isolation.{IsSameFor, IsSameForAll};
 ghost use Rattle.mailbox.specs.Message.{message_of};
 ghost use Rattle.mailbox.specs.Replies.{reply_to};
@@ -10,10 +13,11 @@ ghost use Rattle.mailbox.specs.Within.{IsWithin, KeepsPolicies};
 ghost use Rattle.mailbox.specs.Words.{settings_of};
 ghost use Rattle.mailbox.specs.Writes.{writes_of, after_writes, writes_after, writes_without};
 
-use crate::function::{Function, is_unicast};
+use crate::address::Address;
 use crate::mailbox::Mailbox;
 use crate::message::Message;
 use crate::policy::Policy;
+use crate::slot::{Guest, Slot};
 use crate::writes::Writes;
 use arrayvec::ArrayVec;
 use std::marker::Model;
@@ -22,19 +26,19 @@ use wire_frame::{Fault, FrameLimit, PoolId, Vid};
 /// For each of 64 functions what its policy grants and what it has asked for so far, and the VLAN ids that policies name.
 #[derive(Drop)]
 pub struct Host {
-    functions: [Function; 64],
+    slots: [Slot; 64],
     ids: ArrayVec<u16, 64>,
     default_pool: Option<PoolId>,
     limit: u16,
 }
 
 impl Model for Host {
-    ghost use Rattle.mailbox.specs.Host.{HostState};
+    ghost use Rattle.mailbox.specs.State.{HostState};
 
     ghost Value = { HostState };
 
     ghost view = { λ h. record {
-      functions = h.functions;
+      slots = h.slots;
       ids = h.ids.items;
       default_pool = h.default_pool;
       limit = h.limit;
@@ -48,7 +52,7 @@ impl Host {
     pub fn new(ids: &[Vid], default_pool: Option<PoolId>, limit: FrameLimit) -> Option<Host>
         ensures few { is_some result ≡ nat_le (length ids.now) 64 }
         ensures host { IfSome result (λ h. h ≡ record {
-          functions = replicate 64 absent;
+          slots = replicate 64 Absent;
           ids = ids.now;
           default_pool = default_pool;
           limit = limit;
@@ -68,14 +72,14 @@ impl Host {
     // The host of these ids, of which no policy names a function.
     fn blank(ids: ArrayVec<u16, 64>, default_pool: Option<PoolId>, limit: u16) -> Host
         ensures { result ≡ record {
-          functions = replicate 64 absent;
+          slots = replicate 64 Absent;
           ids = ids.items;
           default_pool = default_pool;
           limit = limit;
         } }
     {
         Host {
-            functions: [Function::ABSENT; 64],
+            slots: [Slot::Absent; 64],
             ids,
             default_pool,
             limit,
@@ -110,7 +114,10 @@ impl Host {
         if !self.is_admitted(pool, policy) {
             return Err(Fault::BadMake);
         }
-        self.functions[p] = policy.function(self.ids.as_slice());
+        self.slots[p] = Slot::Admitted {
+            policy: *policy,
+            guest: None,
+        };
         Ok(())
     }
 
@@ -122,11 +129,11 @@ impl Host {
         ensures few { length self.now.ids ≤ 64 }
     {
         let ids = self.ids.as_slice();
-        let address = policy.address.number();
-        is_unicast(address)
+        let address = Address::of(policy.address);
+        address.is_unicast()
             && !self.is_taken(pool, address)
             && policy.vlans.is_placed(ids)
-            && !self.functions[usize::from(pool.get())].is_up
+            && !self.slot(pool).is_up()
     }
 }
 
@@ -147,24 +154,31 @@ impl Host {
         self.default_pool
     }
 
-    /// The function of a pool.
-    pub(crate) fn function_at(&self, pool: u32) -> &Function
-        requires { pool < 64 }
-        ensures { result.now ≡ function_at self.now pool }
+    /// How long a frame may be, without the FCS.
+    pub(crate) fn limit(&self) -> u16
+        ensures { result ≡ self.now.limit }
     {
-        &self.functions[pool as usize]
+        self.limit
+    }
+
+    /// The function of a pool, by its number.
+    pub(crate) fn slot_at(&self, pool: u32) -> &Slot
+        requires { pool < 64 }
+        ensures { result.now ≡ slot_at self.now pool }
+    {
+        &self.slots[pool as usize]
     }
 
     // The function of a pool.
-    fn function(&self, pool: PoolId) -> Function
-        ensures value { result ≡ function_at self.now pool }
+    fn slot(&self, pool: PoolId) -> Slot
+        ensures value { result ≡ slot_at self.now pool }
         ensures pool { pool < 64 }
     {
-        self.functions[usize::from(pool.get())]
+        self.slots[usize::from(pool.get())]
     }
 
-    // Whether a function other than the pool's holds the address.
-    fn is_taken(&self, pool: PoolId, address: u64) -> bool
+    /// Whether a function other than the pool's holds the address.
+    pub(crate) fn is_taken(&self, pool: PoolId, address: Address) -> bool
         ensures { result ≡ is_taken self.now pool address }
     {
         let mut taken = false;
@@ -175,48 +189,57 @@ impl Host {
     }
 
     // Whether function q is another than the pool's, and holds the address.
-    fn other_holds(&self, pool: PoolId, address: u64, q: usize) -> bool
+    fn other_holds(&self, pool: PoolId, address: Address, q: usize) -> bool
         requires { q < 64 }
         ensures { result ≡ other_holds self.now pool address q }
     {
-        q != usize::from(pool.get()) && self.functions[q].holds(address)
+        q != usize::from(pool.get()) && self.slots[q].holds(address)
     }
 }
 
 /// Messages.
 impl Host {
-    // What a message makes of the pool's function, or nothing where it is refused.
+    // What a message makes of the guest of the pool's function, or nothing where it is refused.
     #[tactic(auto, unfolding(crate::specs::Host::outcome))]
-    fn outcome(&self, pool: PoolId, message: Message) -> Option<Function>
+    fn outcome(&self, pool: PoolId, message: Message) -> Option<Guest>
         ensures value { result ≡ outcome self.now pool message }
         ensures few { length self.now.ids ≤ 64 }
     {
-        let taken = self.is_taken(pool, address_in(message));
-        let function = self.functions[usize::from(pool.get())];
-        function.answered(self.ids.as_slice(), self.limit, taken, message)
+        let _ids = self.ids();
+        self.answered(pool, self.slot(pool), message)
     }
 
     // The same, where the message is granted.
     #[tactic(auto, unfolding(crate::specs::Host::host_after))]
-    fn grant(&mut self, pool: PoolId, message: Message) -> Option<Function>
-        ensures function { result ≡ outcome self.old pool message }
+    fn grant(&mut self, pool: PoolId, message: Message) -> Option<Guest>
+        ensures guest { result ≡ outcome self.old pool message }
         ensures host { self.new ≡ host_after self.old pool message }
         ensures few { length self.old.ids ≤ 64 }
     {
         let outcome = self.outcome(pool, message);
-        if let Some(function) = outcome {
-            self.functions[usize::from(pool.get())] = function;
+        if outcome.is_some() {
+            self.set_guest(pool, outcome);
         }
         outcome
     }
 
-    // The writes after a message that left the pool's function as another, or was refused.
-    fn writes_with(&self, pool: PoolId, before: &Function, granted: Option<Function>) -> Writes
-        ensures { result ≡ (if is_some granted then writes_of self.now pool before.now else []) }
+    // The pool's function with another guest, or with none.
+    fn set_guest(&mut self, pool: PoolId, guest: Option<Guest>)
+        ensures host { self.new ≡ with_slot self.old pool (with_guest (slot_at self.old pool) guest) }
+        ensures pool { pool < 64 }
     {
-        match granted {
-            None => Writes::new(),
-            Some(_) => self.writes_since(pool, before),
+        let slot = self.slot(pool).with_guest(guest);
+        self.slots[usize::from(pool.get())] = slot;
+    }
+
+    // The writes after a message that was granted to the pool's function, or was refused.
+    fn writes_with(&self, pool: PoolId, before: &Slot, is_granted: bool) -> Writes
+        ensures { result ≡ (if is_granted then writes_of self.now pool before.now else []) }
+    {
+        if is_granted {
+            self.writes_since(pool, before)
+        } else {
+            Writes::new()
         }
     }
 
@@ -226,8 +249,7 @@ impl Host {
         ensures host { self.new ≡ host_without self.old pool }
         ensures pool { pool < 64 }
     {
-        let p = usize::from(pool.get());
-        self.functions[p] = self.functions[p].gone();
+        self.set_guest(pool, None);
     }
 
     /// Answers the message that stands in the mailbox of the pool's function: puts the reply there, and gives the writes to the
@@ -277,10 +299,11 @@ impl Host {
         ensures policies { IsWithin self.old → KeepsPolicies self.old self.new }
     {
         let message = mailbox.message();
-        let before = self.function(pool);
+        let before = self.slot(pool);
         let granted = self.grant(pool, message);
-        mailbox.answer(&before, message, granted);
-        self.writes_with(pool, &before, granted)
+        let is_granted = granted.is_some();
+        mailbox.answer(&before, granted);
+        self.writes_with(pool, &before, is_granted)
     }
 
     /// Forgets what the guest of the pool's function asked for, where the function is reset from outside or by VFCTRL and
@@ -300,18 +323,8 @@ impl Host {
         ensures within { IsWithin self.old → IsWithin self.new }
         ensures policies { IsWithin self.old → KeepsPolicies self.old self.new }
     {
-        let before = self.function(pool);
+        let before = self.slot(pool);
         self.forget(pool);
         self.writes_since(pool, &before)
-    }
-}
-
-// The address that a message asks for.
-fn address_in(message: Message) -> u64
-    ensures { result ≡ address_in message }
-{
-    match message {
-        Message::SetAddress(address) | Message::SetSecondAddress(_, address) => address,
-        _ => 0,
     }
 }

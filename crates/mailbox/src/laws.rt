@@ -2,8 +2,8 @@
 ghost use Rattle.std.specs.Prelude.{◌≡◌, ◌≢◌, ℕ, ◌<◌, true, false, length};
 ghost use Rattle.pool_filter.specs.Settings.{Settings, initial_settings, settings_after};
 ghost use Rattle.pool_filter.specs.Own.{own, contains};
-ghost use Rattle.mailbox.specs.Function.{holds};
-ghost use Rattle.mailbox.specs.Host.{HostState, function_at};
+ghost use Rattle.mailbox.specs.Slot.{holds};
+ghost use Rattle.mailbox.specs.State.{HostState, slot_at};
 ghost use Rattle.mailbox.specs.Start.{first_writes, IsWhole};
 ghost use Rattle.mailbox.specs.Within.{IsWithin, IsNamedFor};
 ghost use Rattle.mailbox.specs.Words.{settings_of};
@@ -25,7 +25,7 @@ pub fn first_writes_make_the_settings()
 pub fn settings_are_within_policies()
     ensures addresses { (h : HostState) (p a : ℕ) → p < 64 → IsWithin h
         → contains (own (settings_of h) p).addresses a ≡ true
-        → holds (function_at h p) a ≡ true }
+        → holds (slot_at h p) a ≡ true }
     ensures one_pool { (h : HostState) (p q a : ℕ) → p < 64 → q < 64 → q ≢ p → IsWithin h
         → contains (own (settings_of h) p).addresses a ≡ true
         → contains (own (settings_of h) q).addresses a ≡ false }

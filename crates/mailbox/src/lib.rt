@@ -12,22 +12,26 @@
 //! than its policy grants, and no two hold one address. What comes of it in a device, the crate `mailbox_laws` says.
 #![tactic(auto)]
 
+pub mod address;
 pub mod changed;
-pub mod function;
+pub mod granting;
 pub mod host;
 pub mod laws;
 pub mod mailbox;
 pub mod message;
 pub mod policy;
 pub mod registers;
+pub mod reply;
+pub mod slot;
 pub mod start;
 pub mod words;
 pub mod writes;
 
-pub use function::Function;
+pub use address::Address;
 pub use host::Host;
 pub use mailbox::{Mailbox, Rang};
-pub use message::{Message, Reply};
+pub use message::{Api, Message, Multicast, Reply};
 pub use policy::{Policy, VlanPolicy};
+pub use slot::{Guest, Slot};
 pub use start::Register;
 pub use writes::{Write, Writes};

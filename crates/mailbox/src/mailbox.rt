@@ -1,14 +1,14 @@
 //! The mailbox of one virtual function.
 ghost use Rattle.std.specs.Prelude.{◌≡◌};
-ghost use Rattle.mailbox.specs.Function.{reply_of};
+ghost use Rattle.mailbox.specs.Replies.{reply_of};
 ghost use Rattle.mailbox.specs.Mailbox.{blank, after_reset, read_at, after_read, after_write, rung_at, replied};
 ghost use Rattle.mailbox.specs.Message.{message_of};
 
-use crate::function::Function;
 use crate::message::{Message, Reply};
 use crate::registers::{
     ANSWERED, READ_KEEPS, REQ, RSTD, VFMAILBOX, VFMBMEM, VFU, WORD_AFTER_RESET, WRITE_KEEPS,
 };
+use crate::slot::{Guest, Slot};
 use std::marker::Model;
 use wire_frame::{has_bit, read_one, read_word, write_word};
 
@@ -115,24 +115,21 @@ impl Mailbox {
     pub(crate) fn reply(&mut self, reply: Reply)
         ensures { self.new ≡ replied self.old reply }
     {
-        self.words[0] = reply.head;
-        self.words[1] = reply.first;
-        self.words[2] = reply.second;
-        self.words[3] = reply.third;
-        self.words[4] = reply.fourth;
+        self.words[0] = reply.words[0];
+        self.words[1] = reply.words[1];
+        self.words[2] = reply.words[2];
+        self.words[3] = reply.words[3];
+        self.words[4] = reply.words[4];
         self.control |= ANSWERED;
     }
 
-    /// Puts the reply to the message that stands in the memory, of a function that it left as another, or that refused it.
-    pub(crate) fn answer(
-        &mut self,
-        function: &Function,
-        message: Message,
-        granted: Option<Function>,
-    )
-        ensures { self.new ≡ replied self.old (reply_of self.old.words function.now message granted) }
+    /// Puts the reply to the message that stands in the memory, which left the guest of the function so, or was refused.
+    pub(crate) fn answer(&mut self, slot: &Slot, granted: Option<Guest>)
+        ensures { self.new ≡ replied self.old
+            (reply_of self.old.words slot.now (message_of self.old.words) granted) }
     {
-        let reply = function.reply_of(&self.words, message, granted);
+        let message = self.message();
+        let reply = slot.reply_of(&self.words, message, granted);
         self.reply(reply);
     }
 

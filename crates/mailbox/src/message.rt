@@ -1,47 +1,112 @@
 //! The messages of a function's driver, and the words of a reply.
 ghost use Rattle.std.specs.Prelude.{◌≡◌};
-ghost use Rattle.mailbox.specs.Message.{address_from, message_from};
+ghost use Rattle.mailbox.specs.Message.{message_from, by_type, api_of, multicast_of, mode_of, vlan_message, second_message, api_message};
+
+use crate::address::Address;
+use crate::registers::{
+    API_NEGOTIATE, GET_LINK_STATE, GET_QUEUES, NACK, RESET, SET_LPE, SET_MAC_ADDR, SET_MACVLAN,
+    SET_MULTICAST, SET_VLAN, UPDATE_XCAST_MODE,
+};
+use wire_frame::Vid;
+
+/// A version of the messages (Linux ixgbevf, mbx.h).
+#[derive(Clone, Copy, Debug, PartialEq, Eq)]
+pub enum Api {
+    /// 1.0, which is number 0.
+    V1_0,
+    /// 1.1, number 2: queues.
+    V1_1,
+    /// 1.2, number 3: multicast modes, and the link.
+    V1_2,
+    /// 1.3, number 4.
+    V1_3,
+}
+
+/// Which multicast a function wants.
+#[derive(Clone, Copy, Debug, PartialEq, Eq)]
+pub enum Multicast {
+    /// None: mode 0.
+    Off,
+    /// The groups that were asked for: mode 1.
+    Asked,
+    /// All: mode 2.
+    All,
+}
 
 /// A message of a function's driver (Linux ixgbevf, mbx.h and vf.c).
 #[derive(Clone, Copy, Debug, PartialEq, Eq)]
 pub enum Message {
     /// RESET: the driver begins.
     Reset,
-    /// SET_MAC_ADDR: the address that the function wants as its own, as a number.
-    SetAddress(u64),
-    /// SET_MULTICAST: how many groups the function wants to receive.
-    SetMulticast(u32),
-    /// SET_VLAN: whether the function joins the VLAN or leaves it, and its id.
-    SetVlan(bool, u16),
+    /// SET_MAC_ADDR: the address that the function wants as its own.
+    SetAddress(Address),
+    /// SET_MULTICAST: whether the function wants to receive groups.
+    SetMulticast(bool),
+    /// SET_VLAN: the function joins the VLAN.
+    JoinVlan(Vid),
+    /// SET_VLAN: the function leaves the VLAN.
+    LeaveVlan(Vid),
     /// SET_LPE: how long the function's frames may be, with the FCS.
     SetFrameLength(u32),
-    /// SET_MACVLAN: index 0 gives up all further addresses, and index 1 asks for one, a number.
-    SetSecondAddress(u32, u64),
+    /// SET_MACVLAN: one more address, or none.
+    SetSecondAddress(Option<Address>),
     /// API_NEGOTIATE: the version of the messages.
-    NegotiateApi(u32),
+    NegotiateApi(Api),
     /// GET_QUEUES: how many queues there are.
     GetQueues,
-    /// UPDATE_XCAST_MODE: 0 no multicast, 1 the groups that were asked for, 2 all multicast.
-    SetMulticastMode(u32),
+    /// UPDATE_XCAST_MODE: which multicast the function wants, or a mode above all of it.
+    SetMulticastMode(Option<Multicast>),
     /// GET_LINK_STATE: whether the link is up.
     GetLinkState,
     /// Every other one.
     Other,
 }
 
-/// Words 0 to 4 of the memory, as a reply has them.
+/// Words 0 to 4 of the memory, as a reply has them: word 0 is that of the message, with ACK or NACK, and CTS.
 #[derive(Clone, Copy, Debug, PartialEq, Eq)]
 pub struct Reply {
-    /// Word 0: that of the message, with ACK or NACK, and CTS.
-    pub head: u32,
-    /// Word 1.
-    pub first: u32,
-    /// Word 2.
-    pub second: u32,
-    /// Word 3.
-    pub third: u32,
-    /// Word 4.
-    pub fourth: u32,
+    /// The words.
+    pub words: [u32; 5],
+}
+
+impl Api {
+    // The version of that number.
+    fn of(number: u32) -> Option<Api>
+        ensures { result ≡ api_of number }
+    {
+        match number {
+            0 => Some(Api::V1_0),
+            2 => Some(Api::V1_1),
+            3 => Some(Api::V1_2),
+            4 => Some(Api::V1_3),
+            _ => None,
+        }
+    }
+}
+
+impl Multicast {
+    // The mode of that number.
+    fn of(number: u32) -> Option<Multicast>
+        ensures { result ≡ multicast_of number }
+    {
+        match number {
+            0 => Some(Multicast::Off),
+            1 => Some(Multicast::Asked),
+            2 => Some(Multicast::All),
+            _ => None,
+        }
+    }
+
+    /// The number of the mode.
+    pub(crate) fn mode(self) -> u32
+        ensures { result ≡ mode_of self }
+    {
+        match self {
+            Multicast::Off => 0,
+            Multicast::Asked => 1,
+            Multicast::All => 2,
+        }
+    }
 }
 
 impl Message {
@@ -53,31 +118,57 @@ impl Message {
     pub(crate) fn of(head: u32, first: u32, second: u32) -> Message
         ensures { result ≡ message_from head first second }
     {
+        if head == RESET {
+            return Message::Reset;
+        }
+        if head >= NACK {
+            return Message::Other;
+        }
         let number = head / 0x1_0000 % 0x100;
-        if head == 1 {
-            Message::Reset
-        } else if head >= 0x4000_0000 {
-            Message::Other
-        } else {
-            match head % 0x1_0000 {
-                2 => Message::SetAddress(address_of(first, second)),
-                3 => Message::SetMulticast(number),
-                4 => Message::SetVlan(number != 0, (first % 4096) as u16),
-                5 => Message::SetFrameLength(first),
-                6 => Message::SetSecondAddress(number, address_of(first, second)),
-                8 => Message::NegotiateApi(first),
-                9 => Message::GetQueues,
-                12 => Message::SetMulticastMode(first),
-                16 => Message::GetLinkState,
-                _ => Message::Other,
-            }
+        match head % 0x1_0000 {
+            SET_MAC_ADDR => Message::SetAddress(Address::of_words(first, second)),
+            SET_MULTICAST => Message::SetMulticast(number != 0),
+            SET_VLAN => vlan_message(number, first),
+            SET_LPE => Message::SetFrameLength(first),
+            SET_MACVLAN => second_message(number, first, second),
+            API_NEGOTIATE => api_message(first),
+            GET_QUEUES => Message::GetQueues,
+            UPDATE_XCAST_MODE => Message::SetMulticastMode(Multicast::of(first)),
+            GET_LINK_STATE => Message::GetLinkState,
+            _ => Message::Other,
         }
     }
 }
 
-// The address of which words 1 and 2 have the bytes: 0 to 3 in word 1, 4 and 5 in bits 15:0 of word 2.
-fn address_of(first: u32, second: u32) -> u64
-    ensures { result ≡ address_from first second }
+// SET_VLAN: number 0 leaves the VLAN of bits 11:0, and any other joins it.
+fn vlan_message(number: u32, first: u32) -> Message
+    ensures { result ≡ vlan_message number first }
 {
-    u64::from(first) + u64::from(second % 0x1_0000) * 0x1_0000_0000
+    let id = Vid::of_tag((first % 0x1_0000) as u16);
+    if number == 0 {
+        Message::LeaveVlan(id)
+    } else {
+        Message::JoinVlan(id)
+    }
+}
+
+// SET_MACVLAN: number 0 gives all further addresses up, and number 1 asks for one; there is no further.
+fn second_message(number: u32, first: u32, second: u32) -> Message
+    ensures { result ≡ second_message number first second }
+{
+    match number {
+        0 => Message::SetSecondAddress(None),
+        1 => Message::SetSecondAddress(Some(Address::of_words(first, second))),
+        _ => Message::Other,
+    }
+}
+
+// API_NEGOTIATE, of a version that the host speaks.
+fn api_message(number: u32) -> Message
+    ensures { result ≡ api_message number }
+{
+    match Api::of(number) {
+        Some(api) => Message::NegotiateApi(api),
+        None => Message::Other,
+    }
 }

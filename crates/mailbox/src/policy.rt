@@ -1,9 +1,11 @@
 //! What the host's administrator grants a function.
-ghost use Rattle.std.specs.Prelude.{◌≡◌, ◌<◌, ◌≤◌, length, true};
-ghost use Rattle.mailbox.specs.Host.{joins, always_joins, port_of, is_placed, function_of};
+ghost use Rattle.std.specs.Prelude.{◌≡◌, ◌<◌, ◌==◌};
+ghost use Rattle.mailbox.specs.Address.{number_of};
+ghost use Rattle.mailbox.specs.Policy.{is_port, is_port_at, may_join, port_of, is_placed, multicast_for};
 
-use crate::function::Function;
-use wire_frame::Mac;
+use crate::address::Address;
+use crate::message::Multicast;
+use wire_frame::{Mac, has_bit};
 
 /// Which VLANs a function has. A VLAN is named by its place in the host's list of ids.
 #[derive(Clone, Copy, Debug, PartialEq, Eq)]
@@ -38,54 +40,67 @@ impl VlanPolicy {
         }
     }
 
-    // The places of the ids that the function may join.
-    fn joins(self) -> u64
-        ensures { result ≡ joins self }
+    /// Whether it is a port VLAN.
+    pub(crate) fn is_port(self) -> bool
+        ensures { result ≡ is_port self }
+    {
+        matches!(self, VlanPolicy::Port(_))
+    }
+
+    /// Whether it is the port VLAN at a place.
+    pub(crate) fn is_port_at(self, place: u32) -> bool
+        ensures { result ≡ is_port_at self place }
     {
         match self {
-            VlanPolicy::Port(_) => 0,
-            VlanPolicy::Joins(places) => places,
+            VlanPolicy::Port(port) => u32::from(port) == place,
+            VlanPolicy::Joins(_) => false,
         }
     }
 
-    // The place of a port VLAN, as a set.
-    fn always_joins(self, ids: &[u16]) -> u64
-        requires placed { is_placed ids.now self ≡ true }
-        requires few { length ids.now ≤ 64 }
-        ensures { result ≡ always_joins self }
+    /// Whether a driver may join the VLAN at a place.
+    pub(crate) fn may_join(self, place: u32) -> bool
+        requires { place < 64 }
+        ensures { result ≡ may_join self place }
     {
         match self {
-            VlanPolicy::Port(place) => 1 << place,
-            VlanPolicy::Joins(_) => 0,
+            VlanPolicy::Port(_) => false,
+            VlanPolicy::Joins(places) => has_bit(places, place),
         }
     }
 
-    // The id of a port VLAN.
-    fn port(self, ids: &[u16]) -> Option<u16>
-        requires { is_placed ids.now self ≡ true }
+    /// The id of a port VLAN.
+    pub(crate) fn port(self, ids: &[u16]) -> Option<u16>
         ensures { result ≡ port_of ids.now self }
     {
         match self {
-            VlanPolicy::Port(place) => Some(ids[usize::from(place)]),
+            VlanPolicy::Port(place) => ids.get(usize::from(place)).copied(),
             VlanPolicy::Joins(_) => None,
         }
     }
 }
 
 impl Policy {
-    /// The function of the policy, which has asked for nothing yet.
-    pub(crate) fn function(&self, ids: &[u16]) -> Function
-        requires placed { is_placed ids.now self.now.vlans ≡ true }
-        requires few { length ids.now ≤ 64 }
-        ensures { result ≡ function_of ids.now self.now }
+    /// Whether the address is the permanent one.
+    pub(crate) fn owns(&self, address: Address) -> bool
+        ensures { result ≡ (number_of self.now.address == address) }
     {
-        let mut function = Function::ABSENT;
-        function.permanent = Some(self.address.number());
-        function.may_choose = self.may_choose;
-        function.may_join = self.vlans.joins();
-        function.always_joined = self.vlans.always_joins(ids);
-        function.port = self.vlans.port(ids);
-        function.may_take_all = self.all_multicast;
-        function
+        Address::of(self.address).is(address)
+    }
+
+    /// What becomes of the multicast that a driver asks for: all of it, and what is above, is the groups that it asked for,
+    /// where it may not have all.
+    pub(crate) fn multicast_for(&self, asked: Option<Multicast>) -> Option<Multicast>
+        ensures { result ≡ multicast_for self.now asked }
+    {
+        match asked {
+            Some(Multicast::Off) | Some(Multicast::Asked) => asked,
+            Some(Multicast::All) | None => {
+                if self.all_multicast {
+                    asked
+                } else {
+                    Some(Multicast::Asked)
+                }
+            }
+        }
     }
 }

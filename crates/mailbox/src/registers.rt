@@ -31,3 +31,24 @@ pub const CTS: u32 = 0x2000_0000;
 pub const NACK: u32 = 0x4000_0000;
 /// Bit ACK of word 0: the message is granted.
 pub const ACK: u32 = 0x8000_0000;
+
+/// RESET, the whole word 0 of a message.
+pub const RESET: u32 = 1;
+/// SET_MAC_ADDR, a type of message, in bits 15:0 of word 0.
+pub const SET_MAC_ADDR: u32 = 2;
+/// SET_MULTICAST, a type of message.
+pub const SET_MULTICAST: u32 = 3;
+/// SET_VLAN, a type of message.
+pub const SET_VLAN: u32 = 4;
+/// SET_LPE, a type of message.
+pub const SET_LPE: u32 = 5;
+/// SET_MACVLAN, a type of message.
+pub const SET_MACVLAN: u32 = 6;
+/// API_NEGOTIATE, a type of message.
+pub const API_NEGOTIATE: u32 = 8;
+/// GET_QUEUES, a type of message.
+pub const GET_QUEUES: u32 = 9;
+/// UPDATE_XCAST_MODE, a type of message.
+pub const UPDATE_XCAST_MODE: u32 = 12;
+/// GET_LINK_STATE, a type of message.
+pub const GET_LINK_STATE: u32 = 16;

@@ -143,9 +143,9 @@ impl Host {
             Register::VlanIds => self.id_word(place),
             Register::VlanPools => self.member_word(place),
             Register::PoolControl => control_word(self.default_pool()),
-            Register::PortVlans => self.function_at(place).port_word(),
+            Register::PortVlans => self.slot_at(place).port_word(self.ids()),
             Register::Loopback => 1 << LOOPBACK,
-            Register::PoolFlags => self.function_at(place).flags_word(),
+            Register::PoolFlags => self.slot_at(place).flags_word(),
             Register::ReceiveEnable | Register::TransmitEnable => self.up_word(place),
         }
     }

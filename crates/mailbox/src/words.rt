@@ -1,14 +1,14 @@
 //! The registers of the physical function, as they are for a host.
 ghost use Rattle.std.specs.Prelude.{◌≡◌, ◌+◌, ◌*◌, ◌^◌, ◌<◌, true, length, if◌then◌else◌};
 ghost use Rattle.pool_filter.specs.Own.{contains};
-ghost use Rattle.mailbox.specs.Host.{function_at};
-ghost use Rattle.mailbox.specs.Words.{mask_from, is_in_set, reaches, entry, low_word, valid, high_word, table_word, member_word, up_word, flags_word, inserted, port_word};
+ghost use Rattle.mailbox.specs.Words.{mask_from, is_in_set, reaches, entry, low_word, valid, high_word, table_word, member_word, up_word, multicast_flag, flags_word, inserted, port_word};
 
-use crate::function::{Function, high_part, low_part};
+use crate::address::{Address, high_part, low_part};
 use crate::host::Host;
+use crate::message::Multicast;
+use crate::slot::{Guest, Slot};
 use pool_filter::PoolFlags;
 use pool_filter::registers::{ALWAYS, PORT_VLAN_RULE};
-use wire_frame::has_bit;
 
 /// A set of pools or of VLAN ids, by their numbers.
 #[derive(Clone, Copy, Debug, PartialEq, Eq)]
@@ -29,8 +29,8 @@ impl Host {
         ensures { result ≡ is_in_set self.now set number }
     {
         match set {
-            Set::Up => self.function_at(number).is_up,
-            Set::Joined(place) => has_bit(self.function_at(number).joined, place),
+            Set::Up => self.slot_at(number).is_up(),
+            Set::Joined(place) => self.slot_at(number).has_joined(place),
             Set::Named => is_named(self.ids(), number),
         }
     }
@@ -82,14 +82,14 @@ impl Host {
 /// Receive address entries.
 impl Host {
     // The address of entry e.
-    fn entry(&self, e: u32) -> Option<u64>
+    fn entry(&self, e: u32) -> Option<Address>
         requires { e < 128 }
         ensures { result ≡ entry self.now e }
     {
         if e < 64 {
-            self.function_at(e).address
+            self.slot_at(e).address()
         } else {
-            self.function_at(e - 64).second
+            self.slot_at(e - 64).second()
         }
     }
 
@@ -111,32 +111,50 @@ impl Host {
 }
 
 /// Words of one function.
-impl Function {
+impl Slot {
     /// Its word of VMOLR.
     pub(crate) fn flags_word(&self) -> u32
         ensures { result ≡ flags_word self.now }
     {
-        if !self.is_up {
-            return 0;
+        match self.guest() {
+            None => 0,
+            Some(guest) => {
+                let untagged = if self.has_port() {
+                    0
+                } else {
+                    PoolFlags::AUPE.0
+                };
+                PoolFlags::BAM.0 + untagged + multicast_flag(guest)
+            }
         }
-        let untagged = if self.port.is_some() {
-            0
-        } else {
-            PoolFlags::AUPE.0
-        };
-        let multicast = if self.groups || self.mode == 2 {
-            PoolFlags::MPE.0
-        } else {
-            0
-        };
-        PoolFlags::BAM.0 + untagged + multicast
     }
 
     /// Its word of VMVIR.
-    pub(crate) fn port_word(&self) -> u32
-        ensures { result ≡ port_word self.now }
+    pub(crate) fn port_word(&self, ids: &[u16]) -> u32
+        ensures { result ≡ port_word ids.now self.now }
     {
-        if self.is_up { inserted(self.port) } else { 0 }
+        match self {
+            Slot::Absent
+            | Slot::Admitted {
+                policy: _,
+                guest: None,
+            } => 0,
+            Slot::Admitted {
+                policy,
+                guest: Some(_),
+            } => inserted(policy.vlans.port(ids)),
+        }
+    }
+}
+
+// MPE, where the guest wants groups or all multicast.
+fn multicast_flag(guest: Guest) -> u32
+    ensures { result ≡ multicast_flag guest }
+{
+    if guest.groups || guest.multicast == Multicast::All {
+        PoolFlags::MPE.0
+    } else {
+        0
     }
 }
 
@@ -149,7 +167,7 @@ fn one_more(word: u32, bit: bool) -> u32
 }
 
 // AV, and bytes 4 and 5 of an address.
-pub(crate) fn valid(address: Option<u64>) -> u32
+pub(crate) fn valid(address: Option<Address>) -> u32
     ensures { result ≡ valid address }
 {
     if address.is_none() {

@@ -20,11 +20,13 @@ use Rattle.device.specs.declared.event.Event.TheVariants.{Open, End, VfRead, VfW
 use Rattle.device.specs.World.{World, fresh, step, world_after, function_of, acted, own_step, service, served, switched, all_raised, pf_word, pf_written, refused, replied}
 use Rattle.device.specs.Lone.{NewSettings, kept, keep, changed_settings}
 use Rattle.device.proofs.Append.{world_after_append, keep_append}
-use Rattle.mailbox.specs.declared.function.Function.{Function}
+use Rattle.mailbox.specs.declared.slot.Slot.{Slot}
 use Rattle.mailbox.specs.declared.message.Message.{Message}
 use Rattle.mailbox.specs.declared.writes.Write.{Write}
-use Rattle.mailbox.specs.Function.{gone}
-use Rattle.mailbox.specs.Host.{HostState, function_at, with_function, outcome, host_with, host_after, host_without}
+use Rattle.mailbox.specs.declared.slot.Guest.{Guest}
+use Rattle.mailbox.specs.Slot.{with_guest}
+use Rattle.mailbox.specs.State.{HostState, slot_at, with_slot}
+use Rattle.mailbox.specs.Host.{outcome, host_with, host_after, host_without}
 use Rattle.mailbox.specs.Isolation.{IsSameFor}
 use Rattle.mailbox.specs.Words.{settings_of}
 use Rattle.mailbox.specs.Writes.{write_at, writes_of, after_writes, writes_with, writes_after, writes_without}
@@ -79,7 +81,7 @@ each_taken (g ∷ gs) fit all =
     (each_where IsTaken g.test g.row g.word g.from g.count (λ j past below. all.0 j (g.word j) (omega (arith, below, fit.0.1))))
     (each_taken gs fit.1 all.1)
 
-parts_taken : (k : HostState) (p : ℕ) (old : Function) → AllTaken (parts k p old)
+parts_taken : (k : HostState) (p : ℕ) (old : Slot) → AllTaken (parts k p old)
 parts_taken k p old = (
   register_taken HighAddress,
   (
@@ -100,20 +102,20 @@ parts_taken k p old = (
   ),
 )
 
-pub pool_taken : (k : HostState) (p : ℕ) (old : Function) → p < 64 → length k.ids ≤ 64 → Each IsTaken (writes_of k p old)
+pub pool_taken : (k : HostState) (p : ℕ) (old : Slot) → p < 64 → length k.ids ≤ 64 → Each IsTaken (writes_of k p old)
 pool_taken k p old small few = subst (Each IsTaken) (sym (in_parts k p old)) (each_taken (parts k p old) (parts_fit k p old small few) (parts_taken k p old))
 
 message_taken : (h : HostState) (p : ℕ) (message : Message) → p < 64 → length h.ids ≤ 64 → Each IsTaken (writes_after h p message)
 unfolding writes_after
 message_taken h p message small few = go (outcome h p message)
   where
-    go : (o : Option Function) → Each IsTaken (writes_with h p o)
+    go : (o : Option Guest) → Each IsTaken (writes_with h p o)
     go None = tt
-    go (Some f) = pool_taken (with_function h p f) p (function_at h p) small few
+    go (Some g) = pool_taken (with_slot h p (with_guest (slot_at h p) (Some g))) p (slot_at h p) small few
 
 reset_taken : (h : HostState) (p : ℕ) → p < 64 → length h.ids ≤ 64 → Each IsTaken (writes_without h p)
 unfolding writes_without host_without
-reset_taken h p small few = pool_taken (with_function h p (gone (function_at h p))) p (function_at h p) small few
+reset_taken h p small few = pool_taken (with_slot h p (with_guest (slot_at h p) None)) p (slot_at h p) small few
 
 registers_taken : (h : HostState) (rs : List Register) → Each IsTaken (writes_to h rs)
 registers_taken h [] = tt
@@ -199,9 +201,9 @@ unfolding host_after host_without
 ids_stay h (Happens e) = refl
 ids_stay h (Answers p message) = go (outcome h p message)
   where
-    go : (o : Option Function) → (host_with h p o).ids ≡ h.ids
+    go : (o : Option Guest) → (host_with h p o).ids ≡ h.ids
     go None = refl
-    go (Some f) = refl
+    go (Some g) = refl
 ids_stay h (Forgets p) = refl
 
 turn_settles : (h : HostState) (w : World) (t : Turn) → w.settings ≡ settings_of h → length h.ids ≤ 64 → IsTurn t → (world_after w (events_in h t)).settings ≡ settings_of (host_of h t)

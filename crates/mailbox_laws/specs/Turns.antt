@@ -7,7 +7,8 @@ use Rattle.device.specs.World.{World, world_after}
 use Rattle.device.specs.Lone.{Item, kept, keep}
 use Rattle.mailbox.specs.declared.message.Message.{Message}
 use Rattle.mailbox.specs.declared.writes.Write.{Write}
-use Rattle.mailbox.specs.Host.{HostState, host_after, host_without}
+use Rattle.mailbox.specs.State.{HostState}
+use Rattle.mailbox.specs.Host.{host_after, host_without}
 use Rattle.mailbox.specs.Writes.{writes_after, writes_without}
 
 -- the device has an event; the host answers a message of a pool's driver; it forgets what a pool's guest asked for

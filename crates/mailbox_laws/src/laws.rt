@@ -3,7 +3,7 @@ ghost use Rattle.std.specs.Prelude.{◌≡◌, ℕ, ◌<◌, ◌≤◌, List, le
 ghost use Rattle.std.specs.List.{All};
 ghost use Rattle.device.specs.World.{World, fresh, world_after};
 ghost use Rattle.device.specs.Lone.{keep};
-ghost use Rattle.mailbox.specs.Host.{HostState};
+ghost use Rattle.mailbox.specs.State.{HostState};
 ghost use Rattle.mailbox.specs.Start.{first_writes};
 ghost use Rattle.mailbox.specs.Words.{settings_of};
 ghost use Rattle.mailbox_laws.specs.Turns.{Turn, IsTurn, write_events, host_at_end, events_of, kept_of_turns};

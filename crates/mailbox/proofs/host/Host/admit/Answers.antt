@@ -6,4 +6,4 @@ pub returns-clause-within : goal.returns-clause-within
 returns-clause-within c = λ w. rw c.take.ensures.host (admit_within c.args.self.now c.args.pool c.args.policy.now c.take.ensures.pool w)
 
 pub returns-clause-settings : goal.returns-clause-settings
-returns-clause-settings c = λ w. rw c.take.ensures.host (admit_settings c.args.self.now c.args.pool c.args.policy.now c.take.ensures.pool c.take.ensures.few w)
+returns-clause-settings c = λ w. rw c.take.ensures.host (admit_settings c.args.self.now c.args.pool c.args.policy.now c.take.ensures.pool c.take.ensures.few)

@@ -2,7 +2,7 @@
 use Rattle.std.proofs.Common.{arith, ◌≡◌, ◌||◌, sym, ap, ◌∙◌}
 use Rattle.std.specs.List.{list_any, range_with_len}
 use Rattle.wire_frame.proofs.BitLemmas.{list_any-range_more}
-use Rattle.mailbox.specs.Host.{is_taken, other_holds}
+use Rattle.mailbox.specs.State.{is_taken, other_holds}
 use Rattle.mailbox.proofs.host.Host.is_taken.Goals as goal
 
 pub loop-q-preserved : goal.loop-q-preserved

@@ -1,7 +1,7 @@
 -- Some function up to here holds the address.
 use Rattle.std.proofs.Common.{◌≡◌}
 use Rattle.std.specs.List.{list_any, range_with_len}
-use Rattle.mailbox.specs.Host.{other_holds}
+use Rattle.mailbox.specs.State.{other_holds}
 use Rattle.mailbox.proofs.host.Host.is_taken.Given as goal
 
 abbrev pub invariant-loop-q : goal.invariant-loop-q

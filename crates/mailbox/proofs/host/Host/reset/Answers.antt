@@ -1,6 +1,7 @@
 -- Nothing of another pool's is changed, by the theorem on hosts.
 use Rattle.std.proofs.Common.{◌≡◌, ◌≤◌, length, sym, ap, subst, ◌∙◌}
-use Rattle.mailbox.specs.Host.{HostState, host_without}
+use Rattle.mailbox.specs.State.{HostState}
+use Rattle.mailbox.specs.Host.{host_without}
 use Rattle.mailbox.specs.Words.{settings_of}
 use Rattle.mailbox.specs.Writes.{after_writes, writes_of, writes_without}
 use Rattle.mailbox.proofs.Others.{reset_meanwhile, reset_others, reset_all}
@@ -14,7 +15,7 @@ few_before c = subst (λ (h : HostState). length h.ids ≤ 64) c.forget.ensures.
 
 writes_are : (c : goal.After-writes_since) → c.writes_since.result ≡ writes_without c.args.self.now c.args.pool
 unfolding writes_without
-writes_are c = c.writes_since.ensures.writes ∙ (λ i. writes_of (c.forget.ensures.host i) c.args.pool (c.function-before.ensures.value i))
+writes_are c = c.writes_since.ensures.writes ∙ (λ i. writes_of (c.forget.ensures.host i) c.args.pool (c.slot-before.ensures.value i))
 
 pub returns-clause-others : goal.returns-clause-others
 returns-clause-others c = λ q small other. rw c.forget.ensures.host (reset_others c.args.self.now c.args.pool q c.forget.ensures.pool (few_before c) small other)

@@ -1,0 +1,42 @@
+-- What a policy grants.
+use Rattle.std.specs.Prelude.{ℕ, Bool, true, false, ◌==◌, nat_lt, List, length, slice_get, Option, Some, None, if◌then◌else◌}
+use Rattle.wire_frame.specs.Bits.{has_bit}
+use Rattle.mailbox.specs.declared.message.Multicast.{Multicast}
+use Rattle.mailbox.specs.declared.message.Multicast.TheVariants.{Off, Asked, All}
+use Rattle.mailbox.specs.declared.policy.Policy.{Policy}
+use Rattle.mailbox.specs.declared.policy.VlanPolicy.{VlanPolicy}
+use Rattle.mailbox.specs.declared.policy.VlanPolicy.TheVariants.{Port, Joins}
+
+-- ---- VLANs, by their places among the host's ids
+
+abbrev pub is_port : VlanPolicy → Bool
+is_port (Port k) = true
+is_port (Joins places) = false
+
+abbrev pub is_port_at : VlanPolicy → ℕ → Bool
+is_port_at (Port j) k = j == k
+is_port_at (Joins places) k = false
+
+-- a driver may join the VLAN at the place
+abbrev pub may_join : VlanPolicy → ℕ → Bool
+may_join (Port j) k = false
+may_join (Joins places) k = has_bit places k
+
+-- the id of a port VLAN
+abbrev pub port_of : List ℕ → VlanPolicy → Option ℕ
+port_of ids (Port k) = slice_get ids k
+port_of ids (Joins places) = None
+
+-- the place of a port VLAN is one of the ids'
+abbrev pub is_placed : List ℕ → VlanPolicy → Bool
+is_placed ids (Port k) = nat_lt k (length ids)
+is_placed ids (Joins places) = true
+
+-- ---- multicast
+
+-- all multicast, and what is above, becomes the groups that were asked for, where the policy does not have all
+abbrev pub multicast_for : Policy → Option Multicast → Option Multicast
+multicast_for policy None = if policy.all_multicast then None else Some Asked
+multicast_for policy (Some Off) = Some Off
+multicast_for policy (Some Asked) = Some Asked
+multicast_for policy (Some All) = if policy.all_multicast then Some All else Some Asked

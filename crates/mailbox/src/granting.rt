@@ -1,0 +1,179 @@
+//! What a message makes of a function's guest.
+ghost use Rattle.std.specs.Prelude.{◌≡◌, ◌<◌, ◌≤◌, IfSome, length};
+ghost use Rattle.mailbox.specs.Granting.{may_add, place_from, joinable, joined, left, moved, second_set, length_set, multicast_set, granted, when_reset, answered};
+
+use crate::address::Address;
+use crate::host::Host;
+use crate::message::{Message, Multicast};
+use crate::policy::Policy;
+use crate::slot::{Guest, Slot};
+use wire_frame::{PoolId, Vid};
+
+impl Host {
+    /// The guest of the function after a message, or nothing where the message is refused. Before RESET nothing else is heard.
+    pub(crate) fn answered(&self, pool: PoolId, slot: Slot, message: Message) -> Option<Guest>
+        ensures { result ≡ answered self.now pool slot message }
+    {
+        match slot {
+            Slot::Absent => None,
+            Slot::Admitted {
+                policy,
+                guest: None,
+            } => when_reset(&policy, message),
+            Slot::Admitted {
+                policy,
+                guest: Some(guest),
+            } => self.granted(pool, &policy, guest, message),
+        }
+    }
+
+    // The guest after a message.
+    #[tactic(auto, unfolding(crate::specs::Granting::granted))]
+    fn granted(
+        &self,
+        pool: PoolId,
+        policy: &Policy,
+        guest: Guest,
+        message: Message,
+    ) -> Option<Guest>
+        ensures { result ≡ granted self.now pool policy.now guest message }
+    {
+        match message {
+            Message::Reset => Some(Guest::begun(policy)),
+            Message::SetAddress(address) => self.moved(pool, policy, guest, address),
+            Message::SetMulticast(groups) => Some(Guest { groups, ..guest }),
+            Message::JoinVlan(id) => self.joined(policy, guest, id),
+            Message::LeaveVlan(id) => self.left(policy, guest, id),
+            Message::SetFrameLength(length) => self.with_length(guest, length),
+            Message::SetSecondAddress(second) => self.with_second(pool, policy, guest, second),
+            Message::NegotiateApi(api) => Some(Guest { api, ..guest }),
+            Message::GetQueues => guest.has_queues().then_some(guest),
+            Message::SetMulticastMode(asked) => with_multicast(guest, policy.multicast_for(asked)),
+            Message::GetLinkState => guest.has_modes().then_some(guest),
+            Message::Other => None,
+        }
+    }
+
+    // Whether the guest may have an address beside the permanent one.
+    fn may_add(&self, pool: PoolId, policy: &Policy, address: Address) -> bool
+        ensures { result ≡ may_add self.now pool policy.now address }
+    {
+        policy.may_choose && address.is_unicast() && !self.is_taken(pool, address)
+    }
+
+    // The guest with another address in use.
+    fn moved(&self, pool: PoolId, policy: &Policy, guest: Guest, address: Address) -> Option<Guest>
+        ensures { result ≡ moved self.now pool policy.now guest address }
+    {
+        if policy.owns(address) || self.may_add(pool, policy, address) {
+            Some(Guest { address, ..guest })
+        } else {
+            None
+        }
+    }
+
+    // The guest with another second address, or with none.
+    fn with_second(
+        &self,
+        pool: PoolId,
+        policy: &Policy,
+        guest: Guest,
+        second: Option<Address>,
+    ) -> Option<Guest>
+        ensures { result ≡ second_set self.now pool policy.now guest second }
+    {
+        match second {
+            None => Some(Guest { second, ..guest }),
+            Some(address) => {
+                if self.may_add(pool, policy, address) {
+                    Some(Guest { second, ..guest })
+                } else {
+                    None
+                }
+            }
+        }
+    }
+
+    // The guest with another frame length, up to the limit and the FCS.
+    fn with_length(&self, guest: Guest, frame_length: u32) -> Option<Guest>
+        ensures { result ≡ length_set self.now guest frame_length }
+    {
+        if frame_length <= u32::from(self.limit()) + 4 {
+            Some(Guest {
+                frame_length,
+                ..guest
+            })
+        } else {
+            None
+        }
+    }
+
+    // The place of the id, where the policy has it as one to join.
+    fn joinable(&self, policy: &Policy, id: Vid) -> Option<u32>
+        ensures place { result ≡ joinable self.now policy.now id }
+        ensures below { IfSome result (λ k. k < 64) }
+    {
+        let place = place_of(self.ids(), id.get())?;
+        policy.vlans.may_join(place).then_some(place)
+    }
+
+    // The guest, which joins the VLAN.
+    fn joined(&self, policy: &Policy, guest: Guest, id: Vid) -> Option<Guest>
+        ensures { result ≡ joined self.now policy.now guest id }
+    {
+        let place = self.joinable(policy, id)?;
+        let joined = guest.joined | 1 << place;
+        Some(Guest { joined, ..guest })
+    }
+
+    // The guest, which leaves the VLAN; id 0 is never left.
+    fn left(&self, policy: &Policy, guest: Guest, id: Vid) -> Option<Guest>
+        ensures { result ≡ left self.now policy.now guest id }
+    {
+        if id.get() == 0 && !policy.vlans.is_port() {
+            return Some(guest);
+        }
+        let place = self.joinable(policy, id)?;
+        let joined = guest.joined & !(1 << place);
+        Some(Guest { joined, ..guest })
+    }
+}
+
+// A function without a guest hears RESET alone.
+fn when_reset(policy: &Policy, message: Message) -> Option<Guest>
+    ensures { result ≡ when_reset policy.now message }
+{
+    match message {
+        Message::Reset => Some(Guest::begun(policy)),
+        _ => None,
+    }
+}
+
+// The guest with another multicast mode, from version 1.2 on; with no multicast it has no groups.
+fn with_multicast(guest: Guest, multicast: Option<Multicast>) -> Option<Guest>
+    ensures { result ≡ multicast_set guest multicast }
+{
+    if !guest.has_modes() {
+        return None;
+    }
+    let multicast = multicast?;
+    Some(Guest {
+        multicast,
+        groups: guest.groups && multicast != Multicast::Off,
+        ..guest
+    })
+}
+
+// The first place that has the id.
+fn place_of(ids: &[u16], id: u16) -> Option<u32>
+    requires { length ids.now ≤ 64 }
+    ensures place { result ≡ place_from 0 ids.now id }
+    ensures below { IfSome result (λ k. k < 64) }
+{
+    for k in 0..ids.len() {
+        if ids[k] == id {
+            return Some(k as u32);
+        }
+    }
+    None
+}

@@ -302,17 +302,7 @@ guest_stands h p policy before g at unicast comes = record {
 
 reset_comes : (h : HostState) (p : ℕ) (policy : Policy) (k : Guest) (message : Message) → when_reset policy message ≡ Some k → MayCome h p policy None k
 reset_comes h p policy k Reset is = subst (MayCome h p policy None) (some_is is) (begun_comes h p policy None)
-reset_comes h p policy k (SetAddress a) is = absurd (none_is is)
-reset_comes h p policy k (SetMulticast groups) is = absurd (none_is is)
-reset_comes h p policy k (JoinVlan id) is = absurd (none_is is)
-reset_comes h p policy k (LeaveVlan id) is = absurd (none_is is)
-reset_comes h p policy k (SetFrameLength n) is = absurd (none_is is)
-reset_comes h p policy k (SetSecondAddress second) is = absurd (none_is is)
-reset_comes h p policy k (NegotiateApi api) is = absurd (none_is is)
-reset_comes h p policy k GetQueues is = absurd (none_is is)
-reset_comes h p policy k (SetMulticastMode asked) is = absurd (none_is is)
-reset_comes h p policy k GetLinkState is = absurd (none_is is)
-reset_comes h p policy k Other is = absurd (none_is is)
+reset_comes h p policy k message is = absurd (none_is is)
 
 answered_stands : (h : HostState) (p : ℕ) (s : Slot) (message : Message) (g : Guest) → slot_at h p ≡ s → IsWithinPolicy s → answered h p s message ≡ Some g → MayStand h p (with_guest s (Some g))
 answered_stands h p Absent message g at w is = absurd (none_is is)

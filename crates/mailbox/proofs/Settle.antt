@@ -18,9 +18,9 @@ use Rattle.mailbox.specs.State.{HostState, slot_at, with_slot}
 use Rattle.mailbox.specs.Address.{low_part}
 use Rattle.mailbox.specs.Slot.{is_up, own_address, second_address, has_joined}
 use Rattle.mailbox.specs.Words.{table, mask_from, entry, low_word, valid, high_word, pool_word, table_word, id_word, control_word, member_word, joined_at, up_at, up_word, flags_word, port_word, addresses_of, vlans_of, settings_of}
-use Rattle.mailbox.specs.Writes.{writes_where, changes, turns, moves, joins_or_leaves, entry_writes, pool_writes, shared_writes, writes_of, after_writes}
+use Rattle.mailbox.specs.Writes.{changes, turns, moves, joins_or_leaves, writes_of, after_writes}
 use Rattle.mailbox.proofs.Isolation.{slot_stays, entry_stays}
-use Rattle.mailbox.proofs.Rows.{row_after, word_after, table_same, Part, part_writes, writes_in, AllFit, all_far, each_far, row_spared, word_spared, within, parts_make}
+use Rattle.mailbox.proofs.Rows.{row_after, word_after, table_same, Part, writes_in, AllFit, all_far, each_far, row_spared, word_spared, within, parts_make}
 use Rattle.mailbox.proofs.Kept.{low_kept, valid_kept, kept_flags, kept_port, kept_mask, kept_members}
 use Rattle.mailbox.proofs.Masks.{mask_same}
 
@@ -90,40 +90,9 @@ parts k p old =
     ++ pool_parts k p old (slot_at k p)
     ++ shared_parts k p old (slot_at k p)
 
-parts_append : (gs hs : List Part) → writes_in gs ++ writes_in hs ≡ writes_in (gs ++ hs)
-parts_append [] hs = refl
-parts_append (g ∷ gs) hs = append_assoc (part_writes g) (writes_in gs) (writes_in hs) ∙ ap (λ l. part_writes g ++ l) (parts_append gs hs)
-
-two_in : (x y : List Write) → x ++ y ≡ x ++ (y ++ [])
-two_in x y = ap (λ l. x ++ l) (sym (append-nil y))
-
-three_in : (x y z : List Write) → x ++ y ++ z ≡ x ++ (y ++ (z ++ []))
-three_in x y z = append_assoc x y z ∙ ap (λ l. x ++ l) (two_in y z)
-
-entry_in : (e : ℕ) (old new : Option ℕ) → entry_writes e old new ≡ writes_in (entry_parts e old new)
-entry_in e old new =
-    three_in (writes_where (λ i. moves old new && is_some old) RAH (λ i. 0) e 1) (writes_where (λ i. changes (low_part old) (low_part new)) RAL (λ i. low_part new) e 1)
-    (writes_where (λ i. moves old new && is_some new) RAH (λ i. valid new) e 1)
-
-pool_in : (k : HostState) (p : ℕ) (old new : Slot) → pool_writes k p old new ≡ writes_in (pool_parts k p old new)
-pool_in k p old new =
-    two_in (writes_where (λ i. changes (flags_word old) (flags_word new)) VMOLR (λ i. flags_word new) p 1) (writes_where (λ i. changes (port_word k.ids old) (port_word k.ids new)) VMVIR (λ i. port_word k.ids new) p 1)
-
-shared_in : (k : HostState) (p : ℕ) (old new : Slot) → shared_writes k p old new ≡ writes_in (shared_parts k p old new)
-shared_in k p old new =
-    three_in (writes_where (λ i. turns (is_up old) (is_up new)) PFVFRE (up_word k) (p / 32) 1) (writes_where (λ i. turns (is_up old) (is_up new)) PFVFTE (up_word k) (p / 32) 1)
-    (writes_where (joins_or_leaves p old new) VLVFB (member_word k) 0 (2 * length k.ids))
-
 pub in_parts : (k : HostState) (p : ℕ) (old : Slot) → writes_of k p old ≡ writes_in (parts k p old)
 unfolding writes_of
-in_parts k p old =
-    (λ i. entry_in p (own_address old) (own_address new) i ++ entry_in (64 + p) (second_address old) (second_address new) i ++ pool_in k p old new i ++ shared_in k p old new i)
-    ∙ ap (λ l. l ++ writes_in (pool_parts k p old new) ++ writes_in (shared_parts k p old new)) (parts_append (entry_parts p (own_address old) (own_address new)) (entry_parts (64 + p) (second_address old) (second_address new)))
-    ∙ ap (λ l. l ++ writes_in (shared_parts k p old new)) (parts_append (entry_parts p (own_address old) (own_address new) ++ entry_parts (64 + p) (second_address old) (second_address new)) (pool_parts k p old new))
-    ∙ parts_append (entry_parts p (own_address old) (own_address new) ++ entry_parts (64 + p) (second_address old) (second_address new) ++ pool_parts k p old new) (shared_parts k p old new)
-  where
-    new : Slot
-    new = slot_at k p
+in_parts k p old = simp (append_assoc, append-nil)
 
 pub parts_fit : (k : HostState) (p : ℕ) (old : Slot) → p < 64 → length k.ids ≤ 64 → AllFit (parts k p old)
 parts_fit k p old small few = (

@@ -1,18 +1,16 @@
 -- What a message, a reset and a policy make of the settings.
-use Rattle.std.proofs.Common.{arith, ◌≡◌, ℕ, zero, suc, ◌+◌, ◌*◌, ◌/◌, ◌%◌, ◌<◌, ◌≤◌, Bool, true, false, cond, ◌&&◌, List, [], ◌++◌, length, Option, Some, None, refl, sym, ap, ◌∙◌, true≢false, eqb, is_none, is_some}
+use Rattle.std.proofs.Common.{arith, ◌≡◌, ℕ, zero, suc, ◌*◌, ◌/◌, ◌<◌, ◌≤◌, Bool, true, false, cond, List, [], length, Option, Some, None, refl, sym, ap, ◌∙◌, true≢false, is_none, is_some}
 use Rattle.std.proofs.lemmas.Bool.Decides.{nat_tests}
 use Rattle.wire_frame.specs.declared.row.Row.{Row}
 use Rattle.mailbox.specs.declared.slot.Slot.{Slot}
 use Rattle.mailbox.specs.declared.message.Message.{Message}
 use Rattle.mailbox.specs.declared.slot.Guest.{Guest}
-use Rattle.mailbox.specs.Address.{low_part}
 use Rattle.mailbox.specs.Slot.{is_up, own_address, second_address, has_joined, with_guest}
 use Rattle.mailbox.specs.State.{HostState, slot_at, with_slot}
 use Rattle.mailbox.specs.Host.{host_with, host_after, host_without, outcome}
 use Rattle.vlan_table.specs.Registers.{VLVFB}
-use Rattle.pool_filter.specs.Registers.{PFVFRE, PFVFTE, VMVIR, VMOLR}
-use Rattle.mailbox.specs.Words.{flags_word, port_word, up_word, member_word, settings_of}
-use Rattle.mailbox.specs.Writes.{writes_where, changes, turns, moves, joins_or_leaves, entry_writes, writes_of, after_writes, writes_with, writes_after, writes_without}
+use Rattle.mailbox.specs.Words.{flags_word, port_word, member_word, settings_of}
+use Rattle.mailbox.specs.Writes.{writes_where, changes, turns, moves, joins_or_leaves, writes_of, after_writes, writes_with, writes_after, writes_without}
 use Rattle.mailbox.proofs.Isolation.{and_no}
 use Rattle.mailbox.proofs.Settle.{settled}
 
@@ -52,24 +50,12 @@ no_writes : (t : ℕ → Bool) (row : Row) (word : ℕ → ℕ) (i n : ℕ) → 
 no_writes t row word i zero never = refl
 no_writes t row word i (suc n) never = rw (never i) (no_writes t row word (suc i) n never)
 
-no_entry : (e : ℕ) (a : Option ℕ) → entry_writes e a a ≡ []
-no_entry e a = rw (none_moves a, none_changes (low_part a)) refl
-
 -- nothing is written for a function that makes the same registers
 unchanged : (k : HostState) (p : ℕ) (f : Slot) → IsAlike f (slot_at k p) → writes_of k p f ≡ []
 unfolding writes_of
 unchanged k p f alike =
-    (λ i. entry_writes p (alike.address i) (own_address g) ++ entry_writes (64 + p) (alike.second i) (second_address g)
-    ++ (writes_where (λ j. changes (alike.flags i) (flags_word g)) VMOLR (λ j. flags_word g) p 1 ++ writes_where (λ j. changes (alike.port k.ids i) (port_word k.ids g)) VMVIR (λ j. port_word k.ids g) p 1)
-    ++ (writes_where (λ j. turns (alike.up i) (is_up g)) PFVFRE (up_word k) (p / 32) 1 ++ writes_where (λ j. turns (alike.up i) (is_up g)) PFVFTE (up_word k) (p / 32) 1
-    ++ writes_where (λ j. eqb (j % 2) (p / 32) && turns (alike.joined (j / 2) i) (has_joined g (j / 2))) VLVFB (member_word k) 0 (2 * length k.ids)))
-    ∙ (λ i. no_entry p (own_address g) i ++ no_entry (64 + p) (second_address g) i
-    ++ (no_writes (λ j. changes (flags_word g) (flags_word g)) VMOLR (λ j. flags_word g) p 1 (λ j. none_changes (flags_word g)) i ++ no_writes (λ j. changes (port_word k.ids g) (port_word k.ids g)) VMVIR (λ j. port_word k.ids g) p 1 (λ j. none_changes (port_word k.ids g)) i)
-    ++ (no_writes (λ j. turns (is_up g) (is_up g)) PFVFRE (up_word k) (p / 32) 1 (λ j. none_turns (is_up g)) i ++ no_writes (λ j. turns (is_up g) (is_up g)) PFVFTE (up_word k) (p / 32) 1 (λ j. none_turns (is_up g)) i
-    ++ no_writes (joins_or_leaves p g g) VLVFB (member_word k) 0 (2 * length k.ids) (λ j. ap (λ b. eqb (j % 2) (p / 32) && b) (none_turns (has_joined g (j / 2))) ∙ and_no (eqb (j % 2) (p / 32))) i))
-  where
-    g : Slot
-    g = slot_at k p
+    simp (alike.up, alike.address, alike.second, alike.flags, alike.port k.ids, none_changes, none_turns, none_moves)
+    (no_writes (joins_or_leaves p f (slot_at k p)) VLVFB (member_word k) 0 (2 * length k.ids) (λ j. simp (alike.joined (j / 2), none_turns, and_no)))
 
 -- a host stands for the same settings with a function that makes the same registers
 pub settings_alike : (h : HostState) (p : ℕ) (f : Slot) → p < 64 → length h.ids ≤ 64 → IsAlike (slot_at h p) (slot_at (with_slot h p f) p) → settings_of h ≡ settings_of (with_slot h p f)

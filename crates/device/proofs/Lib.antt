@@ -1,3 +1,4 @@
+pub mod AccessLists
 pub mod AccessSteps
 pub mod AlikeSteps
 pub mod Apartness
@@ -6,6 +7,7 @@ pub mod Arrivals
 mod Called
 pub mod Confinement
 mod Deliveries
+pub mod ErasedLive
 mod Inside
 pub mod LiveLemmas
 mod LiveServes

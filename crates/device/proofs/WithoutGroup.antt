@@ -10,10 +10,13 @@ use Rattle.pool_filter.specs.Settings.{initial_settings, settings_at}
 use Rattle.device.specs.Events.{Event}
 use Rattle.device.specs.Resets.{resets_at}
 use Rattle.device.specs.World.{World, pf_word, fresh, step, answers, world_after}
+use Rattle.device.specs.Accesses.{accesses_of}
 use Rattle.device.specs.Lone.{Item, lone_of, kept, keep, seen_by, lone_seen, lone_after}
+use Rattle.device.specs.LoneAccesses.{lone_made}
 use Rattle.device.specs.Erased.{is_groups, erase, StaysApart, IsConfined, AlikeOutside}
 use Rattle.device.proofs.Shape.{step_shape}
 use Rattle.device.proofs.Unwinding.{isolated_sight, isolated_state}
+use Rattle.device.proofs.AccessLists.{all_follow}
 use Rattle.device.proofs.Confinement.{confined}
 use Rattle.device.proofs.AlikeSteps.{alike_itself, alike_lone, kept_alike, alike_groups, alike_others}
 
@@ -51,6 +54,15 @@ state_without group p w v events below few there a c =
     ∙ (λ i. lone_after (alike_lone group w v a p below there i) (kept_without group p w v events few small there a c i))
     ∙ sym (isolated_state p v (erase group events) (subst (λ n. p < n) a.count below) (subst (λ n. n ≤ 64) a.count few))
 
+-- and the accesses to its memory
+pub accesses_without : (group : ℕ → Bool) (p : ℕ) (w v : World) (events : List Event) → p < length w.functions → length w.functions ≤ 64 → group p ≡ false → AlikeOutside group w v → IsConfined group w events
+    → accesses_of w events p ≡ accesses_of v (erase group events) p
+accesses_without group p w v events below few there a c =
+    let small : p < 64 = omega arith in
+    all_follow p w events below few
+    ∙ (λ i. lone_made (alike_lone group w v a p below there i) (kept_without group p w v events few small there a c i))
+    ∙ sym (all_follow p v (erase group events) (subst (λ n. p < n) a.count below) (subst (λ n. n ≤ 64) a.count few))
+
 -- two runs that differ in the group alone: in what its functions were, and in their own events
 pub same_whatever : (group : ℕ → Bool) (p : ℕ) (w v : World) (events others : List Event) → p < length w.functions → length w.functions ≤ 64 → group p ≡ false → AlikeOutside group w v
     → erase group events ≡ erase group others → IsConfined group w events → IsConfined group v others
@@ -61,6 +73,15 @@ same_whatever group p w v events others below few there a same c c' =
       seen_without group p w v events below few there a c ∙ ap (λ es. seen_by p es (answers v es)) same ∙ sym (seen_without group p v v others below' few' there (alike_itself group v) c'),
       state_without group p w v events below few there a c ∙ ap (λ es. lone_of p (world_after v es)) same ∙ sym (state_without group p v v others below' few' there (alike_itself group v) c'),
     )
+
+pub accesses_whatever : (group : ℕ → Bool) (p : ℕ) (w v : World) (events others : List Event) → p < length w.functions → length w.functions ≤ 64 → group p ≡ false → AlikeOutside group w v
+    → erase group events ≡ erase group others → IsConfined group w events → IsConfined group v others → accesses_of w events p ≡ accesses_of v others p
+accesses_whatever group p w v events others below few there a same c c' =
+    let below' : p < length v.functions = subst (λ n. p < n) a.count below in
+    let few' : length v.functions ≤ 64 = subst (λ n. n ≤ 64) a.count few in
+    accesses_without group p w v events below few there a c
+    ∙ ap (λ es. accesses_of v es p) same
+    ∙ sym (accesses_without group p v v others below' few' there (alike_itself group v) c')
 
 -- ---- the worlds that are left
 
@@ -93,6 +114,14 @@ fresh_without group p limit sizes events below few there stays =
       seen_without group p w w events below' few' there (alike_itself group w) c,
       state_without group p w w events below' few' there (alike_itself group w) c,
     )
+
+pub fresh_accesses : (group : ℕ → Bool) (p limit : ℕ) (sizes : List ℕ) (events : List Event) → p < length sizes → length sizes ≤ 64 → group p ≡ false → StaysApart group initial_settings events
+    → accesses_of (fresh limit sizes) events p ≡ accesses_of (fresh limit sizes) (erase group events) p
+fresh_accesses group p limit sizes events below few there stays =
+    let w : World = fresh limit sizes in
+    let below' : p < length w.functions = subst (λ n. p < n) (as_many sizes) below in
+    let few' : length w.functions ≤ 64 = subst (λ n. n ≤ 64) (as_many sizes) few in
+    accesses_without group p w w events below' few' there (alike_itself group w) (confined group w events few' stays)
 
 pub fresh_whatever : (group : ℕ → Bool) (p limit : ℕ) (sizes : List ℕ) (events others : List Event) → p < length sizes → length sizes ≤ 64 → group p ≡ false
     → erase group events ≡ erase group others → StaysApart group initial_settings events → StaysApart group initial_settings others

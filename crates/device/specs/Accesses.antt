@@ -1,5 +1,5 @@
 -- The accesses to a function's memory that an event makes, in order.
-use Rattle.std.specs.Prelude.{ℕ, nat_lt, ◌==◌, List, [], ◌++◌, length, slice_index_or, Option, Some, None, if◌then◌else◌}
+use Rattle.std.specs.Prelude.{ℕ, nat_lt, ◌==◌, List, [], ◌∷◌, ◌++◌, length, slice_index_or, Option, Some, None, if◌then◌else◌}
 use Rattle.live_memory.specs.Trace.{Access}
 use Rattle.vf_unit.specs.declared.registers.Queue.{Queue}
 use Rattle.vf_unit.specs.Unit.{Function, Closed, given_accesses}
@@ -11,7 +11,7 @@ use Rattle.local_switch.specs.Switch.{receives}
 use Rattle.device.specs.Events.{Event}
 use Rattle.device.specs.declared.event.Event.TheVariants.{MemRead, MemWrite, Serve, Wire}
 use Rattle.device.specs.Act.{act_accesses, serve_accesses}
-use Rattle.device.specs.World.{World, function_of, is_looped, sent_by}
+use Rattle.device.specs.World.{World, function_of, is_looped, sent_by, step}
 
 -- ---- a frame that is switched
 
@@ -42,3 +42,9 @@ accesses_by w _ p = []
 abbrev pub accesses_but_read : World → Event → ℕ → List Access
 accesses_but_read w (MemRead q at count) p = []
 accesses_but_read w e p = accesses_by w e p
+
+-- ---- a list of events
+
+abbrev pub accesses_of : World → List Event → ℕ → List Access
+accesses_of w [] p = []
+accesses_of w (e ∷ es) p = accesses_by w e p ++ accesses_of (step w e).world es p

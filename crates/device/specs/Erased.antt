@@ -1,5 +1,7 @@
 -- Tenants erased: a list of events without the own events of a group of functions, and what keeps the group from all others.
 use Rattle.std.specs.Prelude.{◌≡◌, ℕ, ◌<◌, ⊤, Bool, true, false, ◌&&◌, ◌==◌, List, [], ◌∷◌, length, Option, Some, None, if◌then◌else◌}
+use Rattle.guest_memory.specs.Memory.{Write}
+use Rattle.live_memory.specs.Trace.{Access, since, reads}
 use Rattle.wire_frame.specs.Frame.{is_tagged, tag_control}
 use Rattle.wire_frame.specs.declared.vlan.PortVlan.{PortVlan}
 use Rattle.wire_frame.specs.declared.vlan.PortVlan.TheVariants.{Descriptor, Always, Never}
@@ -13,6 +15,7 @@ use Rattle.device.specs.declared.event.Event.TheVariants.{PfWrite, PfReset}
 use Rattle.device.specs.Act.{is_bad_offset}
 use Rattle.device.specs.World.{World, function_of, step}
 use Rattle.device.specs.Lone.{pool_of, kept}
+use Rattle.device.specs.Live.{trace_of}
 
 -- ---- a list without a group's own events
 
@@ -70,3 +73,13 @@ pub record AlikeOutside (group : ℕ → Bool) (w v : World) : Type 0 where
   pub settings : w.settings ≡ v.settings
   pub count : length w.functions ≡ length v.functions
   pub functions : (r : ℕ) → r < length w.functions → group r ≡ false → function_of r w ≡ function_of r v
+
+-- ---- an event that is taken while guests write their memories
+
+-- what the memory of function p answered, between what was done before and what was done by now
+abbrev pub answered_in : List (List Access) → List (List Access) → ℕ → List Write
+answered_in before now p = reads (since (trace_of before p) (trace_of now p))
+
+-- in two such events, the memories outside the group answered the same
+abbrev pub AnsweredAlike : (ℕ → Bool) → List (List Access) → List (List Access) → List (List Access) → List (List Access) → Type 0
+AnsweredAlike group before now other_before other_now = (r : ℕ) → r < 64 → group r ≡ false → answered_in before now r ≡ answered_in other_before other_now r

@@ -7,13 +7,18 @@
 //! buffer, the bytes of the first come to the third with no event of the second one's guest between. Each function of this
 //! module does nothing: its contract is the law.
 ghost use Rattle.std.specs.Prelude.{◌≡◌, ℕ, ◌<◌, ◌≤◌, [], ◌∷◌, ◌++◌, Bool, true, false, List, None, length};
+ghost use Rattle.live_memory.specs.Trace.{Access};
 ghost use Rattle.pool_filter.specs.Settings.{Settings, initial_settings};
 ghost use Rattle.pool_filter.specs.Reach.{KeepsApart};
 ghost use Rattle.device.specs.Events.{Event};
 ghost use Rattle.device.specs.Resets.{resets_at};
 ghost use Rattle.device.specs.World.{World, pf_word, fresh, step, answers, world_after};
+ghost use Rattle.device.specs.declared.response.Response.{Response};
+ghost use Rattle.device.specs.Outcome.{answer_in};
+ghost use Rattle.device.specs.Live.{told_world, TakesLive};
+ghost use Rattle.device.specs.Accesses.{accesses_by, accesses_of};
 ghost use Rattle.device.specs.Lone.{kept, keep, lone_of, seen_by};
-ghost use Rattle.device.specs.Erased.{is_groups, erase, settings_then, IsApart, StaysApart, IsConfined, AlikeOutside};
+ghost use Rattle.device.specs.Erased.{is_groups, erase, settings_then, IsApart, StaysApart, IsConfined, AlikeOutside, AnsweredAlike};
 
 /// Without the own events of a group, each function outside sees the same and is left the same, where the settings keep the
 /// group apart at each of these events.
@@ -26,6 +31,12 @@ pub fn without_group()
         ≡ seen_by p (erase group events) (answers (fresh limit sizes) (erase group events)))
         × (lone_of p (world_after (fresh limit sizes) events)
         ≡ lone_of p (world_after (fresh limit sizes) (erase group events))) }
+    // and what the events read and write of its memory, in their order
+    ensures fresh_accesses { (group : ℕ → Bool) (p limit : ℕ) (sizes : List ℕ) (events : List Event) →
+        p < length sizes → length sizes ≤ 64 → group p ≡ false
+        → StaysApart group initial_settings events
+        → accesses_of (fresh limit sizes) events p
+        ≡ accesses_of (fresh limit sizes) (erase group events) p }
     // on any device, and on one that differs from it in the group: what is left for the function is the same
     ensures kept { (group : ℕ → Bool) (p : ℕ) (w v : World) (events : List Event) →
         length w.functions ≤ 64 → p < 64 → group p ≡ false → AlikeOutside group w v
@@ -41,6 +52,11 @@ pub fn without_group()
         p < length w.functions → length w.functions ≤ 64 → group p ≡ false
         → AlikeOutside group w v → IsConfined group w events
         → lone_of p (world_after w events) ≡ lone_of p (world_after v (erase group events)) }
+    // and the accesses to its memory
+    ensures accesses { (group : ℕ → Bool) (p : ℕ) (w v : World) (events : List Event) →
+        p < length w.functions → length w.functions ≤ 64 → group p ≡ false
+        → AlikeOutside group w v → IsConfined group w events
+        → accesses_of w events p ≡ accesses_of v (erase group events) p }
     // and all else of the two worlds, but the reset flags and what went to the wire
     ensures worlds { (group : ℕ → Bool) (w v : World) (events : List Event) →
         length w.functions ≤ 64 → AlikeOutside group w v → IsConfined group w events
@@ -49,6 +65,39 @@ pub fn without_group()
     ensures pf_words { (group : ℕ → Bool) (w v : World) (offset : ℕ) → AlikeOutside group w v
         → resets_at w.resets offset ≡ None → resets_at v.resets offset ≡ None
         → pf_word w offset ≡ pf_word v offset }
+{}
+
+/// The same of an event that is taken while guests write their memories: it is taken without what the memories of the group answered, or
+/// where it is the group's own, not at all. On a device that differs in the group alone, each function outside sees the same, where the
+/// memories outside answer the same.
+pub fn without_group_live()
+    // its reply and its messages
+    ensures seen { (group : ℕ → Bool) (shared : Bool) (p : ℕ)
+        (before now other_before other_now : List (List Access)) (old new other : World) (e : Event)
+        (taken : Response) → TakesLive shared before now old e new taken
+        → p < length old.functions → length old.functions ≤ 64 → group p ≡ false
+        → AlikeOutside group old other → AnsweredAlike group before now other_before other_now
+        → StaysApart group old.settings (e ∷ [])
+        → seen_by p (e ∷ []) (answer_in new taken ∷ [])
+        ≡ seen_by p (erase group (e ∷ []))
+        (answers (told_world other_before other_now other) (erase group (e ∷ []))) }
+    // what it reads and writes of the function's memory, in order
+    ensures accesses { (group : ℕ → Bool) (p : ℕ)
+        (before now other_before other_now : List (List Access)) (old other : World) (e : Event) →
+        p < length old.functions → length old.functions ≤ 64 → group p ≡ false
+        → AlikeOutside group old other → AnsweredAlike group before now other_before other_now
+        → StaysApart group old.settings (e ∷ [])
+        → accesses_by (told_world before now old) e p
+        ≡ accesses_of (told_world other_before other_now other) (erase group (e ∷ [])) p }
+    // and the worlds after it
+    ensures worlds { (group : ℕ → Bool) (shared : Bool)
+        (before now other_before other_now : List (List Access)) (old new other : World) (e : Event)
+        (taken : Response) → TakesLive shared before now old e new taken
+        → length old.functions ≤ 64
+        → AlikeOutside group old other → AnsweredAlike group before now other_before other_now
+        → StaysApart group old.settings (e ∷ [])
+        → AlikeOutside group new
+        (world_after (told_world other_before other_now other) (erase group (e ∷ []))) }
 {}
 
 /// Whatever the group does: two lists that differ in its own events alone give each function outside the same.
@@ -60,6 +109,11 @@ pub fn whatever_a_group_does()
         → IsConfined group w events → IsConfined group v others
         → (seen_by p events (answers w events) ≡ seen_by p others (answers v others))
         × (lone_of p (world_after w events) ≡ lone_of p (world_after v others)) }
+    ensures accesses { (group : ℕ → Bool) (p : ℕ) (w v : World) (events others : List Event) →
+        p < length w.functions → length w.functions ≤ 64 → group p ≡ false
+        → AlikeOutside group w v → erase group events ≡ erase group others
+        → IsConfined group w events → IsConfined group v others
+        → accesses_of w events p ≡ accesses_of v others p }
     // and from a device as it is made, by its settings alone
     ensures from_fresh { (group : ℕ → Bool) (p limit : ℕ) (sizes : List ℕ)
         (events others : List Event) →

@@ -1,4 +1,6 @@
+mod ErasedRuns
 mod More
 mod Plain
 mod Runs
+mod WithoutGroup
 mod Writes

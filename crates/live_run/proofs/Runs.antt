@@ -18,7 +18,7 @@ use Rattle.live_run.specs.Live.{Noted, live_after, live_answers, last_of, AllMet
 use Rattle.live_run.proofs.Writes.{kept_writes}
 
 -- as many functions after an event
-same_count : (w : World) (b t : Noted) (e : Event) → length (step (told_world b t w) e).world.functions ≡ length w.functions
+pub same_count : (w : World) (b t : Noted) (e : Event) → length (step (told_world b t w) e).world.functions ≡ length w.functions
 same_count w b t e = (step_shape (told_world b t w) e).functions ∙ length_told b t w.functions
 
 -- ---- as a list of events
@@ -44,7 +44,7 @@ met_lone shared p w b t below few traced =
     ∙ ap (lone_after (lone_of p w)) (kept_writes p 0 (length w.functions) b t w (omega arith) (omega (arith, below)))
 
 -- an event adds what is seen of it to what is seen of the rest
-cons_append : {X : Type 0} (x : Option X) (xs : List X) → cons_option x xs ≡ cons_option x [] ++ xs
+pub cons_append : {X : Type 0} (x : Option X) (xs : List X) → cons_option x xs ≡ cons_option x [] ++ xs
 cons_append None xs = refl
 cons_append (Some x) xs = refl
 

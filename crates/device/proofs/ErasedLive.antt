@@ -1,5 +1,6 @@
 -- An event that is taken while guests write their memories, without a group's own.
-use Rattle.std.proofs.Common.{◌≡◌, ℕ, ◌<◌, ◌≤◌, Bool, false, List, [], ◌∷◌, length, append-nil, arith, refl, sym, ap, ◌∙◌, subst}
+use Rattle.std.proofs.Common.{◌≡◌, ℕ, ◌<◌, ◌≤◌, Bool, true, false, List, [], ◌∷◌, ◌++◌, None, length, append-nil, arith, refl, sym, ap, ◌∙◌, subst}
+use Rattle.std.specs.List.{cons_option}
 use Rattle.guest_memory.specs.Memory.{Write, write_all}
 use Rattle.live_memory.specs.Trace.{Access, since, reads, met}
 use Rattle.vf_unit.specs.Unit.{Function, Closed, Open, told_of}
@@ -8,12 +9,14 @@ use Rattle.device.specs.declared.event.Answer.{Answer}
 use Rattle.device.specs.declared.response.Response.{Response}
 use Rattle.device.specs.Outcome.{answer_in}
 use Rattle.device.specs.World.{World, function_of, answers, world_after}
-use Rattle.device.specs.Accesses.{accesses_by, accesses_of}
-use Rattle.device.specs.Lone.{seen_by}
-use Rattle.device.specs.Live.{trace_of, told_world, TakesLive}
-use Rattle.device.specs.Erased.{erase, StaysApart, IsConfined, AlikeOutside, AnsweredAlike}
+use Rattle.device.specs.Accesses.{accesses_by, run_accesses}
+use Rattle.device.specs.Lone.{kept, lone_of, seen_by}
+use Rattle.device.specs.LoneAccesses.{lone_made}
+use Rattle.device.specs.Live.{trace_of, told_world, AreListed, TakesLive}
+use Rattle.device.specs.Erased.{is_groups, erase, StaysApart, IsConfined, AlikeOutside, AnsweredAlike}
 use Rattle.device.proofs.LiveLemmas.{length_told, get_told}
 use Rattle.device.proofs.Confinement.{confined}
+use Rattle.device.proofs.AccessSteps.{accesses_follow}
 use Rattle.device.proofs.WithoutGroup.{seen_without, accesses_without, alike_without}
 
 -- ---- the worlds that are met
@@ -50,6 +53,16 @@ here_told before now w p below = subst (λ n. p < n) (sym (length_told before no
 confined_there : (group : ℕ → Bool) (before now : List (List Access)) (w : World) (e : Event) → length w.functions ≤ 64 → StaysApart group w.settings (e ∷ []) → IsConfined group (told_world before now w) (e ∷ [])
 confined_there group before now w e few stays = confined group (told_world before now w) (e ∷ []) (few_told before now w few) stays
 
+-- one of the group's own accesses no memory outside
+pub untouched_outside : (group : ℕ → Bool) (p : ℕ) (before now : List (List Access)) (old : World) (e : Event) → AreListed (accesses_by (told_world before now old) e) before now → p < 64 → length old.functions ≤ 64 → group p ≡ false
+    → is_groups group e ≡ true → StaysApart group old.settings (e ∷ []) → trace_of now p ≡ trace_of before p
+untouched_outside group p before now old e listed small few there is stays =
+    let met : World = told_world before now old in
+    let none : kept p met e ≡ None = (confined_there group before now old e few stays).0 is p small there in
+    listed p
+    ∙ (λ i. trace_of before p ++ (accesses_follow p met e ∙ (λ j. lone_made (lone_of p met) (cons_option (none j) []))) i)
+    ∙ append-nil (trace_of before p)
+
 pub live_seen_without : (group : ℕ → Bool) (shared : Bool) (p : ℕ) (before now other_before other_now : List (List Access)) (old new other : World) (e : Event) (taken : Response) → TakesLive shared before now old e new taken
     → p < length old.functions → length old.functions ≤ 64 → group p ≡ false → AlikeOutside group old other → AnsweredAlike group before now other_before other_now → StaysApart group old.settings (e ∷ [])
     → seen_by p (e ∷ []) (answer_in new taken ∷ []) ≡ seen_by p (erase group (e ∷ [])) (answers (told_world other_before other_now other) (erase group (e ∷ [])))
@@ -60,7 +73,7 @@ live_seen_without group shared p before now other_before other_now old new other
 
 pub live_accesses_without : (group : ℕ → Bool) (p : ℕ) (before now other_before other_now : List (List Access)) (old other : World) (e : Event)
     → p < length old.functions → length old.functions ≤ 64 → group p ≡ false → AlikeOutside group old other → AnsweredAlike group before now other_before other_now → StaysApart group old.settings (e ∷ [])
-    → accesses_by (told_world before now old) e p ≡ accesses_of (told_world other_before other_now other) (erase group (e ∷ [])) p
+    → accesses_by (told_world before now old) e p ≡ run_accesses (told_world other_before other_now other) (erase group (e ∷ [])) p
 live_accesses_without group p before now other_before other_now old other e below few there a same stays =
     sym (append-nil (accesses_by (told_world before now old) e p))
     ∙ accesses_without group p (told_world before now old) (told_world other_before other_now other) (e ∷ []) (here_told before now old p below) (few_told before now old few) there

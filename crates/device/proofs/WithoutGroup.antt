@@ -10,7 +10,7 @@ use Rattle.pool_filter.specs.Settings.{initial_settings, settings_at}
 use Rattle.device.specs.Events.{Event}
 use Rattle.device.specs.Resets.{resets_at}
 use Rattle.device.specs.World.{World, pf_word, fresh, step, answers, world_after}
-use Rattle.device.specs.Accesses.{accesses_of}
+use Rattle.device.specs.Accesses.{run_accesses}
 use Rattle.device.specs.Lone.{Item, lone_of, kept, keep, seen_by, lone_seen, lone_after}
 use Rattle.device.specs.LoneAccesses.{lone_made}
 use Rattle.device.specs.Erased.{is_groups, erase, StaysApart, IsConfined, AlikeOutside}
@@ -56,7 +56,7 @@ state_without group p w v events below few there a c =
 
 -- and the accesses to its memory
 pub accesses_without : (group : ℕ → Bool) (p : ℕ) (w v : World) (events : List Event) → p < length w.functions → length w.functions ≤ 64 → group p ≡ false → AlikeOutside group w v → IsConfined group w events
-    → accesses_of w events p ≡ accesses_of v (erase group events) p
+    → run_accesses w events p ≡ run_accesses v (erase group events) p
 accesses_without group p w v events below few there a c =
     let small : p < 64 = omega arith in
     all_follow p w events below few
@@ -75,12 +75,12 @@ same_whatever group p w v events others below few there a same c c' =
     )
 
 pub accesses_whatever : (group : ℕ → Bool) (p : ℕ) (w v : World) (events others : List Event) → p < length w.functions → length w.functions ≤ 64 → group p ≡ false → AlikeOutside group w v
-    → erase group events ≡ erase group others → IsConfined group w events → IsConfined group v others → accesses_of w events p ≡ accesses_of v others p
+    → erase group events ≡ erase group others → IsConfined group w events → IsConfined group v others → run_accesses w events p ≡ run_accesses v others p
 accesses_whatever group p w v events others below few there a same c c' =
     let below' : p < length v.functions = subst (λ n. p < n) a.count below in
     let few' : length v.functions ≤ 64 = subst (λ n. n ≤ 64) a.count few in
     accesses_without group p w v events below few there a c
-    ∙ ap (λ es. accesses_of v es p) same
+    ∙ ap (λ es. run_accesses v es p) same
     ∙ sym (accesses_without group p v v others below' few' there (alike_itself group v) c')
 
 -- ---- the worlds that are left
@@ -116,7 +116,7 @@ fresh_without group p limit sizes events below few there stays =
     )
 
 pub fresh_accesses : (group : ℕ → Bool) (p limit : ℕ) (sizes : List ℕ) (events : List Event) → p < length sizes → length sizes ≤ 64 → group p ≡ false → StaysApart group initial_settings events
-    → accesses_of (fresh limit sizes) events p ≡ accesses_of (fresh limit sizes) (erase group events) p
+    → run_accesses (fresh limit sizes) events p ≡ run_accesses (fresh limit sizes) (erase group events) p
 fresh_accesses group p limit sizes events below few there stays =
     let w : World = fresh limit sizes in
     let below' : p < length w.functions = subst (λ n. p < n) (as_many sizes) below in

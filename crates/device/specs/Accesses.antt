@@ -45,6 +45,6 @@ accesses_but_read w e p = accesses_by w e p
 
 -- ---- a list of events
 
-abbrev pub accesses_of : World → List Event → ℕ → List Access
-accesses_of w [] p = []
-accesses_of w (e ∷ es) p = accesses_by w e p ++ accesses_of (step w e).world es p
+abbrev pub run_accesses : World → List Event → ℕ → List Access
+run_accesses w [] p = []
+run_accesses w (e ∷ es) p = accesses_by w e p ++ run_accesses (step w e).world es p

@@ -15,8 +15,8 @@ ghost use Rattle.device.specs.Resets.{resets_at};
 ghost use Rattle.device.specs.World.{World, pf_word, fresh, step, answers, world_after};
 ghost use Rattle.device.specs.declared.response.Response.{Response};
 ghost use Rattle.device.specs.Outcome.{answer_in};
-ghost use Rattle.device.specs.Live.{told_world, TakesLive};
-ghost use Rattle.device.specs.Accesses.{accesses_by, accesses_of};
+ghost use Rattle.device.specs.Live.{trace_of, told_world, AreListed, TakesLive};
+ghost use Rattle.device.specs.Accesses.{accesses_by, run_accesses};
 ghost use Rattle.device.specs.Lone.{kept, keep, lone_of, seen_by};
 ghost use Rattle.device.specs.Erased.{is_groups, erase, settings_then, IsApart, StaysApart, IsConfined, AlikeOutside, AnsweredAlike};
 
@@ -35,8 +35,8 @@ pub fn without_group()
     ensures fresh_accesses { (group : ℕ → Bool) (p limit : ℕ) (sizes : List ℕ) (events : List Event) →
         p < length sizes → length sizes ≤ 64 → group p ≡ false
         → StaysApart group initial_settings events
-        → accesses_of (fresh limit sizes) events p
-        ≡ accesses_of (fresh limit sizes) (erase group events) p }
+        → run_accesses (fresh limit sizes) events p
+        ≡ run_accesses (fresh limit sizes) (erase group events) p }
     // on any device, and on one that differs from it in the group: what is left for the function is the same
     ensures kept { (group : ℕ → Bool) (p : ℕ) (w v : World) (events : List Event) →
         length w.functions ≤ 64 → p < 64 → group p ≡ false → AlikeOutside group w v
@@ -56,7 +56,7 @@ pub fn without_group()
     ensures accesses { (group : ℕ → Bool) (p : ℕ) (w v : World) (events : List Event) →
         p < length w.functions → length w.functions ≤ 64 → group p ≡ false
         → AlikeOutside group w v → IsConfined group w events
-        → accesses_of w events p ≡ accesses_of v (erase group events) p }
+        → run_accesses w events p ≡ run_accesses v (erase group events) p }
     // and all else of the two worlds, but the reset flags and what went to the wire
     ensures worlds { (group : ℕ → Bool) (w v : World) (events : List Event) →
         length w.functions ≤ 64 → AlikeOutside group w v → IsConfined group w events
@@ -88,7 +88,13 @@ pub fn without_group_live()
         → AlikeOutside group old other → AnsweredAlike group before now other_before other_now
         → StaysApart group old.settings (e ∷ [])
         → accesses_by (told_world before now old) e p
-        ≡ accesses_of (told_world other_before other_now other) (erase group (e ∷ [])) p }
+        ≡ run_accesses (told_world other_before other_now other) (erase group (e ∷ [])) p }
+    // so an event of the group's own reads and writes nothing there
+    ensures untouched { (group : ℕ → Bool) (p : ℕ) (before now : List (List Access)) (old : World)
+        (e : Event) → AreListed (accesses_by (told_world before now old) e) before now
+        → p < 64 → length old.functions ≤ 64 → group p ≡ false
+        → is_groups group e ≡ true → StaysApart group old.settings (e ∷ [])
+        → trace_of now p ≡ trace_of before p }
     // and the worlds after it
     ensures worlds { (group : ℕ → Bool) (shared : Bool)
         (before now other_before other_now : List (List Access)) (old new other : World) (e : Event)
@@ -113,7 +119,7 @@ pub fn whatever_a_group_does()
         p < length w.functions → length w.functions ≤ 64 → group p ≡ false
         → AlikeOutside group w v → erase group events ≡ erase group others
         → IsConfined group w events → IsConfined group v others
-        → accesses_of w events p ≡ accesses_of v others p }
+        → run_accesses w events p ≡ run_accesses v others p }
     // and from a device as it is made, by its settings alone
     ensures from_fresh { (group : ℕ → Bool) (p limit : ℕ) (sizes : List ℕ)
         (events others : List Event) →

@@ -1,7 +1,9 @@
 -- A run while guests write their memories, without the own events of a group that the settings keep apart.
-use Rattle.std.proofs.Common.{◌≡◌, ℕ, ◌<◌, ◌≤◌, Bool, true, false, List, [], ◌∷◌, ◌++◌, None, length, append-nil, arith, refl, sym, ap, subst, ◌∙◌}
+use Rattle.std.proofs.Common.{◌≡◌, ℕ, ◌<◌, ◌≤◌, ◌⊎◌, inl, inr, Bool, true, false, List, [], ◌∷◌, ◌++◌, length, append-nil, arith, refl, sym, ap, subst, ◌∙◌}
 use Rattle.std.proofs.Math.Nat.{suc-ne-zero}
-use Rattle.std.proofs.lemmas.List.{append_assoc}
+use Rattle.std.proofs.lemmas.Bool.{cases_lt}
+use Rattle.std.proofs.lemmas.List.{append_assoc, get_or_past}
+use Rattle.std.proofs.lemmas.List.FromFn.{get_or-map-range_with_len, length-map-range_with_len}
 use Rattle.std.specs.Prelude.{if◌then◌else◌}
 use Rattle.std.specs.List.{cons_option}
 use Rattle.guest_memory.specs.Memory.{Write}
@@ -9,20 +11,18 @@ use Rattle.live_memory.specs.Trace.{since, reads}
 use Rattle.live_memory.proofs.Accesses.{since_none}
 use Rattle.device.specs.Events.{Event}
 use Rattle.device.specs.World.{World, step, answers}
-use Rattle.device.specs.Accesses.{accesses_by, accesses_of}
-use Rattle.device.specs.Lone.{kept, lone_of, seen_of, seen_by}
-use Rattle.device.specs.LoneAccesses.{lone_made}
+use Rattle.device.specs.Accesses.{accesses_by, run_accesses}
+use Rattle.device.specs.Lone.{seen_of, seen_by}
 use Rattle.device.specs.Live.{trace_of, told_world, AreListed}
 use Rattle.device.specs.Erased.{is_groups, erase, StaysApart, IsConfined, AlikeOutside, AnsweredAlike, answered_in}
 use Rattle.device.proofs.NextSettings.{settings_stepped}
-use Rattle.device.proofs.AccessSteps.{accesses_follow}
 use Rattle.device.proofs.LiveLemmas.{length_told, told_world_none}
 use Rattle.device.proofs.Confinement.{confined}
 use Rattle.device.proofs.AlikeSteps.{alike_groups, alike_others}
 use Rattle.device.proofs.WithoutGroup.{seen_without, accesses_without}
-use Rattle.device.proofs.ErasedLive.{alike_told}
+use Rattle.device.proofs.ErasedLive.{alike_told, untouched_outside}
 use Rattle.live_run.specs.Live.{Noted, live_after, live_answers, last_of, AllMet}
-use Rattle.live_run.specs.Erased.{erase_noted, answers_of, AllAnsweredAlike, live_accesses}
+use Rattle.live_run.specs.Erased.{outside, trace_unless, erase_noted, answers_of, AllAnsweredAlike, live_accesses}
 use Rattle.live_run.proofs.Runs.{same_count, cons_append}
 
 -- what function p sees of two runs, what is done with its memory, and the worlds after them
@@ -39,20 +39,11 @@ there_met b t w p below = subst (λ (n : ℕ). p < n) (sym (length_told b t w.fu
 
 -- ---- an event of the group's own
 
--- it accesses no memory outside
-untouched : (group : ℕ → Bool) (w : World) (b t : Noted) (e : Event) (r : ℕ) → length w.functions ≤ 64 → r < 64 → group r ≡ false → is_groups group e ≡ true → StaysApart group w.settings (e ∷ []) → AreListed (accesses_by (told_world b t w) e) b t → trace_of t r ≡ trace_of b r
-untouched group w b t e r few small out is stays listed =
-    let u : World = told_world b t w in
-    let none : kept r u e ≡ None = (confined group u (e ∷ []) (few_met b t w few) stays).0 is r small out in
-    listed r
-    ∙ (λ i. trace_of b r ++ (accesses_follow r u e ∙ (λ j. lone_made (lone_of r u) (cons_option (none j) []))) i)
-    ∙ append-nil (trace_of b r)
-
--- so the world that it met is alike outside to one in which no memory answered anything
+-- it accesses no memory outside, so the world that it met is alike to one in which no memory answered anything
 alike_unmet : (group : ℕ → Bool) (w v : World) (b t c : Noted) (e : Event) → length w.functions ≤ 64 → is_groups group e ≡ true → StaysApart group w.settings (e ∷ []) → AreListed (accesses_by (told_world b t w) e) b t → AlikeOutside group w v → AlikeOutside group (told_world b t w) v
 alike_unmet group w v b t c e few is stays listed a =
     subst (AlikeOutside group (told_world b t w)) (told_world_none c c v (λ r. refl))
-    (alike_told group b t c c w v few (λ r small out. ap reads (ap (since (trace_of b r)) (untouched group w b t e r few small out is stays listed) ∙ since_none (trace_of b r) ∙ sym (since_none (trace_of c r)))) a)
+    (alike_told group b t c c w v few (λ r small out. ap reads (ap (since (trace_of b r)) (untouched_outside group r b t w e listed small few out is stays) ∙ since_none (trace_of b r) ∙ sym (since_none (trace_of c r)))) a)
 
 on_groups : (group : ℕ → Bool) (p : ℕ) (w v : World) (e : Event) (es : List Event) (b t c : Noted) (ts us : List Noted) → p < length w.functions → length w.functions ≤ 64 → group p ≡ false → is_groups group e ≡ true
     → StaysApart group w.settings (e ∷ []) → AreListed (accesses_by (told_world b t w) e) b t → AlikeOutside group w v
@@ -69,7 +60,7 @@ on_groups group p w v e es b t c ts us below few out is stays listed a rest =
     ∙ (λ i. seen_by p (if is i then [] else e ∷ []) (answers v (if is i then [] else e ∷ []))) in
     let made : accesses_by u e p ++ [] ≡ [] =
     accesses_without group p u v (e ∷ []) (there_met b t w p below) (few_met b t w few) out met none
-    ∙ (λ i. accesses_of v (if is i then [] else e ∷ []) p) in
+    ∙ (λ i. run_accesses v (if is i then [] else e ∷ []) p) in
     subst (λ (fs : List Event). SameOutside group p w b (e ∷ es) (t ∷ ts) v c fs us) (λ i. if sym is i then erase group es else e ∷ erase group es) (record {
       seen = cons_append (seen_of p e (step u e).answer) (seen_by p es (live_answers (step u e).world t es ts)) ∙ (λ i. sight i ++ later.seen i);
       accesses = λ i. (sym (append-nil (accesses_by u e p)) ∙ made) i ++ later.accesses i;
@@ -94,7 +85,7 @@ on_others group p w v e es b t c k ts us below few out is stays a answered rest 
     ∙ (λ i. seen_by p (if is i then [] else e ∷ []) (answers x (if is i then [] else e ∷ []))) in
     let made : accesses_by u e p ++ [] ≡ accesses_by x e p ++ [] =
     accesses_without group p u x (e ∷ []) (there_met b t w p below) (few_met b t w few) out met none
-    ∙ (λ i. accesses_of x (if is i then [] else e ∷ []) p) in
+    ∙ (λ i. run_accesses x (if is i then [] else e ∷ []) p) in
     subst (λ (fs : List Event). SameOutside group p w b (e ∷ es) (t ∷ ts) v c fs (k ∷ us)) (λ i. if sym is i then erase group es else e ∷ erase group es) (record {
       seen = cons_append (seen_of p e (step u e).answer) (seen_by p es (live_answers (step u e).world t es ts)) ∙ (λ i. sight i ++ later.seen i)
           ∙ sym (cons_append (seen_of p e (step x e).answer) (seen_by p (erase group es) (live_answers (step x e).world k (erase group es) us)));
@@ -152,6 +143,14 @@ run_without group shared p w v (e ∷ es) b c (t ∷ ts) us below few out a met 
 
 -- ---- what was noted without the group's events
 
+pub trace_outside : (group : ℕ → Bool) (t : Noted) (r : ℕ) → group r ≡ false → trace_of (outside group t) r ≡ trace_of t r
+unfolding outside
+trace_outside group t r out = at (cases_lt r (length t))
+  where
+    at : (r < length t) ⊎ (length t ≤ r) → trace_of (outside group t) r ≡ trace_of t r
+    at (inl inside) = get_or-map-range_with_len (trace_unless group t) 0 (length t) r r [] inside (omega arith) ∙ (λ i. if out i then [] else trace_of t r)
+    at (inr past) = get_or_past (outside group t) r [] (subst (λ (n : ℕ). n ≤ r) (sym (length-map-range_with_len (trace_unless group t) 0 (length t))) past) ∙ sym (get_or_past t r [] past)
+
 -- what was done before counts only for the first of them
 answers_from : (group : ℕ → Bool) (r : ℕ) (es : List Event) (b c : Noted) (ts : List Noted) → trace_of b r ≡ trace_of c r → answers_of group r b es ts ≡ answers_of group r c es ts
 unfolding answers_of
@@ -159,28 +158,28 @@ answers_from group r [] b c ts same = refl
 answers_from group r (e ∷ es) b c [] same = refl
 answers_from group r (e ∷ es) b c (t ∷ ts) same = λ i. if is_groups group e then answers_of group r t es ts else reads (since (same i) (trace_of t r)) ∷ answers_of group r t es ts
 
-noted_on : (group : ℕ → Bool) (r : ℕ) (e : Event) (es : List Event) (b t : Noted) (ts : List Noted) (mine : Bool) → is_groups group e ≡ mine → (is_groups group e ≡ true → trace_of t r ≡ trace_of b r)
-    → answers_of group r t es ts ≡ answers_of group r t (erase group es) (erase_noted group es ts)
-    → answers_of group r b (e ∷ es) (t ∷ ts) ≡ answers_of group r b (erase group (e ∷ es)) (erase_noted group (e ∷ es) (t ∷ ts))
+noted_on : (group : ℕ → Bool) (r : ℕ) (e : Event) (es : List Event) (b t : Noted) (ts : List Noted) (mine : Bool) → is_groups group e ≡ mine → group r ≡ false → (is_groups group e ≡ true → trace_of t r ≡ trace_of b r)
+    → answers_of group r t es ts ≡ answers_of group r (outside group t) (erase group es) (erase_noted group es ts)
+    → answers_of group r b (e ∷ es) (t ∷ ts) ≡ answers_of group r (outside group b) (erase group (e ∷ es)) (erase_noted group (e ∷ es) (t ∷ ts))
 unfolding answers_of erase_noted
-noted_on group r e es b t ts true is still rest =
+noted_on group r e es b t ts true is out still rest =
     (λ i. if is i then answers_of group r t es ts else answered_in b t r ∷ answers_of group r t es ts)
     ∙ rest
-    ∙ answers_from group r (erase group es) t b (erase_noted group es ts) (still is)
-    ∙ (λ i. answers_of group r b (if sym is i then erase group es else e ∷ erase group es) (if sym is i then erase_noted group es ts else t ∷ erase_noted group es ts))
-noted_on group r e es b t ts false is still rest =
+    ∙ answers_from group r (erase group es) (outside group t) (outside group b) (erase_noted group es ts) (trace_outside group t r out ∙ still is ∙ sym (trace_outside group b r out))
+    ∙ (λ i. answers_of group r (outside group b) (if sym is i then erase group es else e ∷ erase group es) (if sym is i then erase_noted group es ts else outside group t ∷ erase_noted group es ts))
+noted_on group r e es b t ts false is out still rest =
     (λ i. if is i then answers_of group r t es ts else answered_in b t r ∷ answers_of group r t es ts)
-    ∙ (λ i. answered_in b t r ∷ rest i)
-    ∙ (λ i. if sym is i then answers_of group r t (erase group es) (erase_noted group es ts) else answered_in b t r ∷ answers_of group r t (erase group es) (erase_noted group es ts))
-    ∙ (λ i. answers_of group r b (if sym is i then erase group es else e ∷ erase group es) (if sym is i then erase_noted group es ts else t ∷ erase_noted group es ts))
+    ∙ (λ i. reads (since (sym (trace_outside group b r out) i) (sym (trace_outside group t r out) i)) ∷ rest i)
+    ∙ (λ i. if sym is i then answers_of group r (outside group t) (erase group es) (erase_noted group es ts) else answered_in (outside group b) (outside group t) r ∷ answers_of group r (outside group t) (erase group es) (erase_noted group es ts))
+    ∙ (λ i. answers_of group r (outside group b) (if sym is i then erase group es else e ∷ erase group es) (if sym is i then erase_noted group es ts else outside group t ∷ erase_noted group es ts))
 
 pub noted_without : (group : ℕ → Bool) (shared : Bool) (w : World) (es : List Event) (b : Noted) (ts : List Noted) → length w.functions ≤ 64 → AllMet shared w b es ts → length ts ≡ length es → StaysApart group w.settings es
-    → AllAnsweredAlike group b es ts b (erase group es) (erase_noted group es ts)
+    → AllAnsweredAlike group b es ts (outside group b) (erase group es) (erase_noted group es ts)
 unfolding AllMet answers_of erase_noted
 noted_without group shared w [] b ts few met same stays = λ r small out. refl
 noted_without group shared w (e ∷ es) b [] few met same stays = absurd (omega (arith, same))
 noted_without group shared w (e ∷ es) b (t ∷ ts) few met same stays = λ r small out.
-    noted_on group r e es b t ts (is_groups group e) refl (λ is. untouched group w b t e r few small out is (stays.0, tt) met.0.1)
+    noted_on group r e es b t ts (is_groups group e) refl out (λ is. untouched_outside group r b t w e met.0.1 small few out is (stays.0, tt))
     (noted_without group shared (step (told_world b t w) e).world es t ts (subst (λ (n : ℕ). n ≤ 64) (sym (same_count w b t e)) few) met.1 (omega (arith, same))
     (subst (λ s. StaysApart group s es) (sym (settings_stepped (told_world b t w) e)) stays.1) r small out)
 

@@ -1,8 +1,9 @@
 //! Erased tenants, of runs while guests write their memories. Each function of this module does nothing: its contract is the law.
 //!
-//! Without the own events of a group that the settings keep apart, and whatever the memories of the group answered, each function outside
-//! has the same: where the memories outside answered the same in each event. That premise is of what they answered alone. What is written
-//! to them, and the accesses in their order, are the same by the law.
+//! A memory answers what is read from it: bytes, at their addresses. A run is compared with the same run without the own events of a group
+//! that the settings keep apart, and without what the group's memories answered. What the memories outside answered is the same in both. By
+//! the law all else is the same for each function outside: its replies and messages, its registers, memory and own settings, and the accesses
+//! to its memory, those that write too, in their order.
 ghost use Rattle.std.specs.Prelude.{◌≡◌, ℕ, ◌<◌, ◌≤◌, Bool, false, List, length};
 ghost use Rattle.live_memory.specs.Trace.{since};
 ghost use Rattle.device.specs.Events.{Event};
@@ -11,55 +12,56 @@ ghost use Rattle.device.specs.World.{World};
 ghost use Rattle.device.specs.Lone.{lone_of, seen_by};
 ghost use Rattle.device.specs.Live.{TracedWorld, trace_of};
 ghost use Rattle.device.specs.Erased.{erase, StaysApart, AlikeOutside};
-ghost use Rattle.live_run.specs.Live.{Noted, live_after, live_answers, IsLiveRun};
-ghost use Rattle.live_run.specs.Erased.{erase_noted, live_accesses, AllAnsweredAlike};
+ghost use Rattle.live_run.specs.Live.{live_after, live_answers, IsLiveRun};
+ghost use Rattle.live_run.specs.Erased.{outside, erase_noted, live_accesses, AllAnsweredAlike};
 
-/// A run without the own events of a group, from any device that is alike but for the group.
+/// A run without the own events of a group and without what its memories answered, from any device that is alike but for the group.
 pub fn without_group()
     // replies and messages
     ensures seen { (group : ℕ → Bool) (shared : Bool) (p : ℕ) (old new : TracedWorld)
         (events : List Event) (answers : List Answer) (run : IsLiveRun shared old events answers new)
-        (other : World) (before : Noted) (noted : List Noted) →
+        (other : World) →
         p < length old.world.functions → length old.world.functions ≤ 64 → group p ≡ false
         → AlikeOutside group old.world other → StaysApart group old.world.settings events
-        → AllAnsweredAlike group old.accesses events run.noted before (erase group events) noted
         → seen_by p events answers
-        ≡ seen_by p (erase group events) (live_answers other before (erase group events) noted) }
+        ≡ seen_by p (erase group events) (live_answers other
+        (outside group old.accesses) (erase group events) (erase_noted group events run.noted)) }
     // registers, memory and own settings
     ensures state { (group : ℕ → Bool) (shared : Bool) (p : ℕ) (old new : TracedWorld)
         (events : List Event) (answers : List Answer) (run : IsLiveRun shared old events answers new)
-        (other : World) (before : Noted) (noted : List Noted) →
+        (other : World) →
         p < length old.world.functions → length old.world.functions ≤ 64 → group p ≡ false
         → AlikeOutside group old.world other → StaysApart group old.world.settings events
-        → AllAnsweredAlike group old.accesses events run.noted before (erase group events) noted
-        → lone_of p new.world ≡ lone_of p (live_after other before (erase group events) noted) }
+        → lone_of p new.world
+        ≡ lone_of p (live_after other
+        (outside group old.accesses) (erase group events) (erase_noted group events run.noted)) }
     // the accesses to its memory, with their bytes, in order
     ensures accesses { (group : ℕ → Bool) (shared : Bool) (p : ℕ) (old new : TracedWorld)
         (events : List Event) (answers : List Answer) (run : IsLiveRun shared old events answers new)
-        (other : World) (before : Noted) (noted : List Noted) →
+        (other : World) →
         p < length old.world.functions → length old.world.functions ≤ 64 → group p ≡ false
         → AlikeOutside group old.world other → StaysApart group old.world.settings events
-        → AllAnsweredAlike group old.accesses events run.noted before (erase group events) noted
         → since (trace_of old.accesses p) (trace_of new.accesses p)
-        ≡ live_accesses p other before (erase group events) noted }
+        ≡ live_accesses p other
+        (outside group old.accesses) (erase group events) (erase_noted group events run.noted) }
     // and all of the two worlds, but for the group, the reset flags and what went to the wire
     ensures worlds { (group : ℕ → Bool) (shared : Bool) (p : ℕ) (old new : TracedWorld)
         (events : List Event) (answers : List Answer) (run : IsLiveRun shared old events answers new)
-        (other : World) (before : Noted) (noted : List Noted) →
+        (other : World) →
         p < length old.world.functions → length old.world.functions ≤ 64 → group p ≡ false
         → AlikeOutside group old.world other → StaysApart group old.world.settings events
-        → AllAnsweredAlike group old.accesses events run.noted before (erase group events) noted
-        → AlikeOutside group new.world (live_after other before (erase group events) noted) }
-    // such a run is the one with just what was noted after the events of others
-    ensures noted { (group : ℕ → Bool) (shared : Bool) (old new : TracedWorld)
+        → AlikeOutside group new.world (live_after other
+        (outside group old.accesses) (erase group events) (erase_noted group events run.noted)) }
+    // in the run without them, the memories outside answered what they answered in the run
+    ensures answered { (group : ℕ → Bool) (shared : Bool) (old new : TracedWorld)
         (events : List Event) (answers : List Answer) (run : IsLiveRun shared old events answers new) →
         length old.world.functions ≤ 64 → StaysApart group old.world.settings events
         → AllAnsweredAlike group old.accesses events run.noted
-        old.accesses (erase group events) (erase_noted group events run.noted) }
+        (outside group old.accesses) (erase group events) (erase_noted group events run.noted) }
 {}
 
-/// Whatever the group does and its memories answer: two runs that differ in that alone, on devices that differ in the group alone, give each
-/// function outside the same.
+/// Whatever the group does and its memories answer: two runs in which the others' events and what the memories outside answered are the
+/// same, on devices that differ in the group alone, give each function outside the same.
 pub fn whatever_a_group_does()
     // replies and messages
     ensures seen { (group : ℕ → Bool) (shared other_shared : Bool) (p : ℕ)

@@ -1,5 +1,5 @@
 -- The law, by its lemmas.
-use Rattle.live_run.proofs.WithoutGroup.{seen_erased, state_erased, accesses_erased, worlds_erased, noted_erased}
+use Rattle.live_run.proofs.WithoutGroup.{seen_erased, state_erased, accesses_erased, worlds_erased, answered_erased}
 use Rattle.live_run.proofs.erased.without_group.Goals as goal
 
 pub returns-clause-seen : goal.returns-clause-seen
@@ -14,5 +14,5 @@ returns-clause-accesses c = accesses_erased
 pub returns-clause-worlds : goal.returns-clause-worlds
 returns-clause-worlds c = worlds_erased
 
-pub returns-clause-noted : goal.returns-clause-noted
-returns-clause-noted c = noted_erased
+pub returns-clause-answered : goal.returns-clause-answered
+returns-clause-answered c = answered_erased

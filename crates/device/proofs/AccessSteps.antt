@@ -46,7 +46,7 @@ quiet : (s : Lone) (e : Event) (mine : Bool) → made_by_own s e ≡ [] → [] �
 quiet s e true none = sym none
 quiet s e false none = refl
 
--- a read or a write of the memory
+-- one that opens the function, or reads or writes its memory
 mine_made : (s : Lone) (e : Event) (mine : Bool) → (if mine then made_by_own s e else []) ≡ made s (if mine then Some (OwnEvent e) else None)
 mine_made s e true = refl
 mine_made s e false = refl
@@ -110,7 +110,7 @@ wire_made p w frame = by (nat_lt w.limit (length frame))
 -- ---- any event
 
 event_made : (p : ℕ) (w : World) (e : Event) → accesses_by w e p ≡ made (lone_of p w) (kept p w e)
-event_made p w (Open q) = quiet (lone_of p w) (Open q) (eqb q p) refl
+event_made p w (Open q) = ap (λ (b : Bool). if b then act_accesses (function_of p w) (Open q) else []) (flip p q) ∙ mine_made (lone_of p w) (Open q) (eqb q p)
 event_made p w (End q) = quiet (lone_of p w) (End q) (eqb q p) refl
 event_made p w (VfRead q offset) = quiet (lone_of p w) (VfRead q offset) (eqb q p) refl
 event_made p w (VfWrite q offset x) = quiet (lone_of p w) (VfWrite q offset x) (eqb q p) refl

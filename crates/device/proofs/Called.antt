@@ -248,3 +248,22 @@ absent_none t p made past none r = at (eqb_tells r p)
 pub absent_listed : (t : TracedWorld) (p : ℕ) (made : ℕ → Function → List Access) → length t.world.functions ≤ p → made p (Closed 0) ≡ []
     → AreListed (λ r. if eqb r p then made r (function_of r (told_world t.accesses t.accesses t.world)) else []) t.accesses t.accesses
 absent_listed t p made past none = none_listed t.accesses t.accesses _ refl (absent_none t p made past none)
+
+-- the same of a call that reads nothing
+pub unread_absent : (t : TracedWorld) (p : ℕ) (made : Function → List Access) → length t.world.functions ≤ p → made (Closed 0) ≡ []
+    → AreListed (λ r. if eqb r p then made (function_of r t.world) else []) t.accesses t.accesses
+unread_absent t p made past none = none_listed t.accesses t.accesses _ refl none_there
+  where
+    none_there : (r : ℕ) → (if eqb r p then made (function_of r t.world) else []) ≡ []
+    none_there r = at (eqb_tells r p)
+      where
+        at : ((eqb r p ≡ true) × (r ≡ p)) ⊎ ((eqb r p ≡ false) × (r ≢ p)) → (if eqb r p then made (function_of r t.world) else []) ≡ []
+        at (inl same) = rw same.0 (ap (λ (k : ℕ). made (function_of k t.world)) same.1 ∙ ap made (get_or_past t.world.functions p (Closed 0) past) ∙ none)
+        at (inr other) = only_here p r _ other.1
+
+-- ---- it is over another memory
+
+pub own_exchanged : (us : List TracedFunction) (t : TracedWorld) (b : Base) (i p : ℕ) (here new : TracedFunction) (noted : List Access) → device_with b us ≡ t → IsHere us i p here → new.accesses ≡ noted
+    → traces_of (set us i new) ≡ set t.accesses p noted
+own_exchanged us t b i p here new noted view h is =
+    traces_now us i p here new h ∙ ap (set (traces_of us) p) is ∙ ap (λ (d : TracedWorld). set d.accesses p noted) view

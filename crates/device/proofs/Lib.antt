@@ -1,5 +1,6 @@
 pub mod AccessLists
 pub mod AccessSteps
+pub mod Across
 pub mod AlikeSteps
 pub mod Apartness
 pub mod Append

@@ -9,7 +9,7 @@ use Rattle.local_switch.specs.declared.ways.Source.{Source}
 use Rattle.local_switch.specs.declared.ways.Source.TheVariants.{Wire as FromWire, Pool}
 use Rattle.local_switch.specs.Switch.{receives}
 use Rattle.device.specs.Events.{Event}
-use Rattle.device.specs.declared.event.Event.TheVariants.{MemRead, MemWrite, Serve, Wire}
+use Rattle.device.specs.declared.event.Event.TheVariants.{Open, MemRead, MemWrite, Serve, Wire}
 use Rattle.device.specs.Act.{act_accesses, serve_accesses}
 use Rattle.device.specs.World.{World, function_of, is_looped, sent_by, step}
 
@@ -29,9 +29,10 @@ own_service_accesses w q queue p = if p == q then serve_accesses w.limit (own w.
 
 -- ---- one event
 
--- to the memory of function p: those of a read or a write of it, those of a service of its queue, and those of a frame that comes
+-- to the memory of function p: those of opening it, those of a read or a write of it, those of a service of its queue, and those of a frame that comes
 -- to it, from the wire or from another function
 abbrev pub accesses_by : World → Event → ℕ → List Access
+accesses_by w (Open q) p = if p == q then act_accesses (function_of p w) (Open q) else []
 accesses_by w (MemRead q at count) p = if p == q then act_accesses (function_of p w) (MemRead q at count) else []
 accesses_by w (MemWrite q at bytes) p = if p == q then act_accesses (function_of p w) (MemWrite q at bytes) else []
 accesses_by w (Serve q queue) p = own_service_accesses w q queue p ++ sent_accesses w q (sent_by w (Serve q queue)) p

@@ -9,7 +9,7 @@ use Rattle.tx_desc.specs.declared.outcome.Fetched.TheVariants.{Idle, More, Frame
 use Rattle.vf_unit.specs.declared.registers.Queue.{Queue}
 use Rattle.irq_causes.specs.Causes.{Change}
 use Rattle.live_memory.specs.Trace.{Access}
-use Rattle.vf_unit.specs.Unit.{Function, size_of, is_open, opened, ended, reset, read_of, after_read_of, written, serviced, service_outcome, one_more_sent, bytes_at, memory_written, service_accesses, load_accesses, store_accesses}
+use Rattle.vf_unit.specs.Unit.{Function, size_of, is_open, opened, opening_accesses, ended, reset, read_of, after_read_of, written, serviced, service_outcome, one_more_sent, bytes_at, memory_written, service_accesses, load_accesses, store_accesses}
 use Rattle.pool_filter.specs.Own.{OwnSettings, port_vlan_of}
 use Rattle.anti_spoof.specs.Permitted.{permitted}
 use Rattle.device.specs.Limits.{VF_SPACE, MOST_BYTES}
@@ -83,9 +83,10 @@ unless_refused None f e = performed f e
 unfoldable pub act : Function → Event → Acted
 act f e = unless_refused (refusal f e) f e
 
--- the accesses to the function's memory that an event of its own makes, other than a service: a read of the memory makes one, and so
--- does a write
+-- the accesses to the function's memory that an event of its own makes, other than a service: a read of the memory makes one, a
+-- write does, and so does opening it
 abbrev pub act_accesses : Function → Event → List Access
+act_accesses f (Open p) = if is_open f then [] else opening_accesses f
 act_accesses f (MemRead p at count) = if nat_lt MOST_BYTES count then [] else load_accesses f at count
 act_accesses f (MemWrite p at bytes) = store_accesses f at bytes
 act_accesses f _ = []

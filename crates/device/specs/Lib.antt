@@ -1,7 +1,9 @@
 pub mod Accesses
+pub mod Across
 pub mod Act
 pub mod Erased
 pub mod Events
+pub mod Guests
 pub mod Limits
 pub mod Live
 pub mod Lone

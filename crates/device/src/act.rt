@@ -50,7 +50,8 @@ pub(crate) fn open<D: Dma<K>, K>(unit: &mut VfUnit<D, K>) -> Result<(), Fault>
     ensures function { (p : ℕ) → unit.new.function ≡ (act unit.old.function (Event.Open p)).function }
     ensures reply { (p : ℕ) → (act unit.old.function (Event.Open p)).reply ≡ done_or_refused result }
     ensures silent { (p : ℕ) → (act unit.old.function (Event.Open p)).messages ≡ 0 }
-    ensures accesses { unit.new.accesses ≡ unit.old.accesses }
+    ensures listed { (p : ℕ)
+        → unit.new.accesses ≡ unit.old.accesses ++ act_accesses unit.old.function (Event.Open p) }
     ensures size { size_of unit.new.function ≡ size_of unit.old.function }
 {
     if unit.is_open() {

@@ -40,7 +40,9 @@ impl<D: Dma<K>, K> Device<D, K> {
         ensures world { self.new.world ≡ (step self.old.world (Event.Open pool)).world }
         ensures answer { silently (done_or_refused result)
             ≡ (step self.old.world (Event.Open pool)).answer }
-        ensures accesses { self.new.accesses ≡ self.old.accesses }
+        ensures listed { AreListed (accesses_by self.old.world (Event.Open pool))
+            self.old.accesses self.new.accesses }
+        ensures met { AreMet D.shared self.old.accesses self.new.accesses self.old.world }
         ensures sizes { sizes_of self.new.world ≡ sizes_of self.old.world }
     {
         let index = usize::from(pool);

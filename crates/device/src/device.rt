@@ -2,7 +2,6 @@
 ghost use Rattle.std.specs.Prelude.{◌≡◌, ℕ, [], ◌<◌, ◌≤◌, ◌&&◌, true, false, length, replicate, map, slice_get, option_copied, IfOk, IfErr};
 ghost use Rattle.pool_filter.specs.Settings.{initial_settings};
 ghost use Rattle.vf_unit.specs.Unit.{Closed, size_of, bytes_at};
-ghost use Rattle.device.specs.Live.{trace_of};
 ghost use Rattle.device.specs.World.{fresh, is_frame_limit, is_makeable, function_of};
 
 use crate::span::Span;
@@ -63,7 +62,7 @@ impl<D: Dma<K>, K> Device<D, K> {
     pub fn new(alloc: Global, memories: Vec<D>) -> Result<Device<D, K>, Fault>
         ensures ok { IfOk result
             (λ d. d.world ≡ fresh 1518 (map (λ m. length (D.seen m)) memories.items)) }
-        ensures untouched { IfOk result (λ d. (p : ℕ) → trace_of d.accesses p ≡ []) }
+        ensures untouched { IfOk result (λ d. d.accesses ≡ map (λ m. D.noted m) memories.items) }
         ensures bad_make { is_makeable (map (λ m. length (D.seen m)) memories.items) ≡ false
             → result ≡ Err Fault.BadMake }
         ensures no_memory { IfErr result
@@ -78,7 +77,7 @@ impl<D: Dma<K>, K> Device<D, K> {
     pub fn with_limit(alloc: Global, memories: Vec<D>, limit: u16) -> Result<Device<D, K>, Fault>
         ensures ok { IfOk result
             (λ d. d.world ≡ fresh limit (map (λ m. length (D.seen m)) memories.items)) }
-        ensures untouched { IfOk result (λ d. (p : ℕ) → trace_of d.accesses p ≡ []) }
+        ensures untouched { IfOk result (λ d. d.accesses ≡ map (λ m. D.noted m) memories.items) }
         ensures bad_make { (is_frame_limit limit && is_makeable
             (map (λ m. length (D.seen m)) memories.items)) ≡ false → result ≡ Err Fault.BadMake }
         ensures no_memory { IfErr result
@@ -97,7 +96,7 @@ impl<D: Dma<K>, K> Device<D, K> {
     fn make(alloc: Global, memories: Vec<D>, limit: FrameLimit) -> Result<Device<D, K>, Fault>
         ensures ok { IfOk result
             (λ d. d.world ≡ fresh limit (map (λ m. length (D.seen m)) memories.items)) }
-        ensures untouched { IfOk result (λ d. (p : ℕ) → trace_of d.accesses p ≡ []) }
+        ensures untouched { IfOk result (λ d. d.accesses ≡ map (λ m. D.noted m) memories.items) }
         ensures bad_make { is_makeable (map (λ m. length (D.seen m)) memories.items) ≡ false
             → result ≡ Err Fault.BadMake }
         ensures no_memory { IfErr result
@@ -107,6 +106,22 @@ impl<D: Dma<K>, K> Device<D, K> {
         if !is_makeable(memories.as_slice()) {
             return Err(Fault::BadMake);
         }
+        Device::over(alloc, memories, limit)
+    }
+
+    // A closed function over each of the memories.
+    #[inline(never)]
+    pub(crate) fn over(
+        alloc: Global,
+        memories: Vec<D>,
+        limit: FrameLimit,
+    ) -> Result<Device<D, K>, Fault>
+        requires { length memories.items ≤ 64 }
+        ensures ok { IfOk result
+            (λ d. d.world ≡ fresh limit (map (λ m. length (D.seen m)) memories.items)) }
+        ensures untouched { IfOk result (λ d. d.accesses ≡ map (λ m. D.noted m) memories.items) }
+        ensures no_memory { IfErr result (λ e. e ≡ Fault.NoMemory) }
+    {
         let tables = first_tables(alloc)?;
         let wire = WireOut::new(alloc)?;
         let units = close_all(alloc, memories)?;
@@ -194,7 +209,7 @@ fn first_tables(alloc: Global) -> Result<Box<Tables>, Fault>
 fn close_all<D: Dma<K>, K>(alloc: Global, memories: Vec<D>) -> Result<Vec<VfUnit<D, K>>, AllocError>
     ensures { IfOk result
         (λ units. units.items
-        ≡ map (λ m. record { function = Closed (length (D.seen m)); accesses = [] }) memories.items) }
+        ≡ map (λ m. record { function = Closed (length (D.seen m)); accesses = D.noted m }) memories.items) }
 {
     let mut units = Vec::with_capacity(alloc, memories.len())?;
     for memory in memories {

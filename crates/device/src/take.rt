@@ -148,7 +148,9 @@ impl<D: Dma<K>, K> Device<D, K> {
     #[inline]
     fn take_open<'f>(&mut self, pool: u8) -> Response<'f>
         ensures takes { Takes self.old.world (Event.Open pool) self.new.world result }
-        ensures accesses { self.new.accesses ≡ self.old.accesses }
+        ensures listed { AreListed (accesses_by self.old.world (Event.Open pool))
+            self.old.accesses self.new.accesses }
+        ensures met { AreMet D.shared self.old.accesses self.new.accesses self.old.world }
     {
         Response::done_or_refused(self.open(pool))
     }

@@ -1,8 +1,10 @@
 //! The interface of a memory that others may write too.
 ghost use Rattle.std.specs.Prelude.{◌≡◌, ℕ, ◌+◌, ◌≤◌, Bool, false, List, length, replicate, slice_range};
 ghost use Rattle.guest_memory.specs.Memory.{overwrite, word_at, word_bytes, two_words};
+ghost use Rattle.live_memory.specs.Clearing.{with_clearing};
 ghost use Rattle.live_memory.specs.Trace.{Access, Read, Wrote, with_access};
 
+use crate::trace::Trace;
 use crate::words::{bytes_of, bytes_of_two, word_of, words_of};
 
 /// The kind of a memory that nobody writes while a device works on it, as every [`GuestMem`](guest_memory::GuestMem) is.
@@ -19,7 +21,7 @@ pub struct Shared;
 /// `shared` says whether others write the memory while a device works on it. `answer` is what the memory answers to a read of so
 /// many bytes from an address on. Where the memory is shared nothing is said of it: it may be another one at each read. `seen`
 /// is the memory as the device knows it: each access puts its bytes there, a read those that it was answered. A memory that is
-/// shared also notes each access, in `noted`, since it was made or erased. [`Traced`](crate::Traced) keeps the accesses of any memory.
+/// shared also notes each access, in `noted`, and forgets none. [`Traced`](crate::Traced) lists the accesses to any memory.
 ///
 /// `K` is the kind of the memory, [`Alone`] or [`Shared`], so that a type of either kind has one implementation.
 ///
@@ -41,6 +43,10 @@ pub trait Dma<K>: Drop {
     /// The number of bytes.
     fn extent(&self) -> u64
         ensures { result ≡ length (seen self.now) };
+
+    /// What it noted up to now.
+    fn notes(&self) -> Trace
+        ensures { result.accesses ≡ noted self.now };
 
     /// Copies the bytes from `addr` on into `out`, whatever they are by then.
     fn load(&mut self, addr: u64, out: &mut [u8])
@@ -115,5 +121,6 @@ pub trait Dma<K>: Drop {
     /// Writes zero over every byte, as where a function is opened.
     fn erase(&mut self)
         ensures seen { seen self.new ≡ replicate (length (seen self.old)) 0 }
-        ensures size { length (seen self.new) ≡ length (seen self.old) };
+        ensures size { length (seen self.new) ≡ length (seen self.old) }
+        ensures noted { noted self.new ≡ with_clearing shared (noted self.old) (length (seen self.old)) };
 }

@@ -2,10 +2,13 @@
 ghost use Rattle.std.specs.Prelude.{◌≡◌, ℕ, ◌+◌, ◌≤◌, Bool, false, List, [], length, replicate, slice_range};
 ghost use Rattle.std.specs.Prelude.{refl};
 ghost use Rattle.guest_memory.specs.Memory.{overwrite, word_at, word_bytes, two_words};
+ghost use Rattle.live_memory.specs.Clearing.{with_clearing};
 ghost use Rattle.live_memory.specs.Trace.{Access, Read, Wrote, with_access};
 ghost use Rattle.live_memory.specs.Ranges.{range_whole};
 
 use crate::dma::{Alone, Dma};
+use crate::step::Step;
+use crate::trace::Trace;
 use guest_memory::GuestMem;
 
 // What a memory that events alone touch answers is what stands there, and it notes no access.
@@ -25,6 +28,11 @@ impl<M: GuestMem> Dma<Alone> for M {
     #[inline]
     fn extent(&self) -> u64 {
         self.size()
+    }
+
+    #[inline]
+    fn notes(&self) -> Trace {
+        Step::Begin.trace()
     }
 
     #[inline]

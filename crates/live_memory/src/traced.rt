@@ -1,6 +1,7 @@
 //! A memory with the accesses that were made to it.
 ghost use Rattle.std.specs.Prelude.{◌≡◌, ℕ, ◌+◌, ◌^◌, ◌<◌, ◌≤◌, [], ◌∷◌, ◌++◌, length, replicate, slice_range};
 ghost use Rattle.guest_memory.specs.Memory.{overwrite, word_at, word_bytes, two_words};
+ghost use Rattle.live_memory.specs.Clearing.{clearing, with_clearing};
 ghost use Rattle.live_memory.specs.Trace.{Read, Wrote, HasRead, with_access};
 
 use crate::dma::{Alone, Dma};
@@ -32,18 +33,26 @@ impl<D: Dma<K>, K> Model for Traced<D, K> {
 }
 
 impl<D: Dma<K>, K> Traced<D, K> {
-    /// The memory, to which no access was made yet.
+    /// The memory, with the accesses that it noted itself: none where it is new, or isn't shared.
     pub fn new(memory: D) -> Traced<D, K>
         ensures memory { result.memory ≡ memory }
-        ensures none { result.accesses ≡ [] }
+        ensures noted { result.accesses ≡ D.noted memory }
     {
         let size = memory.extent();
+        let trace = memory.notes();
         Traced {
             memory,
             size,
-            trace: Step::Begin.trace(),
+            trace,
             kind: PhantomData,
         }
+    }
+
+    /// The memory by itself again.
+    pub fn into_memory(self) -> D
+        ensures { result ≡ self.memory }
+    {
+        self.memory
     }
 
     /// The number of bytes.
@@ -181,14 +190,18 @@ impl<D: Dma<K>, K> Traced<D, K> {
         self.trace = Step::Writes(&self.trace, addr, &bytes_of_two(low, high)).trace();
     }
 
-    /// Writes zero over every byte, as where a function is opened. It isn't an access.
+    /// Writes zero over every byte, as where a function is opened.
     pub fn erase(&mut self)
         ensures seen { D.seen self.new.memory
             ≡ replicate (length (D.seen self.old.memory)) 0 }
         ensures size { length (D.seen self.new.memory) ≡ length (D.seen self.old.memory) }
-        ensures accesses { self.new.accesses ≡ self.old.accesses }
+        ensures listed { self.new.accesses
+            ≡ self.old.accesses ++ clearing (length (D.seen self.old.memory)) }
+        ensures noted { D.noted self.new.memory
+            ≡ with_clearing D.shared (D.noted self.old.memory) (length (D.seen self.old.memory)) }
     {
         self.memory.erase();
+        self.trace = Step::Clears(&self.trace, self.size).trace();
     }
 }
 

@@ -13,6 +13,8 @@ mod by_hand;
 #[cfg(test)]
 mod compare;
 #[cfg(test)]
+mod guests;
+#[cfg(test)]
 mod kept;
 #[cfg(test)]
 mod mapped;

@@ -3,6 +3,7 @@ ghost use Rattle.std.specs.Prelude.{◌≡◌, ◌≤◌, ◌++◌, [], ◌∷�
 ghost use Rattle.std.proofs.lemmas.List.{length-replicate};
 ghost use Rattle.std.proofs.lemmas.Bool.{true≢false};
 ghost use Rattle.guest_memory.specs.Memory.{word_bytes, two_words};
+ghost use Rattle.live_memory.specs.Clearing.{clearing};
 ghost use Rattle.live_memory.specs.Trace.{Read, Wrote};
 
 use crate::compare::assert_equal;
@@ -45,6 +46,10 @@ impl Dma<Shared> for Restless {
         self.known.len() as u64
     }
 
+    fn notes(&self) -> Trace {
+        Step::Rests(&self.noted).trace()
+    }
+
     fn load(&mut self, addr: u64, out: &mut [u8]) {
         out.fill(self.next);
         self.next = self.next.wrapping_add(1);
@@ -62,15 +67,17 @@ impl Dma<Shared> for Restless {
     }
 
     fn erase(&mut self) {
+        let size = self.extent();
+        self.noted = Step::Clears(&self.noted, size).trace();
         self.known.fill(0);
-        self.noted = Step::Begin.trace();
     }
 }
 
-// One write of each kind: each is one access, also where its bytes stand in two parts. To clear the memory is none.
+// One write of each kind: each is one access, also where its bytes stand in two parts. To clear the memory is one.
 fn each_write<D: Dma<K>, K>(memory: &mut Traced<D, K>)
     requires { 64 ≤ length (D.seen memory.old.memory) }
-    ensures listed { memory.new.accesses ≡ (((memory.old.accesses
+    ensures listed { memory.new.accesses ≡ ((((memory.old.accesses
+        ++ clearing (length (D.seen memory.old.memory)))
         ++ Wrote 8 (word_bytes 5) ∷ []) ++ Wrote 16 (two_words 6 7) ∷ [])
         ++ Wrote 62 (8 ∷ 9 ∷ []) ∷ []) ++ Wrote 32 (1 ∷ 2 ∷ 3 ∷ []) ∷ [] }
     ensures size { length (D.seen memory.new.memory) ≡ length (D.seen memory.old.memory) }
@@ -100,7 +107,8 @@ fn each_read<D: Dma<K>, K>(memory: &mut Traced<D, K>) -> ([u8; 2], u64, (u64, u6
 // What one of each call gives, of whatever memory: no access is left out between the writes and the reads.
 fn each_call<D: Dma<K>, K>(memory: &mut Traced<D, K>) -> ([u8; 2], u64, (u64, u64))
     requires { 64 ≤ length (D.seen memory.old.memory) }
-    ensures listed { memory.new.accesses ≡ ((((((memory.old.accesses
+    ensures listed { memory.new.accesses ≡ (((((((memory.old.accesses
+        ++ clearing (length (D.seen memory.old.memory)))
         ++ Wrote 8 (word_bytes 5) ∷ []) ++ Wrote 16 (two_words 6 7) ∷ [])
         ++ Wrote 62 (8 ∷ 9 ∷ []) ∷ []) ++ Wrote 32 (1 ∷ 2 ∷ 3 ∷ []) ∷ [])
         ++ Read 62 result.0 ∷ []) ++ Read 8 (word_bytes result.1) ∷ [])

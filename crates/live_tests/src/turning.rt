@@ -40,6 +40,10 @@ impl Dma<Shared> for Turning {
         self.known.len() as u64
     }
 
+    fn notes(&self) -> Trace {
+        Step::Rests(&self.noted).trace()
+    }
+
     fn load(&mut self, addr: u64, out: &mut [u8]) {
         if out.len() <= 64 {
             out.copy_from_slice(&self.next[..out.len()]);
@@ -61,8 +65,9 @@ impl Dma<Shared> for Turning {
     }
 
     fn erase(&mut self) {
+        let size = self.extent();
+        self.noted = Step::Clears(&self.noted, size).trace();
         self.known.fill(0);
-        self.noted = Step::Begin.trace();
     }
 }
 

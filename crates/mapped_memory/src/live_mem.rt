@@ -2,8 +2,9 @@
 ghost use Rattle.std.specs.Prelude.{◌≡◌, ◌↔◌, ◌+◌, ◌≤◌, true, false, [], ◌∷◌, ◌++◌, length, replicate, map, Some, None, IfOk, IfErr, OnOk, MatchOption};
 ghost use Rattle.std.proofs.lemmas.Bool.{true≢false};
 ghost use Rattle.guest_memory.specs.Memory.{overwrite, is_memory_size};
+ghost use Rattle.live_memory.specs.Clearing.{clearing};
 ghost use Rattle.live_memory.specs.Trace.{Read, Wrote};
-ghost use Rattle.mapped_memory.specs.Regions.{bytes_at, written, cleared};
+ghost use Rattle.mapped_memory.specs.Regions.{bytes_at, is_space, written, cleared};
 ghost use Rattle.mapped_memory.specs.Whole.{bytes_whole};
 ghost use Rattle.mapped_memory.specs.Mapping.{AreMapped, refusal, with_part, bytes_from, parts_without};
 
@@ -19,24 +20,29 @@ use wire_frame::Fault;
 /// How many regions may be mapped.
 pub const MOST_REGIONS: usize = 64;
 
-/// A memory of 4096 to 16,777,216 bytes, a multiple of 128, of which up to 64 regions of bytes are mapped. It reads as zero where
-/// none is. No two regions have an address in common.
+/// The most bytes of a memory: 64 TiB.
+pub const MOST_SPACE: u64 = 1 << 46;
+
+/// A memory of which up to 64 regions of bytes are mapped. It reads as zero where none is, and drops what is written there. No two
+/// regions have an address in common. [`LiveMem::new`] makes one of 4096 to 16,777,216 bytes, a multiple of 128, as every memory of a
+/// script has; [`LiveMem::for_guest`] one of any size up to [`MOST_SPACE`], none too.
 ///
 /// In contracts it is its regions, in the order in which they were mapped, the bytes as a device knows them, zeros at first, and
-/// then what each access read or wrote, wherever it was; and those accesses, since it was made or erased. To map a region or to unmap it changes nothing of what a device knows.
+/// then what each access read or wrote, wherever it was; and all those accesses. To map a region or to unmap it changes nothing of what a
+/// device knows.
 ///
 /// An access looks at each region once, so it costs a few steps for each beside its bytes.
 #[derive(Drop)]
 pub struct LiveMem<'a> {
     size: u64,
     regions: Vec<Region<'a>>,
-    // those since it was made or cleared
+    // all since it was made
     accesses: Trace,
 }
 
 impl<'a> Model for LiveMem<'a> {
     ghost use Rattle.std.specs.Prelude.{◌≡◌, ◌≤◌, length, vec_capacity};
-    ghost use Rattle.mapped_memory.specs.Regions.{Regions};
+    ghost use Rattle.mapped_memory.specs.Regions.{MOST_SPACE, Regions};
     ghost use Rattle.mapped_memory.specs.Known.{known};
 
     ghost Value = { Regions };
@@ -49,7 +55,7 @@ impl<'a> Model for LiveMem<'a> {
       accesses = m.accesses.accesses;
     } };
 
-    ghost invariant = { λ m. (m.size ≡ length (known m.size m.accesses.accesses)) × (m.size ≤ 16777216)
+    ghost invariant = { λ m. (m.size ≡ length (known m.size m.accesses.accesses)) × (m.size ≤ MOST_SPACE)
         × (length m.regions.items ≤ 64) × (64 ≤ vec_capacity m.regions)
         × AreMapped m.size m.regions.items };
 }
@@ -57,7 +63,6 @@ impl<'a> Model for LiveMem<'a> {
 impl<'a> LiveMem<'a> {
     /// A memory of `size` bytes with no region, and room for 64. A size outside the limits is [`Fault::BadMake`]; [`Fault::NoMemory`]
     /// comes only where the host refused the room. No later call takes memory.
-    #[tactic(auto, unfolding(crate::specs::Mapping::AreMapped, crate::specs::Known::with_accesses))]
     pub fn new(alloc: Global, size: u64) -> Result<LiveMem<'a>, Fault>
         ensures ok { IfOk result (λ m. m ≡ record { parts = []; seen = replicate size 0; accesses = [] }) }
         ensures bad_make { (result ≡ Err Fault.BadMake) ↔ (is_memory_size size ≡ false) }
@@ -66,6 +71,29 @@ impl<'a> LiveMem<'a> {
         if !is_memory_size(size) {
             return Err(Fault::BadMake);
         }
+        LiveMem::over(alloc, size)
+    }
+
+    /// The same, of any size up to [`MOST_SPACE`]: the address space of a guest, or no bytes at all for a function without one. A larger
+    /// size is [`Fault::BadMake`].
+    pub fn for_guest(alloc: Global, size: u64) -> Result<LiveMem<'a>, Fault>
+        ensures ok { IfOk result (λ m. m ≡ record { parts = []; seen = replicate size 0; accesses = [] }) }
+        ensures bad_make { (result ≡ Err Fault.BadMake) ↔ (is_space size ≡ false) }
+        ensures no_memory { IfErr result (λ e. is_space size ≡ true → e ≡ Fault.NoMemory) }
+    {
+        if size > MOST_SPACE {
+            return Err(Fault::BadMake);
+        }
+        LiveMem::over(alloc, size)
+    }
+
+    // A memory of so many bytes.
+    #[tactic(auto, unfolding(crate::specs::Mapping::AreMapped, crate::specs::Known::with_accesses))]
+    fn over(alloc: Global, size: u64) -> Result<LiveMem<'a>, Fault>
+        requires { size ≤ 70368744177664 }
+        ensures ok { IfOk result (λ m. m ≡ record { parts = []; seen = replicate size 0; accesses = [] }) }
+        ensures no_memory { IfErr result (λ e. e ≡ Fault.NoMemory) }
+    {
         let regions = Vec::with_capacity(alloc, MOST_REGIONS)?;
         Ok(LiveMem {
             size,
@@ -160,6 +188,12 @@ impl Dma<Shared> for LiveMem<'_> {
         self.size
     }
 
+    fn notes(&self) -> Trace
+        ensures { result.accesses ≡ self.now.accesses }
+    {
+        Step::Rests(&self.accesses).trace()
+    }
+
     #[tactic(auto, using(crate::proofs::KnownLemmas::read_last))]
     fn load(&mut self, addr: u64, out: &mut [u8])
         requires { addr + length out.old ≤ length self.old.seen }
@@ -187,14 +221,14 @@ impl Dma<Shared> for LiveMem<'_> {
         note_written(&mut self.accesses, addr, source);
     }
 
-    #[tactic(auto, unfolding(crate::specs::Known::with_accesses))]
     fn erase(&mut self)
         ensures seen { self.new.seen ≡ replicate (length self.old.seen) 0 }
         ensures size { length self.new.seen ≡ length self.old.seen }
+        ensures noted { self.new.accesses ≡ self.old.accesses ++ clearing (length self.old.seen) }
         ensures parts { self.new.parts ≡ map cleared self.old.parts }
     {
         clear_all(&mut self.regions);
-        self.accesses = Step::Begin.trace();
+        note_cleared(&mut self.accesses, self.size);
     }
 }
 
@@ -212,4 +246,12 @@ fn note_written(trace: &mut Trace, addr: u64, bytes: &[u8])
     ensures { trace.new.accesses ≡ trace.old.accesses ++ Wrote addr bytes.now ∷ [] }
 {
     *trace = Step::Writes(trace, addr, bytes).trace();
+}
+
+// One access more: zero was written over so many bytes, which are all.
+#[inline]
+fn note_cleared(trace: &mut Trace, size: u64)
+    ensures { trace.new.accesses ≡ trace.old.accesses ++ clearing size }
+{
+    *trace = Step::Clears(trace, size).trace();
 }

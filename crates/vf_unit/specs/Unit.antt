@@ -1,6 +1,7 @@
 -- A virtual function, closed or open: what each call does to it and answers.
 use Rattle.std.specs.Prelude.{◌≡◌, ℕ, ◌+◌, ◌%◌, ◌^◌, Bool, true, false, nat_le, List, [], ◌∷◌, ◌++◌, length, replicate, slice_range, Option, Some, None, if◌then◌else◌}
 use Rattle.guest_memory.specs.Memory.{overwrite}
+use Rattle.live_memory.specs.Clearing.{clearing}
 use Rattle.live_memory.specs.Trace.{Access, Read, Wrote, since, ReadOnce}
 use Rattle.wire_frame.specs.declared.vlan.PortVlan.{PortVlan}
 use Rattle.tx_desc.specs.declared.outcome.Fetched.{Fetched}
@@ -49,6 +50,10 @@ pub record IsMet (shared : Bool) (f : Function) (before now : List Access) : Typ
 -- open, with every register initial and every byte of the memory zero, whatever it was
 abbrev pub opened : Function → Function
 opened f = Open (initial (replicate (size_of f) 0))
+
+-- the access that it makes
+abbrev pub opening_accesses : Function → List Access
+opening_accesses f = clearing (size_of f)
 
 abbrev pub ended : Function → Function
 ended f = Closed (size_of f)

@@ -2,6 +2,7 @@
 ghost use Rattle.std.specs.Prelude.{◌≡◌, ℕ, ◌+◌, ◌≤◌, ◌<◌, ◌^◌, ◌%◌, [], ◌∷◌, ◌++◌, length, slice_range, replicate, IfOk};
 ghost use Rattle.wire_frame.specs.Bits.{field};
 ghost use Rattle.guest_memory.specs.Memory.{overwrite};
+ghost use Rattle.live_memory.specs.Clearing.{clearing};
 ghost use Rattle.live_memory.specs.Trace.{Read, Wrote, IsTraced};
 ghost use Rattle.rings.specs.Ring.{ring_written};
 ghost use Rattle.tx_desc.specs.Lent.{fetched_in, lent_after};
@@ -21,6 +22,7 @@ use rings::RingRegister;
 use rx_desc::{Placed, RxConfig, place_in};
 use std::alloc::{AllocError, Global};
 use std::marker::Model;
+use std::mem::replace;
 use tx_desc::{Progress, Served, fetch_into};
 use wire_frame::{FrameBuf, FrameLimit, PortVlan, field, has_bit};
 
@@ -92,7 +94,7 @@ impl<D: Dma<K>, K> OpenVf<D, K> {
     /// A function over this memory, with every register initial.
     pub fn new(alloc: Global, memory: D) -> Result<OpenVf<D, K>, AllocError>
         ensures state { IfOk result (λ f. f.state ≡ initial (D.seen memory)) }
-        ensures none { IfOk result (λ f. f.accesses ≡ []) }
+        ensures noted { IfOk result (λ f. f.accesses ≡ D.noted memory) }
     {
         let transmit_0 = TransmitQueue::new(alloc)?;
         let transmit_1 = TransmitQueue::new(alloc)?;
@@ -131,10 +133,21 @@ impl<D: Dma<K>, K> OpenVf<D, K> {
     pub fn reopen(&mut self)
         ensures state { self.new.state ≡ initial (replicate (length self.old.state.memory) 0) }
         ensures size { length self.new.state.memory ≡ length self.old.state.memory }
-        ensures accesses { self.new.accesses ≡ self.old.accesses }
+        ensures listed { self.new.accesses
+            ≡ self.old.accesses ++ clearing (length self.old.state.memory) }
     {
         self.reset();
         self.memory.erase();
+    }
+
+    /// Takes another memory in place of its own, which it hands out, and makes every register initial. Neither memory is accessed.
+    pub fn exchange(&mut self, memory: D) -> D
+        ensures state { self.new.state ≡ initial (D.seen memory) }
+        ensures accesses { self.new.accesses ≡ D.noted memory }
+        ensures former { D.seen result ≡ self.old.state.memory }
+    {
+        OpenVf::reset(self);
+        replace(&mut self.memory, Traced::new(memory)).into_memory()
     }
 
     /// Reads the register at an offset.

@@ -2,7 +2,8 @@
 ghost use Rattle.std.specs.Prelude.{◌≡◌, ℕ, [], ◌++◌, length, Some, None, IfOk, if◌then◌else◌};
 ghost use Rattle.std.specs.Option.{option_map};
 ghost use Rattle.tx_desc.specs.Lent.{fetched_in};
-ghost use Rattle.vf_unit.specs.Unit.{Closed, IsMet, met_function, size_of, is_open, opened, ended, reset, read_of, after_read_of, written, given, serviced, service_outcome, lent_to, one_more_sent, has_range, bytes_at, memory_written, given_accesses, service_accesses, load_accesses, store_accesses};
+ghost use Rattle.vf_unit.specs.Guests.{over, IsFormer};
+ghost use Rattle.vf_unit.specs.Unit.{Closed, IsMet, met_function, size_of, is_open, opened, opening_accesses, ended, reset, read_of, after_read_of, written, given, serviced, service_outcome, lent_to, one_more_sent, has_range, bytes_at, memory_written, given_accesses, service_accesses, load_accesses, store_accesses};
 
 use crate::open::{OpenVf, Service};
 use crate::registers::Queue;
@@ -33,10 +34,11 @@ impl<D: Dma<K>, K> Model for VfUnit<D, K> {
 }
 
 impl<D: Dma<K>, K> VfUnit<D, K> {
-    /// A closed function over this memory, with the room that its frames are gathered in.
+    /// A closed function over this memory, with the room that its frames are gathered in. The memory isn't touched: the accesses are
+    /// those that it noted itself, none where it is new.
     pub fn new(alloc: Global, memory: D) -> Result<VfUnit<D, K>, AllocError>
         ensures { IfOk result
-            (λ u. u ≡ record { function = Closed (length (D.seen memory)); accesses = [] }) }
+            (λ u. u ≡ record { function = Closed (length (D.seen memory)); accesses = D.noted memory }) }
     {
         let inner = OpenVf::new(alloc, memory)?;
         Ok(VfUnit {
@@ -65,7 +67,7 @@ impl<D: Dma<K>, K> VfUnit<D, K> {
     pub fn open(&mut self)
         ensures function { self.new.function ≡ opened self.old.function }
         ensures size { size_of self.new.function ≡ size_of self.old.function }
-        ensures accesses { self.new.accesses ≡ self.old.accesses }
+        ensures listed { self.new.accesses ≡ self.old.accesses ++ opening_accesses self.old.function }
     {
         self.inner.reopen();
         self.is_open = true;
@@ -78,6 +80,18 @@ impl<D: Dma<K>, K> VfUnit<D, K> {
         ensures accesses { self.new.accesses ≡ self.old.accesses }
     {
         self.is_open = false;
+    }
+
+    /// Takes another memory in place of its own, which it hands out, and is open or closed then, with every register initial. Neither
+    /// memory is accessed.
+    pub fn exchange(&mut self, memory: D, is_open: bool) -> D
+        ensures function { self.new.function ≡ over (D.seen memory) is_open }
+        ensures accesses { self.new.accesses ≡ D.noted memory }
+        ensures former { IsFormer self.old.function (D.seen result) }
+        ensures size { length (D.seen result) ≡ size_of self.old.function }
+    {
+        self.is_open = is_open;
+        self.inner.exchange(memory)
     }
 
     /// Makes every register initial (SR-IOV 1.1, function-level reset). The memory stays.

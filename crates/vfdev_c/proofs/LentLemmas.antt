@@ -12,9 +12,9 @@ use Rattle.device.specs.Live.{TracedWorld, trace_of, AreListed, AreMet}
 use Rattle.device.specs.Outcome.{Outcome, HasCount, HoldsIn, bytes_told, reply_in}
 use Rattle.device.specs.World.{World, Stepped, step}
 use Rattle.device.proofs.LiveLemmas.{length_told, told_world_none, untouched, none_listed}
-use Rattle.device.proofs.Written.{still}
+use Rattle.device.proofs.Written.{write_reads_none, still}
 use Rattle.vfdev_c.specs.declared.lending.Span.{Span}
-use Rattle.vfdev_c.specs.Spans.{span, lent, one_more, block_of, blocks_of, IsBlock, AreBlocks}
+use Rattle.vfdev_c.specs.Spans.{span, lent, one_more, block_of, blocks_of, IsBlock, AreBlocks, no_access}
 use Rattle.vfdev_c.specs.Handle.{IsolatedStep, TakesLent, bytes_shown, is_mem_read, shown}
 use Rattle.vfdev_c.specs.LentWorld.{met_by, AreOnce, AreAllListed}
 use Rattle.vfdev_c.specs.declared.reply.VfdevReply.{VfdevReply}
@@ -31,6 +31,12 @@ pub sizes_of_blocks : (ms : List Regions) → AreBlocks ms → map (λ (m : Regi
 unfolding AreBlocks IsBlock
 sizes_of_blocks [] are = refl
 sizes_of_blocks (m ∷ ms) are = λ i. are.0.1 i ∷ sizes_of_blocks ms are.1 i
+
+-- and no access was made to them
+pub untouched_blocks : (ms : List Regions) → AreBlocks ms → map (λ (m : Regions). m.accesses) ms ≡ map no_access (blocks_of ms)
+unfolding AreBlocks IsBlock
+untouched_blocks [] are = refl
+untouched_blocks (m ∷ ms) are = λ i. are.0.2 i ∷ untouched_blocks ms are.1 i
 
 -- and there are as many
 pub as_many : (ms : List Regions) → length (blocks_of ms) ≡ length ms
@@ -94,7 +100,7 @@ pub takes_write : (old new : TracedWorld) (p at : ℕ) (bytes : List ℕ) (reply
     → reply ≡ shown (step old.world (MemWrite p at bytes)).answer.reply → raised ≡ (step old.world (MemWrite p at bytes)).answer.raised → AreOnce old new
     → AreListed (accesses_by old.world (MemWrite p at bytes)) old.accesses new.accesses → Isolates old.world → TakesLent old (MemWrite p at bytes) new reply raised
 takes_write old new p at bytes reply raised world replied raises once listed law =
-    takes_there old new (MemWrite p at bytes) reply raised (still old.accesses new.accesses old.world p at bytes listed) world replied raises once listed law
+    takes_there old new (MemWrite p at bytes) reply raised (still old.accesses new.accesses old.world (MemWrite p at bytes) (write_reads_none old.world p at bytes) listed) world replied raises once listed law
 
 -- but for a read, an event accesses the memories where its bytes are looked at elsewhere
 pub unread_by : (w : World) (e : Event) → is_mem_read e ≡ false → accesses_but_read w e ≡ accesses_by w e

@@ -1,5 +1,5 @@
 -- What a handle leads to, and what a call leaves of it and answers.
-use Rattle.std.specs.Prelude.{◌≡◌, ℕ, ◌<◌, Bool, true, false, ◌&&◌, nat_le, nat_lt, nat_eq, List, [], ◌∷◌, ◌++◌, drop, length, Option, Some, None, Result, Ok, Err, if◌then◌else◌}
+use Rattle.std.specs.Prelude.{◌≡◌, ℕ, ◌<◌, Bool, true, false, ◌&&◌, nat_le, nat_lt, nat_eq, List, [], ◌∷◌, ◌++◌, drop, length, map, Option, Some, None, Result, Ok, Err, if◌then◌else◌}
 use Rattle.wire_frame.specs.Fault.{number_of}
 use Rattle.wire_frame.specs.Frame.{is_frame}
 use Rattle.wire_frame.specs.declared.fault.Fault.{Fault}
@@ -12,7 +12,7 @@ use Rattle.device.specs.Events.{Event}
 use Rattle.device.specs.declared.event.Event.TheVariants.{VfWrite, MemRead, MemWrite, Serve, Wire}
 use Rattle.device.specs.Replies.{Reply}
 use Rattle.device.specs.declared.event.Reply.TheVariants.{Done, Value, Bytes, Idle, More, Sent, Dropped, Faulted, Refused}
-use Rattle.device.specs.World.{World, step, answers, world_after, is_frame_limit}
+use Rattle.device.specs.World.{World, fresh, step, answers, world_after, is_frame_limit}
 use Rattle.device.specs.Live.{TracedWorld}
 use Rattle.device.specs.Outcome.{left_by}
 use Rattle.device.specs.Lone.{keep, lone_of, lone_seen, lone_after, seen_by}
@@ -21,9 +21,9 @@ use Rattle.history.specs.Recording.{made_like}
 use Rattle.vfdev_c.specs.declared.reply.VfdevReply.{VfdevReply}
 use Rattle.vfdev_c.specs.declared.handle_state.HandleState.{HandleState}
 use Rattle.vfdev_c.specs.declared.handle_state.HandleState.TheVariants.{Lending, Made, Kept, Lent}
-use Rattle.vfdev_c.specs.LentWorld.{IsUntouched, met_by, taken_by, AreOnce, AreAllListed}
+use Rattle.vfdev_c.specs.LentWorld.{untouched, met_by, taken_by, AreOnce, AreAllListed}
 use Rattle.vfdev_c.specs.Recorded.{is_full, taking}
-use Rattle.vfdev_c.specs.Spans.{Lent as Blocks, none_lent, span, overlaps_one}
+use Rattle.vfdev_c.specs.Spans.{Lent as Blocks, none_lent, no_access, span, overlaps_one}
 
 -- what a handle leads to: nothing, blocks that were lent for a device, a device over memories of its own, one whose calls are kept,
 -- or a device over lent blocks
@@ -252,10 +252,9 @@ can_lend held bytes = is_memory_size (length bytes) && nat_lt (length (lent_in h
 abbrev pub is_lent_twice : Held → ℕ → List ℕ → Bool
 is_lent_twice held address bytes = overlaps_one (span address (length bytes)) (lent_in held).spans
 
--- a device over lent blocks is there as it is made: of that world, and no memory was accessed
-abbrev pub IsMadeOver : Held → World → Type 0
-IsMadeOver (Some (Lent device)) w = IsUntouched device w
-IsMadeOver held w = ⊥
+-- a device over blocks of these lengths is there as it is made, and no access was made to them
+abbrev pub made_over : ℕ → List (List ℕ) → Held
+made_over limit blocks = Some (Lent (untouched (fresh limit (map length blocks)) (map no_access blocks)))
 
 -- a device is there
 abbrev pub is_made : Held → Bool

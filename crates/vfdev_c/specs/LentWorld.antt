@@ -1,14 +1,14 @@
 -- A device over blocks that guests write while it works on them.
-use Rattle.std.specs.Prelude.{◌≡◌, ℕ, true, []}
+use Rattle.std.specs.Prelude.{List, true}
+use Rattle.live_memory.specs.Trace.{Access}
 use Rattle.device.specs.Accesses.{accesses_by}
 use Rattle.device.specs.Events.{Event}
-use Rattle.device.specs.Live.{TracedWorld, trace_of, told_world, AreListed, AreMet}
+use Rattle.device.specs.Live.{TracedWorld, told_world, AreListed, AreMet}
 use Rattle.device.specs.World.{World, step}
 
--- the device has that world, and no function's memory was accessed yet
-pub record IsUntouched (device : TracedWorld) (w : World) : Type 0 where
-  pub world : device.world ≡ w
-  pub accesses : (p : ℕ) → trace_of device.accesses p ≡ []
+-- the device has that world, and the accesses that its functions' memories noted up to now
+abbrev pub untouched : World → List (List Access) → TracedWorld
+untouched w noted = record { world = w; accesses = noted }
 
 -- what a call met: before it each guest wrote what the call read of its memory
 abbrev pub met_by : TracedWorld → TracedWorld → TracedWorld

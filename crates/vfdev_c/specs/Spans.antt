@@ -1,6 +1,7 @@
 -- The blocks that are lent for a device: where they lie, and the memories that they are.
 use Rattle.std.specs.Prelude.{◌≡◌, ℕ, ◌+◌, Bool, false, ◌&&◌, nat_lt, List, [], ◌∷◌, ◌++◌, length, map}
 use Rattle.std.specs.List.{list_any}
+use Rattle.live_memory.specs.Trace.{Access}
 use Rattle.mapped_memory.specs.Regions.{Part, Regions}
 use Rattle.vfdev_c.specs.declared.lending.Span.{Span}
 
@@ -42,9 +43,13 @@ block_of m = block_of_parts m.parts
 abbrev pub blocks_of : List Regions → List (List ℕ)
 blocks_of ms = map block_of ms
 
--- a memory is one block: it has all addresses, and a device's writes to it are kept
+-- no access was made yet to a block
+abbrev pub no_access : List ℕ → List Access
+no_access block = []
+
+-- a memory is one block: it has all addresses, a device's writes to it are kept, and no access was made to it
 unfoldable pub IsBlock : Regions → Type 0
-IsBlock m = (m.parts ≡ record { at = 0; bytes = block_of m; is_read_only = false } ∷ []) × (length m.seen ≡ length (block_of m))
+IsBlock m = (m.parts ≡ record { at = 0; bytes = block_of m; is_read_only = false } ∷ []) × (length m.seen ≡ length (block_of m)) × (m.accesses ≡ no_access (block_of m))
 
 -- each memory is one block
 unfoldable pub AreBlocks : List Regions → Type 0

@@ -1,7 +1,7 @@
 //! Memories that are lent for a device, before it is made.
 ghost use Rattle.std.specs.Prelude.{◌≡◌, ◌≤◌, ◌<◌, true, false, length, map, Err, IfOk, IfErr};
 ghost use Rattle.guest_memory.specs.Memory.{is_memory_size};
-ghost use Rattle.vfdev_c.specs.Spans.{IsBlock, AreBlocks, block_of, blocks_of, none_lent, one_more, overlap, overlaps_one};
+ghost use Rattle.vfdev_c.specs.Spans.{IsBlock, AreBlocks, block_of, blocks_of, no_access, none_lent, one_more, overlap, overlaps_one};
 
 use live_memory::Dma;
 use mapped_memory::LiveMem;
@@ -82,11 +82,12 @@ impl LentBlocks {
     }
 
     /// The memories, in the order in which their blocks were lent.
-    #[tactic(auto, using(crate::proofs::LentLemmas::sizes_of_blocks))]
+    #[tactic(auto, using(crate::proofs::LentLemmas::sizes_of_blocks, crate::proofs::LentLemmas::untouched_blocks))]
     pub fn into_memories(self) -> Vec<LiveMem<'static>>
         ensures blocks { blocks_of result.items ≡ self.blocks }
         ensures whole { AreBlocks result.items }
         ensures sizes { map (λ m. length m.seen) result.items ≡ map length self.blocks }
+        ensures untouched { map (λ m. m.accesses) result.items ≡ map no_access self.blocks }
     {
         self.memories
     }

@@ -1,7 +1,8 @@
 //! Devices over memories of the caller's.
 ghost use Rattle.std.specs.Prelude.{◌≡◌, ◌&&◌, true, false, nat_eq, map, length, Some, None, Err, IfOk, IfErr, if◌then◌else◌};
 ghost use Rattle.device.specs.World.{fresh, is_frame_limit, is_makeable};
-ghost use Rattle.vfdev_c.specs.Handle.{can_lend, is_lent_twice, is_made, lent_in, IsMadeOver};
+ghost use Rattle.vfdev_c.specs.Handle.{can_lend, is_lent_twice, is_made, lent_in, made_over};
+ghost use Rattle.vfdev_c.specs.LentWorld.{untouched};
 ghost use Rattle.vfdev_c.specs.Spans.{none_lent, one_more};
 
 use crate::block::Block;
@@ -122,8 +123,7 @@ fn lend_next(alloc: Global, blocks: &mut LentBlocks, cells: &'static mut [u8], a
 #[tactic(auto, using(crate::proofs::HandleLemmas::none_makeable))]
 pub extern "C" fn vfdev_make_lent(alloc: Global, handle: &mut Vfdev, limit: u16) -> u32
     ensures made { nat_eq result 0 ≡ true
-        → IsMadeOver handle.new.owner.held
-        (fresh limit (map length (lent_in handle.old.owner.held).blocks)) }
+        → handle.new.owner.held ≡ made_over limit (lent_in handle.old.owner.held).blocks }
     ensures taken { is_made handle.old.owner.held ≡ true → result ≡ 11 }
     ensures bad_make { is_made handle.old.owner.held ≡ false
         → (is_frame_limit limit && is_makeable (map length (lent_in handle.old.owner.held).blocks)) ≡ false
@@ -173,8 +173,9 @@ fn boxed_over(
     limit: u16,
 ) -> Result<Box<HandleState>, Fault>
     ensures ok { IfOk result
-        (λ b. IsMadeOver (Some b.value)
-        (fresh limit (map (λ m. length m.seen) memories.entry.items))) }
+        (λ b. b.value ≡ HandleState.Lent
+        (untouched (fresh limit (map (λ m. length m.seen) memories.entry.items))
+        (map (λ m. m.accesses) memories.entry.items))) }
     ensures bad_make { (is_frame_limit limit && is_makeable (map (λ m. length m.seen) memories.entry.items)) ≡ false
         → result ≡ Err Fault.BadMake }
     ensures no_memory { IfErr result

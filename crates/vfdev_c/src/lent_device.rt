@@ -8,7 +8,7 @@ ghost use Rattle.device.specs.Request.{event_of};
 ghost use Rattle.device.specs.Outcome.{left_by};
 ghost use Rattle.irq_causes.specs.Messages.{no_messages};
 ghost use Rattle.vfdev_c.specs.Handle.{bytes_shown, frame_in, is_mem_read, length_in, IsolatedStep, TakesLent};
-ghost use Rattle.vfdev_c.specs.LentWorld.{met_by, IsUntouched};
+ghost use Rattle.vfdev_c.specs.LentWorld.{met_by, untouched};
 
 use crate::handle_state::{done_or_refused, issued, lay, put_frame, value_or_refused};
 use crate::recorder::named;
@@ -47,7 +47,8 @@ impl LentDevice {
         limit: u16,
     ) -> Result<LentDevice, Fault>
         ensures ok { IfOk result
-            (λ d. IsUntouched d (fresh limit (map (λ m. length m.seen) memories.entry.items))) }
+            (λ d. d ≡ untouched (fresh limit (map (λ m. length m.seen) memories.entry.items))
+            (map (λ m. m.accesses) memories.entry.items)) }
         ensures bad_make { (is_frame_limit limit && is_makeable (map (λ m. length m.seen) memories.entry.items)) ≡ false
             → result ≡ Err Fault.BadMake }
         ensures no_memory { IfErr result

@@ -4,7 +4,8 @@
 //! A service reads the descriptor at the head, 16 bytes; the bytes that it names, but for those of the descriptor itself, which were
 //! read with it; and writes its second word back, where the driver asks for it. A frame that comes reads the first word of each
 //! descriptor that it needs; writes the pieces in order; and then writes the descriptors back in order. A piece whose tag was taken
-//! off is written in two parts, since it stands in two. An event that reads or writes memory is one access, and any other is none.
+//! off is written in two parts, since it stands in two. An event that reads or writes memory is one access, and so is one that opens a
+//! function, which writes zero at every byte; any other is none.
 use super::guests::SIZE;
 use super::log::Log;
 use super::pair::Wrong;
@@ -218,6 +219,7 @@ impl Due {
         self.before = None;
         self.is_unread = false;
         match request {
+            Request::Open(pool) => self.open(plain, pool),
             Request::MemRead(pool, at, count) => self.read(plain, pool, at, u64::from(count)),
             Request::MemWrite(pool, at, bytes) => self.write(plain, pool, at, bytes.bytes()),
             Request::Serve(pool, queue) => self.serve(plain, pool, queue),
@@ -226,6 +228,13 @@ impl Due {
         }
         if let Some(frame) = sent {
             self.arrive(plain, frame, true);
+        }
+    }
+
+    // The function's opening, where it is closed: zero at every byte.
+    fn open(&mut self, plain: &Device<FlatMem>, pool: u8) {
+        if pool == self.pool && !has_room(plain, pool, 0, 0) {
+            self.own.add(false, 0, &[0; SIZE]);
         }
     }
 

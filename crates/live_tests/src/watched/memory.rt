@@ -77,6 +77,10 @@ impl<G: Guest> Dma<Shared> for Watched<G> {
         self.known.len() as u64
     }
 
+    fn notes(&self) -> Trace {
+        Step::Rests(&self.noted).trace()
+    }
+
     fn load(&mut self, addr: u64, out: &mut [u8]) {
         let start = addr as usize;
         let end = start + out.len();
@@ -101,7 +105,8 @@ impl<G: Guest> Dma<Shared> for Watched<G> {
     fn erase(&mut self) {
         self.standing.as_mut_slice().fill(0);
         self.known.as_mut_slice().fill(0);
-        self.noted = Step::Begin.trace();
+        note(&self.log, false, 0, self.standing.as_slice());
+        self.noted = Step::Clears(&self.noted, self.known.len() as u64).trace();
         self.guest.see_zeros();
     }
 }

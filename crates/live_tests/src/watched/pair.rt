@@ -96,7 +96,7 @@ impl<G: Guest> Pair<G> {
         let outcome = taken.outcome;
         self.tally.add_response(request, &taken);
         self.look_at_accesses(request, outcome)?;
-        self.look_at_memories(request, outcome)?;
+        self.look_at_memories(request)?;
         Ok(outcome)
     }
 
@@ -111,12 +111,7 @@ impl<G: Guest> Pair<G> {
     }
 
     // Whether each memory is what the log makes of it, and the log is as it should be.
-    fn look_at_memories(&mut self, request: Request<'_>, outcome: Outcome) -> Result<(), Wrong> {
-        if let (Request::Open(pool), Outcome::Done) = (request, outcome) {
-            if let Some(known) = self.known.get_mut(usize::from(pool)) {
-                known.image.as_mut_slice().fill(0);
-            }
-        }
+    fn look_at_memories(&mut self, request: Request<'_>) -> Result<(), Wrong> {
         for known in self.known.iter_mut() {
             let log = known.log.try_borrow().map_err(|_| "the log is lent")?;
             if !log.is_whole() {

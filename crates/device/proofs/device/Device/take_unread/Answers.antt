@@ -1,10 +1,11 @@
 -- Most events touch no memory that others write.
 use Rattle.std.proofs.Common.{refl, sym, subst}
+use Rattle.device.specs.declared.event.Event.TheVariants.{Open, MemWrite}
 use Rattle.device.specs.Request.{Request, event_of}
 use Rattle.device.specs.Accesses.{accesses_but_read}
 use Rattle.device.specs.Live.{told_world, TakesLive, AreListed}
 use Rattle.device.proofs.LiveLemmas.{takes_untouched, none_listed}
-use Rattle.device.proofs.Written.{takes_written, written_listed}
+use Rattle.device.proofs.Written.{write_reads_none, opening_reads_none, takes_written, written_listed}
 use Rattle.device.proofs.device.Device.take_unread.Goals as goal
 
 pub returns-in-End : goal.returns-in-End
@@ -27,8 +28,10 @@ returns-in-MemRead g c = record {
 
 pub returns-in-Open : goal.returns-in-Open
 returns-in-Open g c = record {
-  takes = subst (λ (r : Request). TakesLive g.D.Dma.shared c.args.self.now.accesses c.take_open.new.self.accesses c.args.self.now.world (event_of r) c.take_open.new.self.world c.take_open.result) (sym c.in-Open.is) (takes_untouched g.D.Dma.shared c.args.self.now.accesses c.take_open.new.self.accesses c.args.self.now.world _ c.take_open.new.self.world c.take_open.result c.take_open.ensures.accesses c.take_open.ensures.takes);
-  listed = subst (λ (r : Request). AreListed (accesses_but_read (told_world c.args.self.now.accesses c.take_open.new.self.accesses c.args.self.now.world) (event_of r)) c.args.self.now.accesses c.take_open.new.self.accesses) (sym c.in-Open.is) (none_listed c.args.self.now.accesses c.take_open.new.self.accesses _ c.take_open.ensures.accesses (λ p. refl));
+  takes = subst (λ (r : Request). TakesLive g.D.Dma.shared c.args.self.now.accesses c.take_open.new.self.accesses c.args.self.now.world (event_of r) c.take_open.new.self.world c.take_open.result) (sym c.in-Open.is)
+      (takes_written g.D.Dma.shared c.args.self.now.accesses c.take_open.new.self.accesses c.args.self.now.world (Open _) c.take_open.new.self.world c.take_open.result (opening_reads_none c.args.self.now.world _) c.take_open.ensures.takes c.take_open.ensures.listed c.take_open.ensures.met);
+  listed = subst (λ (r : Request). AreListed (accesses_but_read (told_world c.args.self.now.accesses c.take_open.new.self.accesses c.args.self.now.world) (event_of r)) c.args.self.now.accesses c.take_open.new.self.accesses) (sym c.in-Open.is)
+      (written_listed c.args.self.now.accesses c.take_open.new.self.accesses c.args.self.now.world (Open _) (opening_reads_none c.args.self.now.world _) c.take_open.ensures.listed);
 }
 
 pub returns-in-PfRead : goal.returns-in-PfRead
@@ -64,7 +67,7 @@ returns-in-VfWrite g c = record {
 pub returns-in-MemWrite : goal.returns-in-MemWrite
 returns-in-MemWrite g c = record {
   takes = subst (λ (r : Request). TakesLive g.D.Dma.shared c.args.self.now.accesses c.take_mem_write.new.self.accesses c.args.self.now.world (event_of r) c.take_mem_write.new.self.world c.take_mem_write.result) (sym c.in-MemWrite.is)
-      (takes_written g.D.Dma.shared c.args.self.now.accesses c.take_mem_write.new.self.accesses c.args.self.now.world _ _ _ c.take_mem_write.new.self.world c.take_mem_write.result c.take_mem_write.ensures.takes c.take_mem_write.ensures.listed c.take_mem_write.ensures.met);
+      (takes_written g.D.Dma.shared c.args.self.now.accesses c.take_mem_write.new.self.accesses c.args.self.now.world (MemWrite _ _ _) c.take_mem_write.new.self.world c.take_mem_write.result (write_reads_none c.args.self.now.world _ _ _) c.take_mem_write.ensures.takes c.take_mem_write.ensures.listed c.take_mem_write.ensures.met);
   listed = subst (λ (r : Request). AreListed (accesses_but_read (told_world c.args.self.now.accesses c.take_mem_write.new.self.accesses c.args.self.now.world) (event_of r)) c.args.self.now.accesses c.take_mem_write.new.self.accesses) (sym c.in-MemWrite.is)
-      (written_listed c.args.self.now.accesses c.take_mem_write.new.self.accesses c.args.self.now.world _ _ _ c.take_mem_write.ensures.listed);
+      (written_listed c.args.self.now.accesses c.take_mem_write.new.self.accesses c.args.self.now.world (MemWrite _ _ _) (write_reads_none c.args.self.now.world _ _ _) c.take_mem_write.ensures.listed);
 }

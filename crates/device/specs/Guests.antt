@@ -1,0 +1,43 @@
+-- Guests that come to a device and go.
+use Rattle.std.specs.Prelude.{ℕ, Bool, not, ◌&&◌, ◌||◌, ◌==◌, nat_le, List, length, Option, Some, None, if◌then◌else◌}
+use Rattle.std.specs.List.{list_all}
+use Rattle.wire_frame.specs.declared.fault.Fault.{Fault}
+use Rattle.wire_frame.specs.declared.fault.Fault.TheVariants.{NoSuchVf, AlreadyOpen, BadMake}
+use Rattle.vf_unit.specs.Function.{initial}
+use Rattle.vf_unit.specs.Unit.{Closed, Open, size_of}
+use Rattle.device.specs.World.{World, function_of, with_function}
+
+-- the most bytes of a guest's memory: 64 TiB, which is 2^46
+abbrev pub MOST_MEMORY : ℕ
+MOST_MEMORY = 70368744177664
+
+-- a guest's memory may have so many bytes
+abbrev pub is_guest_size : ℕ → Bool
+is_guest_size n = nat_le 1 n && nat_le n MOST_MEMORY
+
+-- a function may be over so many: a guest's, or none while it is vacant
+abbrev pub is_in_space : ℕ → Bool
+is_in_space n = nat_le n MOST_MEMORY
+
+-- a device for guests can be made of memories of these sizes
+unfoldable pub is_for_guests : List ℕ → Bool
+is_for_guests sizes = nat_le 1 (length sizes) && (nat_le (length sizes) 64 && list_all is_in_space sizes)
+
+-- there is no such function, or it is over no bytes
+abbrev pub is_vacant : World → ℕ → Bool
+is_vacant w p = nat_le (length w.functions) p || size_of (function_of p w) == 0
+
+-- why a guest with so many bytes can't come to a function: the first line that fits
+abbrev pub attach_refusal : World → ℕ → ℕ → Option Fault
+attach_refusal w p n = if nat_le (length w.functions) p then Some NoSuchVf
+    else (if not (size_of (function_of p w) == 0) then Some AlreadyOpen
+    else (if not (is_guest_size n) then Some BadMake
+    else None))
+
+-- a guest came, with its memory: its function is open, with every register initial
+abbrev pub attached : World → ℕ → List ℕ → World
+attached w p memory = with_function w p (Open (initial memory))
+
+-- a guest went: its function is closed, over no bytes
+abbrev pub detached : World → ℕ → World
+detached w p = if is_vacant w p then w else with_function w p (Closed 0)

@@ -6,6 +6,7 @@ ghost use Rattle.device.specs.World.{World, step, sent_by, world_after, answers}
 ghost use Rattle.device.specs.Outcome.{left_by, bytes_asked, bytes_told};
 ghost use Rattle.history.specs.Entries.{Entry, events, given};
 ghost use Rattle.device_lock.specs.Answers.{MayAnswer};
+ghost use Rattle.device_lock.specs.Rest.{IsAtRest};
 ghost use Rattle.recorder.specs.Callers.{may};
 ghost use Rattle.recorder.specs.Held.{having_asked, count_of};
 ghost use Rattle.recorder.specs.Read.{answer_with};
@@ -31,7 +32,7 @@ pub struct LockedDevice<M: GuestMem, L: Ledger> {
 }
 
 impl<M: GuestMem, L: Ledger> LockedDevice<M, L> {
-    /// A recorded device behind a lock. [`Fault::NoMemory`] comes only where the host refused the room.
+    /// A recorded device behind a lock, with the calls that it has. [`Fault::NoMemory`] comes only where the host refused the room.
     pub fn new(alloc: Global, recorded: Recorded<M, L>) -> Result<Arc<LockedDevice<M, L>>, Fault>
         ensures no_memory { IfErr result (λ e. e ≡ Fault.NoMemory) }
     {
@@ -42,11 +43,15 @@ impl<M: GuestMem, L: Ledger> LockedDevice<M, L> {
     }
 
     /// Takes the recorded device out of the lock again, for its last owner; None where somebody else has it too, for whom it stays.
-    /// Of what comes out the contracts of [`Recorded`] say exactly what is kept, how many calls are each caller's, and whether another
-    /// device gives the kept answers.
-    pub fn into_recorded(this: Arc<LockedDevice<M, L>>) -> Option<Recorded<M, L>> {
+    ///
+    /// What comes out is the one that went in: a ledger has one recorded device. It has had the calls of its shares and no others,
+    /// which [`Recorded::gather`] says of all of them. What it was like when it went in no contract can tell of it, since the lock's
+    /// content has no name while threads share it. [`Recorded::begins_as`] asks that: whether it began at a device like another.
+    pub fn into_recorded(this: Arc<LockedDevice<M, L>>) -> Option<Recorded<M, L>>
+        ensures rest { IfSome result IsAtRest }
+    {
         match Arc::try_unwrap(this) {
-            Ok(locked) => Some(locked.inner.into_inner()),
+            Ok(locked) => Some(at_rest(locked.inner.into_inner())),
             Err(_) => None,
         }
     }
@@ -140,4 +145,13 @@ impl<M: GuestMem, L: Ledger> LockedDevice<M, L> {
     {
         self.enter(rt).replays(device)
     }
+}
+
+// A recorded device, of which nobody is inside a call.
+fn at_rest<M: GuestMem, L: Ledger>(recorded: Recorded<M, L>) -> Recorded<M, L>
+    ensures same { result ≡ recorded }
+    ensures rest { IsAtRest result }
+{
+    recorded.agrees();
+    recorded
 }

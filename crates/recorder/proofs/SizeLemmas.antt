@@ -4,7 +4,7 @@ use Rattle.std.proofs.Math.ListN.{get_or-map}
 use Rattle.std.proofs.lemmas.List.{length-map}
 use Rattle.std.proofs.lemmas.Grind.{same_number_lists}
 use Rattle.vf_unit.specs.Unit.{Function, Closed, size_of}
-use Rattle.device.specs.World.{World, fresh}
+use Rattle.device.specs.World.{World, fresh, sizes_of}
 use Rattle.history.proofs.ReplayLemmas.{fresh_again}
 use Rattle.recorder.specs.Made.{IsFresh, SameMake}
 
@@ -20,3 +20,7 @@ one_same fs gs k is = sym (get_or-map size_of fs k (Closed 0)) ∙ ap (λ (xs : 
 -- two of one make are equal
 pub one_make : (live twin : World) → IsFresh live → IsFresh twin → SameMake live twin → twin ≡ live
 one_make live twin one other same = fresh_again twin _ _ other.2 ∙ (λ i. fresh (sym same.0 i) (sym same.1 i)) ∙ sym (fresh_again live _ _ one.2)
+
+-- a base that is made like its live device is any other as it is made, of the live one's make
+pub one_base : (base live other : World) → base ≡ fresh live.limit (sizes_of live) → SameMake live other → IsFresh other → base ≡ other
+one_base base live other made same one = made ∙ (λ i. fresh (same.0 i) (same.1 i)) ∙ sym (fresh_again other _ _ one.2)

@@ -1,5 +1,5 @@
 -- A recorded device as it is made, with the shares of its callers.
-use Rattle.std.specs.Prelude.{◌≡◌, ℕ, ◌<◌, Bool, [], replicate, Some, slice_get, List, ◌∷◌}
+use Rattle.std.specs.Prelude.{◌≡◌, ℕ, ◌<◌, Bool, [], length, replicate, Some, slice_get, List, ◌∷◌}
 use Rattle.device.specs.World.{World, fresh, sizes_of}
 use Rattle.irq_line.specs.Line.{DeviceEnd}
 use Rattle.history.specs.declared.caller.Caller.TheVariants.{Port, Driver, Pump, Service}
@@ -31,6 +31,7 @@ pub record AreUnused {L : Type 0} (shares : Shares L) : Type 0 where
   pub pf : shares.pf ≡ unused Driver
   pub pump : shares.pump ≡ unused Pump
   pub service : shares.service ≡ unused Service
+  pub many : length shares.ports.items ≡ 64
   pub ports : (p : ℕ) → p < 64 → slice_get shares.ports.items p ≡ Some (Some (unused (Port p)))
 
 -- the shares that were not handed out

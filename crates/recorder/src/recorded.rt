@@ -271,6 +271,18 @@ impl<M: GuestMem, L: Ledger> Recorded<M, L> {
         self.journal.recording().history().gives_all(device)
     }
 
+    /// Whether no calls were folded away, and the device is of another's make. Where the other is a device as it is made, the kept
+    /// calls begin at just that one then.
+    pub fn begins_as(&self, other: &Device<M>) -> bool
+        ensures same { IsTrue result
+            ↔ ((folded self.now ≡ 0) × SameMake self.now.live other.now.world) }
+        ensures base { IsTrue result → IsFresh other.now.world
+            → self.now.base ≡ other.now.world }
+    {
+        self.journal.agrees();
+        self.journal.folded() == 0 && is_same_make(self.journal.recording().device(), other)
+    }
+
     /// How many calls are kept.
     #[inline]
     pub fn kept(&self) -> usize

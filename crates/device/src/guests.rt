@@ -8,10 +8,11 @@ ghost use Rattle.std.specs.Prelude.{◌≡◌, ◌<◌, ◌≤◌, ◌&&◌, tru
 ghost use Rattle.vf_unit.specs.Guests.{over, IsFormer};
 ghost use Rattle.vf_unit.specs.Unit.{size_of};
 ghost use Rattle.device.specs.World.{fresh, is_frame_limit, function_of, with_function};
+ghost use Rattle.device.specs.Live.{trace_of};
 ghost use Rattle.device.specs.Guests.{is_for_guests, is_vacant, attach_refusal, attached, detached};
 
 use crate::device::Device;
-use live_memory::Dma;
+use live_memory::{Dma, Traced};
 use std::alloc::Global;
 use wire_frame::{Fault, FrameLimit, PoolId};
 
@@ -91,18 +92,20 @@ impl<D: Dma<K>, K> Device<D, K> {
                 memory,
             });
         }
-        Ok(self.exchange(index, memory, true))
+        Ok(self.exchange(index, memory, true).into_memory())
     }
 
     /// A guest goes: its function is closed and vacant then, over `vacancy`, a memory of no bytes, and the guest's memory is handed out
-    /// as it stands. `vacancy` comes back, and nothing changes, where there is no such function or it is vacant.
-    pub fn detach(&mut self, pool: u8, vacancy: D) -> Result<D, D>
+    /// as it stands, with the list of what was read and written there ([`Traced::into_memory`] gives the memory by itself). No byte
+    /// is read or written. `vacancy` comes back, and nothing changes, where there is no such function or it is vacant.
+    pub fn detach(&mut self, pool: u8, vacancy: D) -> Result<Traced<D, K>, D>
         requires { length (D.seen vacancy) ≡ 0 }
         ensures world { self.new.world ≡ detached self.old.world pool }
         ensures untouched { OnOk result
             (self.new.accesses ≡ set self.old.accesses pool (D.noted vacancy)) }
         ensures former { IfOk result
-            (λ memory. IsFormer (function_of pool self.old.world) (D.seen memory)) }
+            (λ kept. IsFormer (function_of pool self.old.world) (D.seen kept.memory)) }
+        ensures listed { IfOk result (λ kept. kept.accesses ≡ trace_of self.old.accesses pool) }
         ensures there { OnOk result (is_vacant self.old.world pool ≡ false) }
         ensures vacant { OnErr result (is_vacant self.old.world pool ≡ true) }
         ensures given_back { IfErr result (λ back. back ≡ vacancy) }
@@ -115,13 +118,14 @@ impl<D: Dma<K>, K> Device<D, K> {
         Ok(self.exchange(index, vacancy, false))
     }
 
-    // Gives a function that is there another memory, and hands out its own.
-    fn exchange(&mut self, index: usize, memory: D, is_open: bool) -> D
+    // Gives a function that is there another memory, and hands out its own with its list.
+    fn exchange(&mut self, index: usize, memory: D, is_open: bool) -> Traced<D, K>
         requires { index < length self.old.world.functions }
         ensures world { self.new.world ≡ with_function self.old.world index (over (D.seen memory) is_open) }
         ensures accesses { self.new.accesses ≡ set self.old.accesses index (D.noted memory) }
-        ensures former { IsFormer (function_of index self.old.world) (D.seen result) }
-        ensures size { length (D.seen result) ≡ size_of (function_of index self.old.world) }
+        ensures former { IsFormer (function_of index self.old.world) (D.seen result.memory) }
+        ensures size { length (D.seen result.memory) ≡ size_of (function_of index self.old.world) }
+        ensures listed { result.accesses ≡ trace_of self.old.accesses index }
     {
         self.units[index].exchange(memory, is_open)
     }

@@ -121,7 +121,10 @@ fn leave<'a>(
     pool: u8,
 ) -> Result<Option<LiveMem<'a>>, Fail> {
     let vacancy = LiveMem::for_guest(alloc, 0)?;
-    Ok(device.detach(pool, vacancy).ok())
+    match device.detach(pool, vacancy) {
+        Ok(kept) => Ok(Some(kept.into_memory())),
+        Err(_) => Ok(None),
+    }
 }
 
 // The first guest sets registers, turns a queue on with a descriptor to take, and leaves a cause behind. The next guest finds

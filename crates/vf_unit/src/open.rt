@@ -140,14 +140,16 @@ impl<D: Dma<K>, K> OpenVf<D, K> {
         self.memory.erase();
     }
 
-    /// Takes another memory in place of its own, which it hands out, and makes every register initial. Neither memory is accessed.
-    pub fn exchange(&mut self, memory: D) -> D
+    /// Takes another memory in place of its own, which it hands out with its list, and makes every register initial. Neither memory
+    /// is accessed.
+    pub fn exchange(&mut self, memory: D) -> Traced<D, K>
         ensures state { self.new.state ≡ initial (D.seen memory) }
         ensures accesses { self.new.accesses ≡ D.noted memory }
-        ensures former { D.seen result ≡ self.old.state.memory }
+        ensures former { D.seen result.memory ≡ self.old.state.memory }
+        ensures listed { result.accesses ≡ self.old.accesses }
     {
         OpenVf::reset(self);
-        replace(&mut self.memory, Traced::new(memory)).into_memory()
+        replace(&mut self.memory, Traced::new(memory))
     }
 
     /// Reads the register at an offset.

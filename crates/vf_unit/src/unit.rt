@@ -9,7 +9,7 @@ use crate::open::{OpenVf, Service};
 use crate::registers::Queue;
 use guest_memory::GuestMem;
 use irq_causes::Vectors;
-use live_memory::{Alone, Dma};
+use live_memory::{Alone, Dma, Traced};
 use std::alloc::{AllocError, Global};
 use std::marker::Model;
 use wire_frame::{FrameBuf, FrameLimit, PortVlan};
@@ -82,13 +82,14 @@ impl<D: Dma<K>, K> VfUnit<D, K> {
         self.is_open = false;
     }
 
-    /// Takes another memory in place of its own, which it hands out, and is open or closed then, with every register initial. Neither
-    /// memory is accessed.
-    pub fn exchange(&mut self, memory: D, is_open: bool) -> D
+    /// Takes another memory in place of its own, which it hands out with its list, and is open or closed then, with every register
+    /// initial. Neither memory is accessed.
+    pub fn exchange(&mut self, memory: D, is_open: bool) -> Traced<D, K>
         ensures function { self.new.function ≡ over (D.seen memory) is_open }
         ensures accesses { self.new.accesses ≡ D.noted memory }
-        ensures former { IsFormer self.old.function (D.seen result) }
-        ensures size { length (D.seen result) ≡ size_of self.old.function }
+        ensures former { IsFormer self.old.function (D.seen result.memory) }
+        ensures size { length (D.seen result.memory) ≡ size_of self.old.function }
+        ensures listed { result.accesses ≡ self.old.accesses }
     {
         self.is_open = is_open;
         self.inner.exchange(memory)

@@ -99,6 +99,47 @@ fn unmapped_bytes_are_the_lenders_again(rt: HostRuntime) -> Result<(), Fail> {
     Ok(())
 }
 
+// The regions come in no order, each third goes again, and each is found by its addresses, whichever was accessed before. Behind each
+// is a hole.
+#[test]
+fn each_region_is_found_whatever_came_before(rt: HostRuntime) -> Result<(), Fail> {
+    let mut cells = [0u8; 8 * MOST_REGIONS];
+    let mut memory = LiveMem::new(rt.alloc(), 4096)?;
+    let mut place = 0;
+    for region in cells.chunks_mut(8) {
+        // 37 is odd, so each of 64 places comes once
+        place = (place + 37) % MOST_REGIONS;
+        memory.map(16 * place as u64, region, false)?;
+    }
+    let mut due = [[0u8; 8]; MOST_REGIONS];
+    for turn in 0..MOST_REGIONS {
+        let place = (turn * 29) % MOST_REGIONS;
+        due[place] = [turn as u8 + 1; 8];
+        let at = 16 * place as u64;
+        let got = write_and_read(&mut memory, at, due[place], at);
+        assert_equal(&rt, got, Some(due[place]));
+    }
+    for place in 0..MOST_REGIONS {
+        if place % 3 == 0 {
+            let gone = memory.unmap(16 * place as u64).is_some();
+            assert_equal(&rt, gone, true);
+            due[place] = [0; 8];
+        }
+    }
+    for turn in 0..MOST_REGIONS {
+        let place = (turn * 11) % MOST_REGIONS;
+        // what is written to the hole behind it is dropped
+        let got = write_and_read(
+            &mut memory,
+            16 * place as u64 + 8,
+            [0xEE; 8],
+            16 * place as u64,
+        );
+        assert_equal(&rt, got, Some(due[place]));
+    }
+    Ok(())
+}
+
 // Why bytes were not mapped at an address, where they were mapped at the next one after that.
 fn map_at_either<'a>(
     memory: &mut LiveMem<'a>,

@@ -10,7 +10,7 @@ ghost use Rattle.mapped_memory.specs.Mapping.{AreMapped, refusal, with_part, byt
 
 use crate::map_error::{MapError, Refused};
 use crate::region::Region;
-use crate::scans::{clear_all, is_any_met, place_of, read_all, write_all};
+use crate::scans::{clear_all, home_of, is_any_met, place_behind, place_of, read_all, write_all};
 use guest_memory::is_memory_size;
 use live_memory::{Dma, Shared, Step, Trace};
 use std::alloc::Global;
@@ -27,15 +27,18 @@ pub const MOST_SPACE: u64 = 1 << 46;
 /// regions have an address in common. [`LiveMem::new`] makes one of 4096 to 16,777,216 bytes, a multiple of 128, as every memory of a
 /// script has; [`LiveMem::for_guest`] one of any size up to [`MOST_SPACE`], none too.
 ///
-/// In contracts it is its regions, in the order in which they were mapped, the bytes as a device knows them, zeros at first, and
-/// then what each access read or wrote, wherever it was; and all those accesses. To map a region or to unmap it changes nothing of what a
-/// device knows.
+/// In contracts it is its regions, in the order of their addresses, the bytes as a device knows them, zeros at first, and then what each
+/// access read or wrote, wherever it was; and all those accesses. To map a region or to unmap it changes nothing of what a device knows.
 ///
-/// An access looks at each region once, so it costs a few steps for each beside its bytes.
+/// An access whose bytes lie in one region costs a few steps beside its bytes, however many regions there are: that of the access
+/// before is looked at first. One whose bytes lie in several regions, or in none, looks at each region once.
 #[derive(Drop)]
 pub struct LiveMem<'a> {
     size: u64,
+    // in the order of their addresses
     regions: Vec<Region<'a>>,
+    // the place of the region of the last access
+    last: usize,
     // all since it was made
     accesses: Trace,
 }
@@ -98,6 +101,7 @@ impl<'a> LiveMem<'a> {
         Ok(LiveMem {
             size,
             regions,
+            last: 0,
             accesses: Step::Begin.trace(),
         })
     }
@@ -149,9 +153,12 @@ impl<'a> LiveMem<'a> {
         if let Err(why) = self.can_map(at, cells.len()) {
             return Err(Refused { why, cells });
         }
-        self.regions
-            .push_reserved(Region::new(at as usize, cells, is_read_only));
-        Ok(())
+        let place = place_behind(&self.regions, at as usize);
+        let region = Region::new(at as usize, cells, is_read_only);
+        match self.regions.insert(place, region) {
+            Ok(()) => Ok(()),
+            Err(_) => unreachable!(),
+        }
     }
 
     /// Unmaps the region that begins at address `at`, and gives its bytes back, with what was written to them. `None`, and nothing
@@ -166,6 +173,38 @@ impl<'a> LiveMem<'a> {
             return None;
         };
         Some(self.regions.remove(place).into_cells())
+    }
+
+    // Copies the bytes from `addr` on into `out`: those of one region, where one has them all.
+    #[inline]
+    fn read_parts(&mut self, addr: usize, out: &mut [u8])
+        requires { addr + length out.old ≤ length self.old.seen }
+        ensures out { out.new ≡ bytes_at self.old.parts addr (length out.old) }
+        ensures memory { self.new ≡ self.old }
+    {
+        match home_of(&self.regions, self.last, addr, out.len()) {
+            Some(place) => {
+                self.last = place;
+                self.regions[place].read(addr, out);
+            }
+            None => read_all(&self.regions, addr, out),
+        }
+    }
+
+    // Writes `source` from `addr` on: into one region, where it has all of these addresses.
+    #[inline]
+    fn write_parts(&mut self, addr: usize, source: &[u8])
+        requires { addr + length source.now ≤ length self.old.seen }
+        ensures { self.new
+            ≡ record self.old { parts = map (written addr source.now) self.old.parts } }
+    {
+        match home_of(&self.regions, self.last, addr, source.len()) {
+            Some(place) => {
+                self.last = place;
+                self.regions[place].write(addr, source);
+            }
+            None => write_all(&mut self.regions, addr, source),
+        }
     }
 }
 
@@ -205,7 +244,7 @@ impl Dma<Shared> for LiveMem<'_> {
             ≡ self.old.accesses ++ Read addr (bytes_at self.old.parts addr (length out.old)) ∷ [] }
         ensures parts { self.new.parts ≡ self.old.parts }
     {
-        read_all(&self.regions, addr as usize, out);
+        self.read_parts(addr as usize, out);
         note_read(&mut self.accesses, addr, out);
     }
 
@@ -217,7 +256,7 @@ impl Dma<Shared> for LiveMem<'_> {
         ensures noted { self.new.accesses ≡ self.old.accesses ++ Wrote addr source.now ∷ [] }
         ensures parts { self.new.parts ≡ map (written addr source.now) self.old.parts }
     {
-        write_all(&mut self.regions, addr as usize, source);
+        self.write_parts(addr as usize, source);
         note_written(&mut self.accesses, addr, source);
     }
 

@@ -7,10 +7,11 @@ use Rattle.std.specs.Option.{option_map}
 use Rattle.wire_frame.specs.declared.fault.Fault.{Fault}
 use Rattle.vf_unit.specs.Unit.{Function, Closed, Open, size_of}
 use Rattle.vf_unit.specs.Function.{initial}
+use Rattle.vf_unit.specs.Guests.{moved_to}
 use Rattle.pool_filter.specs.Own.{own}
 use Rattle.device.specs.Events.{Event}
 use Rattle.device.specs.World.{World, function_of, with_function, step, world_after}
-use Rattle.device.specs.Guests.{is_vacant, attach_refusal, detached}
+use Rattle.device.specs.Guests.{is_vacant, attach_refusal, detached, replace_refusal}
 use Rattle.live_memory.specs.Trace.{Access}
 use Rattle.device.specs.Accesses.{accesses_by}
 use Rattle.device.specs.Lone.{Item, Observation, Lone, lone_of, kept, keep, seen_of}
@@ -18,7 +19,7 @@ use Rattle.device.specs.LoneAccesses.{made_by, lone_made}
 use Rattle.device.proofs.AccessSteps.{accesses_follow}
 use Rattle.device.proofs.Steps.{Follows, step_follows}
 use Rattle.device.proofs.Shape.{step_shape}
-use Rattle.device.specs.Across.{Step, Happens, Comes, Goes, came, stepped, after_steps, Sight, Saw, Came, Went, sight_in, sights, accesses_in, all_accesses, GuestItem, Kept, Attach, Detach, kept_in, keep_steps, lone_refusal, came_alone, moved_on, shown_on, made_on, lone_end, lone_sights, lone_accesses}
+use Rattle.device.specs.Across.{Step, Happens, Comes, Goes, Replaces, came, replaced, stepped, after_steps, Sight, Saw, Came, Went, Got, sight_in, sights, accesses_in, all_accesses, GuestItem, Kept, Attach, Detach, Replace, kept_in, keep_steps, lone_refusal, came_alone, replace_refusal_alone, replaced_alone, moved_on, shown_on, made_on, lone_end, lone_sights, lone_accesses}
 
 -- ---- as many functions after a step
 
@@ -30,10 +31,15 @@ went_count : (w : World) (q : ℕ) (vacant : Bool) → is_vacant w q ≡ vacant 
 went_count w q true is = rw is refl
 went_count w q false is = rw is (length-set w.functions q (Closed 0))
 
+replaced_count : (w : World) (q : ℕ) (memory : List ℕ) (r : Option Fault) → length (replaced w q memory r).functions ≡ length w.functions
+replaced_count w q memory None = length-set w.functions q (moved_to (function_of q w) memory)
+replaced_count w q memory (Some fault) = refl
+
 same_count : (w : World) (t : Step) → length (stepped w t).functions ≡ length w.functions
 same_count w (Happens e) = (step_shape w e).functions
 same_count w (Comes q memory) = came_count w q memory (attach_refusal w q (length memory))
 same_count w (Goes q) = went_count w q _ refl
+same_count w (Replaces q memory) = replaced_count w q memory (replace_refusal w q (length memory))
 
 -- ---- one step
 
@@ -94,10 +100,31 @@ goes_on p w q true below is =
     subst (λ r. FollowsOn (lone_of p w) (Some (Went (function_of r w))) (lone_of p (detached w r)) (Some Detach)) (sym (eqb-true q p is)) (goes_mine p w _ below refl)
 goes_on p w q false below is = (refl, went_other p q w _ refl (differ_from p q is))
 
+replaced_mine : (p : ℕ) (w : World) (memory : List ℕ) (r : Option Fault) → p < length w.functions → lone_of p (replaced w p memory r) ≡ replaced_alone (lone_of p w) memory r
+replaced_mine p w memory None below = lone_set p w (moved_to (function_of p w) memory) below
+replaced_mine p w memory (Some fault) below = refl
+
+replaced_other : (p q : ℕ) (w : World) (memory : List ℕ) (r : Option Fault) → (p ≡ q → ⊥) → lone_of p (replaced w q memory r) ≡ lone_of p w
+replaced_other p q w memory None differ = lone_kept p q w (moved_to (function_of q w) memory) differ
+replaced_other p q w memory (Some fault) differ = refl
+
+replaces_mine : (p : ℕ) (w : World) (memory : List ℕ) → p < length w.functions
+    → FollowsOn (lone_of p w) (Some (Got (replace_refusal w p (length memory)) (function_of p w))) (lone_of p (stepped w (Replaces p memory))) (Some (Replace memory))
+replaces_mine p w memory below =
+    let same : replace_refusal w p (length memory) ≡ replace_refusal_alone (lone_of p w) (length memory) = rw (there p (length w.functions) below) refl in
+    (ap (λ r. Some (Got r (function_of p w))) same, replaced_mine p w memory (replace_refusal w p (length memory)) below ∙ ap (replaced_alone (lone_of p w) memory) same)
+
+replaces_on : (p : ℕ) (w : World) (q : ℕ) (memory : List ℕ) (mine : Bool) → p < length w.functions → eqb q p ≡ mine
+    → FollowsOn (lone_of p w) (if mine then Some (Got (replace_refusal w q (length memory)) (function_of q w)) else None) (lone_of p (stepped w (Replaces q memory))) (if mine then Some (Replace memory) else None)
+replaces_on p w q memory true below is =
+    subst (λ r. FollowsOn (lone_of p w) (Some (Got (replace_refusal w r (length memory)) (function_of r w))) (lone_of p (stepped w (Replaces r memory))) (Some (Replace memory))) (sym (eqb-true q p is)) (replaces_mine p w memory below)
+replaces_on p w q memory false below is = (refl, replaced_other p q w memory (replace_refusal w q (length memory)) (differ_from p q is))
+
 step_on : (p : ℕ) (w : World) (t : Step) → p < length w.functions → p < 64 → FollowsOn (lone_of p w) (sight_in p w t) (lone_of p (stepped w t)) (kept_in p w t)
 step_on p w (Happens e) below small = event_on (lone_of p w) (seen_of p e (step w e).answer) (lone_of p (step w e).world) (kept p w e) (step_follows p w e below small)
 step_on p w (Comes q memory) below small = comes_on p w q memory _ below refl
 step_on p w (Goes q) below small = goes_on p w q _ below refl
+step_on p w (Replaces q memory) below small = replaces_on p w q memory _ below refl
 
 -- ---- all steps
 
@@ -145,6 +172,7 @@ step_made_on : (p : ℕ) (w : World) (t : Step) → MadeOn (lone_of p w) (access
 step_made_on p w (Happens e) = event_made_on (lone_of p w) (accesses_by w e p) (kept p w e) (accesses_follow p w e)
 step_made_on p w (Comes q memory) = none_made_on (lone_of p w) (Attach memory) (eqb q p) refl
 step_made_on p w (Goes q) = none_made_on (lone_of p w) Detach (eqb q p) refl
+step_made_on p w (Replaces q memory) = none_made_on (lone_of p w) (Replace memory) (eqb q p) refl
 
 accesses_on : (s : Lone) (accesses : List Access) (seen : Option Sight) (after : Lone) (k : Option GuestItem) → MadeOn s accesses k → FollowsOn s seen after k → (ks : List GuestItem) → accesses ++ lone_accesses after ks ≡ lone_accesses s (cons_option k ks)
 accesses_on s accesses seen after None made h ks = λ i. made i ++ lone_accesses (h.1 i) ks

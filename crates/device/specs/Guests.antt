@@ -4,6 +4,7 @@ use Rattle.std.specs.List.{list_all}
 use Rattle.wire_frame.specs.declared.fault.Fault.{Fault}
 use Rattle.wire_frame.specs.declared.fault.Fault.TheVariants.{NoSuchVf, AlreadyOpen, BadMake}
 use Rattle.vf_unit.specs.Function.{initial}
+use Rattle.vf_unit.specs.Guests.{moved_to}
 use Rattle.vf_unit.specs.Unit.{Closed, Open, size_of}
 use Rattle.device.specs.World.{World, function_of, with_function}
 
@@ -41,3 +42,13 @@ attached w p memory = with_function w p (Open (initial memory))
 -- a guest went: its function is closed, over no bytes
 abbrev pub detached : World → ℕ → World
 detached w p = if is_vacant w p then w else with_function w p (Closed 0)
+
+-- why a function can't have another memory of so many bytes: the first line that fits
+abbrev pub replace_refusal : World → ℕ → ℕ → Option Fault
+replace_refusal w p n = if nat_le (length w.functions) p then Some NoSuchVf
+    else (if not (size_of (function_of p w) == n) then Some BadMake
+    else None)
+
+-- a function has another memory, and is else as it was
+abbrev pub over_memory : World → ℕ → List ℕ → World
+over_memory w p memory = with_function w p (moved_to (function_of p w) memory)

@@ -4,12 +4,15 @@
 //! memory, as it is, and none of it is written; one that goes takes it away. Either changes that function alone. A reset of the
 //! device closes each function, and a function that is closed forgets what its registers were; its guest's memory stays with it
 //! until the host detaches it. A host that opens a closed function by [`Device::open`] writes zero over its guest's memory.
+//!
+//! A running guest's memory changes what it is made of, as where a hypervisor maps another region: [`Device::replace_memory`] gives it
+//! out against a memory of the same size, and takes it in again.
 ghost use Rattle.std.specs.Prelude.{◌≡◌, ◌<◌, ◌≤◌, ◌&&◌, true, false, length, map, set, Some, None, Err, IfOk, IfErr, OnOk, OnErr};
 ghost use Rattle.vf_unit.specs.Guests.{over, IsFormer};
 ghost use Rattle.vf_unit.specs.Unit.{size_of};
 ghost use Rattle.device.specs.World.{fresh, is_frame_limit, function_of, with_function};
 ghost use Rattle.device.specs.Live.{trace_of};
-ghost use Rattle.device.specs.Guests.{is_for_guests, is_vacant, attach_refusal, attached, detached};
+ghost use Rattle.device.specs.Guests.{is_for_guests, is_vacant, attach_refusal, attached, detached, replace_refusal, over_memory};
 
 use crate::device::Device;
 use live_memory::{Dma, Traced};
@@ -116,6 +119,56 @@ impl<D: Dma<K>, K> Device<D, K> {
             return Err(vacancy);
         }
         Ok(self.exchange(index, vacancy, false))
+    }
+
+    /// Gives a function another memory of as many bytes, as it is, and hands out its own, with the list of what was read and written
+    /// there. Nothing else changes, no register either, and no byte is read or written. So a host changes what a memory is made of while
+    /// its guest runs, between two events: it takes the memory out against one without regions, maps and unmaps, and puts it back.
+    ///
+    /// [`Fault::NoSuchVf`], then [`Fault::BadMake`] where the memory has another number of bytes: nothing changes, and it comes back.
+    pub fn replace_memory(&mut self, pool: u8, memory: D) -> Result<Traced<D, K>, NotTaken<D>>
+        ensures taken { OnOk result
+            (replace_refusal self.old.world pool (length (D.seen memory)) ≡ None) }
+        ensures world { OnOk result (self.new.world ≡ over_memory self.old.world pool (D.seen memory)) }
+        ensures untouched { OnOk result
+            (self.new.accesses ≡ set self.old.accesses pool (D.noted memory)) }
+        ensures former { IfOk result
+            (λ kept. IsFormer (function_of pool self.old.world) (D.seen kept.memory)) }
+        ensures size { IfOk result
+            (λ kept. length (D.seen kept.memory) ≡ length (D.seen memory)) }
+        ensures listed { IfOk result (λ kept. kept.accesses ≡ trace_of self.old.accesses pool) }
+        ensures why { IfErr result
+            (λ e. replace_refusal self.old.world pool (length (D.seen memory)) ≡ Some e.why) }
+        ensures given_back { IfErr result (λ e. e.memory ≡ memory) }
+        ensures unchanged { OnErr result (self.new ≡ self.old) }
+    {
+        let index = usize::from(pool);
+        if index >= self.functions() {
+            return Err(NotTaken {
+                why: Fault::NoSuchVf,
+                memory,
+            });
+        }
+        if self.memory_size(index) != memory.extent() {
+            return Err(NotTaken {
+                why: Fault::BadMake,
+                memory,
+            });
+        }
+        Ok(self.change_memory(index, memory))
+    }
+
+    // Gives a function that is there another memory of as many bytes, and hands out its own with its list.
+    fn change_memory(&mut self, index: usize, memory: D) -> Traced<D, K>
+        requires there { index < length self.old.world.functions }
+        requires size { length (D.seen memory) ≡ size_of (function_of index self.old.world) }
+        ensures world { self.new.world ≡ over_memory self.old.world index (D.seen memory) }
+        ensures accesses { self.new.accesses ≡ set self.old.accesses index (D.noted memory) }
+        ensures former { IsFormer (function_of index self.old.world) (D.seen result.memory) }
+        ensures size { length (D.seen result.memory) ≡ size_of (function_of index self.old.world) }
+        ensures listed { result.accesses ≡ trace_of self.old.accesses index }
+    {
+        self.units[index].replace_memory(memory)
     }
 
     // Gives a function that is there another memory, and hands out its own with its list.

@@ -11,3 +11,8 @@ over memory is_open = if is_open then Open (initial memory) else Closed (length 
 abbrev pub IsFormer : Function → List ℕ → Type 0
 IsFormer (Closed size) bytes = length bytes ≡ size
 IsFormer (Open s) bytes = bytes ≡ s.memory
+
+-- the same function over other bytes, as many as before; of a closed function it isn't said what its bytes are
+abbrev pub moved_to : Function → List ℕ → Function
+moved_to (Closed size) memory = Closed size
+moved_to (Open s) memory = Open (record s { memory = memory })

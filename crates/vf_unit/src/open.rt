@@ -152,6 +152,18 @@ impl<D: Dma<K>, K> OpenVf<D, K> {
         replace(&mut self.memory, Traced::new(memory))
     }
 
+    /// Takes another memory of as many bytes in place of its own, which it hands out with its list. No register changes, and neither
+    /// memory is accessed.
+    pub fn replace_memory(&mut self, memory: D) -> Traced<D, K>
+        requires { length (D.seen memory) ≡ length self.old.state.memory }
+        ensures state { self.new.state ≡ record self.old.state { memory = D.seen memory } }
+        ensures accesses { self.new.accesses ≡ D.noted memory }
+        ensures former { D.seen result.memory ≡ self.old.state.memory }
+        ensures listed { result.accesses ≡ self.old.accesses }
+    {
+        replace(&mut self.memory, Traced::new(memory))
+    }
+
     /// Reads the register at an offset.
     pub fn reg_read(&mut self, offset: u32) -> u32
         ensures value { result ≡ word_at_offset self.old.state offset }

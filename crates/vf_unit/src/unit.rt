@@ -2,7 +2,7 @@
 ghost use Rattle.std.specs.Prelude.{◌≡◌, ℕ, [], ◌++◌, length, Some, None, IfOk, if◌then◌else◌};
 ghost use Rattle.std.specs.Option.{option_map};
 ghost use Rattle.tx_desc.specs.Lent.{fetched_in};
-ghost use Rattle.vf_unit.specs.Guests.{over, IsFormer};
+ghost use Rattle.vf_unit.specs.Guests.{over, moved_to, IsFormer};
 ghost use Rattle.vf_unit.specs.Unit.{Closed, IsMet, met_function, size_of, is_open, opened, opening_accesses, ended, reset, read_of, after_read_of, written, given, serviced, service_outcome, lent_to, one_more_sent, has_range, bytes_at, memory_written, given_accesses, service_accesses, load_accesses, store_accesses};
 
 use crate::open::{OpenVf, Service};
@@ -93,6 +93,19 @@ impl<D: Dma<K>, K> VfUnit<D, K> {
     {
         self.is_open = is_open;
         self.inner.exchange(memory)
+    }
+
+    /// Takes another memory of as many bytes in place of its own, which it hands out with its list. Nothing else changes, and neither
+    /// memory is accessed.
+    pub fn replace_memory(&mut self, memory: D) -> Traced<D, K>
+        requires { length (D.seen memory) ≡ size_of self.old.function }
+        ensures function { self.new.function ≡ moved_to self.old.function (D.seen memory) }
+        ensures accesses { self.new.accesses ≡ D.noted memory }
+        ensures former { IsFormer self.old.function (D.seen result.memory) }
+        ensures size { length (D.seen result.memory) ≡ size_of self.old.function }
+        ensures listed { result.accesses ≡ self.old.accesses }
+    {
+        self.inner.replace_memory(memory)
     }
 
     /// Makes every register initial (SR-IOV 1.1, function-level reset). The memory stays.

@@ -1,6 +1,9 @@
+mod BurstSteps
 mod ErasedRuns
+mod FrameLemmas
 mod More
 mod Plain
 mod Runs
+mod Unite
 mod WithoutGroup
 mod Writes

@@ -52,7 +52,7 @@ pub none_yet : (shared : Bool) (old : TracedWorld) (answers : List Answer) → a
 unfolding live_after live_answers last_of AllMet
 none_yet shared old answers empty = record { noted = []; each = refl; answered = empty; world = refl; accesses = refl; met = tt }
 
-one_more : (shared : Bool) (old now next : TracedWorld) (es : List Event) (e : Event) (answers all : List Answer) (answer : Answer) → SoFar shared old es answers now
+pub one_more : (shared : Bool) (old now next : TracedWorld) (es : List Event) (e : Event) (answers all : List Answer) (answer : Answer) → SoFar shared old es answers now
     → next.world ≡ (step (told_world now.accesses next.accesses now.world) e).world → answer ≡ (step (told_world now.accesses next.accesses now.world) e).answer → AreMet shared now.accesses next.accesses now.world
     → AreListed (accesses_by (told_world now.accesses next.accesses now.world) e) now.accesses next.accesses → all ≡ answers ++ answer ∷ [] → SoFar shared old (es ++ e ∷ []) all next
 one_more shared old now next es e answers all answer h world answered met listed longer =
@@ -71,6 +71,14 @@ one_more shared old now next es e answers all answer h world answered met listed
   where
     was : now ≡ record { world = live_after old.world old.accesses es h.noted; accesses = last_of old.accesses h.noted }
     was = λ i. record { world = h.world i; accesses = h.accesses i }
+
+-- the accesses by then are noted behind those before
+pub one_more_noted : (shared : Bool) (old now next : TracedWorld) (es : List Event) (e : Event) (answers all : List Answer) (answer : Answer) (h : SoFar shared old es answers now)
+    (world : next.world ≡ (step (told_world now.accesses next.accesses now.world) e).world) (answered : answer ≡ (step (told_world now.accesses next.accesses now.world) e).answer) (met : AreMet shared now.accesses next.accesses now.world)
+    (listed : AreListed (accesses_by (told_world now.accesses next.accesses now.world) e) now.accesses next.accesses) (longer : all ≡ answers ++ answer ∷ [])
+    → (one_more shared old now next es e answers all answer h world answered met listed longer).noted ≡ h.noted ++ next.accesses ∷ []
+unfolding one_more
+one_more_noted shared old now next es e answers all answer h world answered met listed longer = refl
 
 -- by the place of the event
 pub next_one : (shared : Bool) (old now next : TracedWorld) (es : List Event) (i : ℕ) (e : Event) (answers all : List Answer) (answer : Answer) → i < length es → e ≡ get_or es i e → SoFar shared old (take i es) answers now

@@ -1,2 +1,5 @@
+pub mod Bursts
 pub mod Erased
+pub mod Frames
 pub mod Live
+pub mod Stored

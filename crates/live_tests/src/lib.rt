@@ -9,6 +9,8 @@
 #[cfg(test)]
 mod alone;
 #[cfg(test)]
+mod bursts;
+#[cfg(test)]
 mod by_hand;
 #[cfg(test)]
 mod compare;

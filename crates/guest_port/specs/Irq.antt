@@ -39,13 +39,14 @@ seated_of s = record {
     note = s.last.value.note;
     seat = s.last.value.seat;
     taken = drop (length s.made.value.view.takes) s.last.value.seat.view.takes;
+    peeks = drop (length s.made.value.view.peeks) s.last.value.seat.view.peeks;
     peeked = s.last.value.seat.view.peeked;
   };
   made = s.made.value;
 }
 
 -- the tokens are those that were last seen, of this pool. A port without tokens or without a mark has ended, and its note
--- knows so. What the seat had taken when the port was made is the beginning of what it has taken
+-- knows so. What the seat had taken when the port was made is the beginning of what it has taken, and so with what it peeked
 pub record Sound (s : Inside) : Type 0 where
   pub tokens : IfSome s.tokens (λ t. t ≡ s.last.value)
   pub pool : s.last.value.seat.view.pool ≡ s.pool
@@ -54,3 +55,5 @@ pub record Sound (s : Inside) : Type 0 where
   pub ended : s.mark ≡ None → s.last.value.note.found ≡ true
   pub since : length s.made.value.view.takes ≤ length s.last.value.seat.view.takes
   pub begins : take (length s.made.value.view.takes) s.last.value.seat.view.takes ≡ s.made.value.view.takes
+  pub peeks_since : length s.made.value.view.peeks ≤ length s.last.value.seat.view.peeks
+  pub peeks_begin : take (length s.made.value.view.peeks) s.last.value.seat.view.peeks ≡ s.made.value.view.peeks

@@ -15,6 +15,8 @@ pub record Port : Type 0 where
   pub seat : GuestEnd
   -- the messages that it took: the answers of its takes, in order
   pub taken : List ℕ
+  -- the answers of its peeks, in order
+  pub peeks : List ℕ
   -- the bits that its peeks answered since its last take: they stand until it takes them
   pub peeked : ℕ
 
@@ -27,7 +29,7 @@ seat_peeked seat answer = record seat { view = after_peek seat.view answer }
 
 -- a port that was just made, with a note and a seat
 abbrev pub new_port : ℕ → Known → GuestEnd → Port
-new_port pool note seat = record { pool = pool; is_open = true; is_closed = false; note = note; seat = seat; taken = []; peeked = 0 }
+new_port pool note seat = record { pool = pool; is_open = true; is_closed = false; note = note; seat = seat; taken = []; peeks = []; peeked = 0 }
 
 -- after a take, which counts until the port is closed
 abbrev pub having_taken : Port → ℕ → Port
@@ -41,6 +43,7 @@ having_taken port answer = record port {
 abbrev pub having_peeked : Port → ℕ → Port
 having_peeked port answer = record port {
   seat = if port.is_closed then port.seat else seat_peeked port.seat answer;
+  peeks = if port.is_closed then port.peeks else (port.peeks ++ answer ∷ []);
   peeked = if port.is_closed then port.peeked else bit_or port.peeked answer;
 }
 

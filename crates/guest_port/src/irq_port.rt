@@ -111,12 +111,14 @@ impl IrqPort {
         }
     }
 
-    /// A law: what the port's seat has taken is what it had when the port was made, and then what the port took, and what the
-    /// seat has peeked the port has; a port that is not open has a note that found its end; and the seat is that of the pool.
-    /// The call does nothing.
+    /// A law: what the port's seat has taken is what it had when the port was made, and then what the port took; so with the
+    /// answers of its peeks, and the bits that it has peeked the port has; a port that is not open has a note that found its
+    /// end; and the seat is that of the pool. The call does nothing.
     pub fn agrees(&self)
         ensures takes { self.now.port.seat.view.takes
             ≡ self.now.made.view.takes ++ self.now.port.taken }
+        ensures peeks { self.now.port.seat.view.peeks
+            ≡ self.now.made.view.peeks ++ self.now.port.peeks }
         ensures peeked { self.now.port.seat.view.peeked ≡ self.now.port.peeked }
         ensures known { self.now.port.is_open ≡ false → self.now.port.note.found ≡ true }
         ensures pool { self.now.port.seat.view.pool ≡ self.now.port.pool }

@@ -18,7 +18,7 @@ pub struct Tokens {
 /// A guest's port, by the calls that wait for nobody. It is open until it ends, and ends when it is closed or dropped.
 ///
 /// Its meaning is its pool, whether it is open, whether it was closed, its note, its seat on the interrupt line, the messages that
-/// it took, and those that it has peeked since.
+/// it took, the answers of its peeks, and the bits that it has peeked since its last take.
 pub trait GuestPort: Drop {
     ghost meaning: { Self → Port };
 

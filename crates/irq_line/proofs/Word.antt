@@ -9,7 +9,7 @@ use mathlib.Core.Logic.{dite}
 use native.Mathlib.Decide.{dec_le}
 use Rattle.irq_line.specs.declared.views.Raise.{Raise}
 use Rattle.irq_line.specs.declared.views.GuestRecord.{GuestRecord}
-use Rattle.irq_line.specs.Line.{raise_of, bit_for, raised, landed, Raising, Taking, raises_for, IsWord, idle_guest, after_take, after_peek}
+use Rattle.irq_line.specs.Line.{raise_of, bit_for, raised, landed, Raising, Taking, Peeking, raises_for, IsWord, idle_guest, after_take, after_peek}
 use Rattle.irq_line.proofs.Story.{story_raised, story_spared, story_taken, story_peeked, story_begins}
 
 bit_here : (p v m : ℕ) → bit_for p v p m ≡ bit_at m v
@@ -74,7 +74,7 @@ word_taken p w raises g h = record {
 pub word_peeked : (p w : ℕ) (raises : List Raise) (g : GuestRecord) → IsWord p w raises g → IsWord p w raises (record g { did = after_peek g.did w })
 word_peeked p w raises g h = record {
   below = h.below;
-  story = h.story;
+  story = h.story ++ Peeking w ∷ [];
   told = story_peeked p w raises g h.story h.told;
   balance = h.balance;
   at_most = h.at_most;

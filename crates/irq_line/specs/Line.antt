@@ -40,34 +40,47 @@ StandsIn bits word = (vector : ℕ) → bit_at bits vector ≤ bit_at word vecto
 
 -- ---- what was done to a word, in one order
 
--- a raise, with the word that it found, or a take, with the word that it answered
+-- a raise, with the word that it found, or a take or a peek, with the word that it answered
 pub data Deed : Type 0 where
   Raising : (raise : Raise) → Deed
   Taking : (answer : ℕ) → Deed
+  Peeking : (answer : ℕ) → Deed
 
 -- the raises of a story, in order
 abbrev pub raises_in : List Deed → List Raise
 raises_in [] = []
 raises_in (Raising raise ∷ deeds) = raise ∷ raises_in deeds
 raises_in (Taking answer ∷ deeds) = raises_in deeds
+raises_in (Peeking answer ∷ deeds) = raises_in deeds
 
 -- the answers of its takes, in order
 abbrev pub takes_in : List Deed → List ℕ
 takes_in [] = []
 takes_in (Raising raise ∷ deeds) = takes_in deeds
 takes_in (Taking answer ∷ deeds) = answer ∷ takes_in deeds
+takes_in (Peeking answer ∷ deeds) = takes_in deeds
+
+-- the answers of its peeks, in order
+abbrev pub peeks_in : List Deed → List ℕ
+peeks_in [] = []
+peeks_in (Raising raise ∷ deeds) = peeks_in deeds
+peeks_in (Taking answer ∷ deeds) = peeks_in deeds
+peeks_in (Peeking answer ∷ deeds) = answer ∷ peeks_in deeds
 
 -- the raises after its last take, or, where it has none, these and all of its own
 abbrev pub raises_since : List Raise → List Deed → List Raise
 raises_since raises [] = raises
 raises_since raises (Raising raise ∷ deeds) = raises_since (raises ++ raise ∷ []) deeds
 raises_since raises (Taking answer ∷ deeds) = raises_since [] deeds
+raises_since raises (Peeking answer ∷ deeds) = raises_since raises deeds
 
--- replayed on one word, the deeds end in another: each found the word that stood, a raise added its vectors to it, a take left 0
+-- replayed on one word, the deeds end in another: each found the word that stood, a raise added its vectors to it, a take left 0,
+-- and a peek left it
 abbrev pub Replays : ℕ → List Deed → ℕ → Type 0
 Replays word [] last = word ≡ last
 Replays word (Raising raise ∷ deeds) last = (raise.found ≡ word) × Replays (bit_or word raise.mask) deeds last
 Replays word (Taking answer ∷ deeds) last = (answer ≡ word) × Replays 0 deeds last
+Replays word (Peeking answer ∷ deeds) last = (answer ≡ word) × Replays word deeds last
 
 -- the raises for a pool, in order
 abbrev pub raises_for : ℕ → List Raise → List Raise
@@ -75,9 +88,10 @@ raises_for pool raises = filter (λ r. r.pool == pool) raises
 
 -- the story of a pool's word
 pub record IsStory (pool word : ℕ) (raises : List Raise) (guest : GuestRecord) (story : List Deed) : Type 0 where
-  -- it has the raises for the pool and the takes of its guest, each once and in order
+  -- it has the raises for the pool and the takes and the peeks of its guest, each once and in order
   pub all_raises : raises_in story ≡ raises_for pool raises
   pub all_takes : takes_in story ≡ guest.did.takes
+  pub all_peeks : peeks_in story ≡ guest.did.peeks
   -- a raise that the last take has not seen stands after it
   pub in_order : raises_for pool raises ≡ guest.seen ++ raises_since [] story
   -- replayed on 0, it ends in the word
@@ -107,7 +121,7 @@ pub record IsWord (pool word : ℕ) (raises : List Raise) (guest : GuestRecord) 
 
 -- a guest that has done nothing
 abbrev pub new_guest : ℕ → GuestView
-new_guest pool = record { pool = pool; takes = []; peeked = 0 }
+new_guest pool = record { pool = pool; takes = []; peeks = []; peeked = 0 }
 
 -- what a guest's seat knows: what it did, and the raises that were made when it last took
 abbrev pub record_of : GuestView → List Raise → GuestRecord
@@ -193,9 +207,9 @@ IsTake step before found after =
     × ((seen : List Raise)
     × (after ≡ (Guest (record_of (after_take (guest_in before.0).did found) seen), before.1)))
 
--- a peek (`load`): the bits of the word join the peeked ones
+-- a peek (`load`): the view has one peek more, which answered the word, and the bits of the word join the peeked ones
 abbrev pub after_peek : GuestView → ℕ → GuestView
-after_peek guest answer = record guest { peeked = bit_or guest.peeked answer }
+after_peek guest answer = record guest { peeks = guest.peeks ++ answer ∷ []; peeked = bit_or guest.peeked answer }
 
 abbrev pub IsPeek : Step (Unit {0}) → SeatState → ℕ → SeatState → Type 0
 IsPeek step before found after =

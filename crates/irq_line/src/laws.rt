@@ -9,6 +9,9 @@ pub fn conservation()
     // a guest took no vector more often than it was raised for its pool
     ensures none_invented { (line : LineState) (rule : IsLine line) (p v : ℕ) → p < 64 →
         answered v (guest_of rule.guests p).did.takes ≤ raised p v rule.raises }
+    // a guest peeked no vector that was not raised for its pool
+    ensures none_made_up { (line : LineState) (rule : IsLine line) (p v : ℕ) → p < 64 →
+        0 < answered v (guest_of rule.guests p).did.peeks → 0 < raised p v rule.raises }
     // a vector that was raised at some time, and that does not stand, was taken at some time
     ensures none_lost { (line : LineState) (rule : IsLine line) (p v : ℕ) → p < 64 →
         0 < raised p v rule.raises → bit_at (slice_index line.words p) v ≡ 0 →

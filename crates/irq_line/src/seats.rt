@@ -34,8 +34,8 @@ impl Model for DeviceSeat {
         × (s.seat.table_id.words ≡ 64) × (s.seat.me ≡ (Device (raises_of s.seat.me.0) 64, [])) };
 }
 
-/// The seat of one pool's guest. Contracts see its line, its pool, the answers of its takes, and the bits that its peeks
-/// answered since the last take.
+/// The seat of one pool's guest. Contracts see its line, its pool, the answers of its takes and of its peeks, and the bits that
+/// its peeks answered since the last take.
 #[derive(Drop)]
 pub struct GuestSeat {
     pub(crate) line: Arc<Line>,
@@ -77,7 +77,7 @@ impl DeviceSeat {
     }
 
     /// Compares the seat with a guest's of the same line, which changes neither: there is a word, and a story of it that has the
-    /// raises for the guest's pool and the takes of the guest, and that it ends in.
+    /// raises for the guest's pool and the takes and peeks of the guest, and that it ends in.
     pub fn beside(&mut self, guest: GuestSeat) -> GuestSeat
         requires one { guest.line ≡ self.old.line }
         ensures device { self.new ≡ self.old }
@@ -117,7 +117,7 @@ impl GuestSeat {
     }
 
     /// The messages that stand for the pool, bit v for vector v. They stand on, so that the next take answers them. One step,
-    /// which waits for nobody.
+    /// which waits for nobody, and which the seat counts among its peeks.
     #[inline]
     pub fn peek(&mut self) -> u8
         ensures below { result < 8 }

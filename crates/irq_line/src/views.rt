@@ -17,6 +17,8 @@ pub struct GuestView {
     pub pool: u8,
     /// The answers of its takes, in order.
     pub takes: LinkedList<u8>,
+    /// The answers of its peeks, in order.
+    pub peeks: LinkedList<u8>,
     /// The bits that its peeks answered since its last take.
     pub peeked: u8,
 }

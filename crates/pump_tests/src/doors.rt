@@ -6,6 +6,7 @@ use device::{Answer, Event, Reply};
 use device_lock::{Full, Recorded, Share};
 use guest_memory::{FlatMem, GuestMem};
 use lock_support::{answer, frame_to_3, line_of, locked, opening, recorded, settings};
+use shadow::Shadow;
 use std::alloc::Global;
 use std::marker::Brand;
 use std::sync::ledger::{Blank, Ledger};
@@ -19,21 +20,35 @@ use wire_pump::{Door, FeedEnd, LockedDoor, channel, feed, pump};
 struct OwnDoor<M: GuestMem, L: Ledger> {
     recorded: Recorded<M, L>,
     share: Share<L>,
+    refused: Option<Shadow<Event>>,
 }
 
 impl<M: GuestMem, L: Ledger> Door for OwnDoor<M, L> {
+    ghost use Rattle.std.specs.Prelude.{option_map};
     ghost use Rattle.history.specs.Entries.{events};
 
     ghost taken = { λ door. events door.share.asked };
 
     ghost calls = { λ door. door.share.asked };
 
+    ghost refused = { λ door. option_map (λ event. event.value) door.refused };
+
     #[tactic(auto, using(crate::proofs::Asked::one_more, crate::proofs::Asked::one_behind, crate::proofs::Asked::none_more))]
     fn act<R: Wait>(&mut self, _rt: &R, event: Event) -> Result<Answer, Full> {
         if !self.share.may(event.as_request()) {
+            self.refused = Some(Shadow::of(&event));
             return Err(Full(event));
         }
-        self.recorded.record(&mut self.share, event)
+        match self.recorded.record(&mut self.share, event) {
+            Ok(answer) => {
+                self.refused = None;
+                Ok(answer)
+            }
+            Err(full) => {
+                self.refused = Some(Shadow::of(&full.0));
+                Err(full)
+            }
+        }
     }
 }
 
@@ -66,6 +81,7 @@ fn own_five<R: Wait, L: Ledger>(rt: &R, alloc: Global, blank: Blank) -> Result<F
     let mut door = OwnDoor {
         recorded,
         share: shares.pump,
+        refused: None,
     };
     let ends = pump_five(rt, alloc, &mut door)?;
     Ok((ends, door.recorded.kept(), door.share.count()))

@@ -104,3 +104,25 @@ fn a_sender_is_told_that_the_receiver_is_gone(rt: HostRuntime) -> Result<(), Fai
     );
     Ok(())
 }
+
+// The ends are compared while a frame is under way, and then `Last` follows it.
+#[test]
+fn ends_that_were_compared_go_on(rt: HostRuntime) -> Result<(), Fail> {
+    let Ok((mut sender, receiver)) = channel(rt.alloc()) else {
+        return Err(Fail::from("no channel"));
+    };
+    let Some(frame) = frame_of(0) else {
+        return Err(Fail::from("no frame"));
+    };
+    let is_sent = sender.frame(&rt, &frame);
+    let mut receiver = sender.beside(receiver);
+    sender.agrees();
+    let is_last = sender.last(&rt);
+    let mut shelf = Shelf::new(rt.alloc(), 9);
+    let end = end_of(pump(&mut receiver, &rt, &mut shelf));
+    assert_eq!(rt;
+        ((is_sent, is_last), end, shelf.count_from(0)),
+        ((true, true), Pumped::Last, Some(1))
+    );
+    Ok(())
+}

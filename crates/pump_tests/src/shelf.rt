@@ -3,6 +3,7 @@ ghost use Rattle.std.specs.Prelude.{◌≡◌};
 
 use device::{Answer, Event, Reply};
 use device_lock::Full;
+use shadow::Shadow;
 use std::alloc::Global;
 use std::sync::Wait;
 use wire_frame::FrameBuf;
@@ -13,19 +14,24 @@ use wire_pump::{Door, PumpEnd};
 pub struct Shelf {
     pub events: Vec<Event>,
     pub room: usize,
+    pub refused: Option<Shadow<Event>>,
 }
 
 impl Door for Shelf {
-    ghost use Rattle.std.specs.Prelude.{[]};
+    ghost use Rattle.std.specs.Prelude.{[], option_map};
 
     ghost taken = { λ shelf. shelf.events.items };
 
     ghost calls = { λ _. [] };
 
+    ghost refused = { λ shelf. option_map (λ event. event.value) shelf.refused };
+
     fn act<R: Wait>(&mut self, _rt: &R, event: Event) -> Result<Answer, Full> {
         if self.room <= self.events.len() || self.events.push(event.copy()).is_err() {
+            self.refused = Some(Shadow::of(&event));
             return Err(Full(event));
         }
+        self.refused = None;
         Ok(Answer {
             reply: Reply::Done,
             raised: [0; 64],
@@ -39,6 +45,7 @@ impl Shelf {
         Shelf {
             events: Vec::new(alloc),
             room,
+            refused: None,
         }
     }
 

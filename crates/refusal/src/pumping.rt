@@ -5,6 +5,7 @@ use crate::sheet::{Came, Sheet};
 use device::{Answer, Event, Reply};
 use device_lock::Full;
 use lock_support::frame_to_3;
+use shadow::Shadow;
 use std::alloc::Global;
 use std::sync::Wait;
 use wire_frame::{Fault, FrameBuf};
@@ -14,19 +15,24 @@ use wire_pump::{Door, FeedEnd, FrameReceiver, FrameSender, PumpEnd, channel, fee
 #[derive(Drop)]
 struct Shelf {
     events: Vec<Event>,
+    refused: Option<Shadow<Event>>,
 }
 
 impl Door for Shelf {
-    ghost use Rattle.std.specs.Prelude.{[]};
+    ghost use Rattle.std.specs.Prelude.{[], option_map};
 
     ghost taken = { λ shelf. shelf.events.items };
 
     ghost calls = { λ _. [] };
 
+    ghost refused = { λ shelf. option_map (λ event. event.value) shelf.refused };
+
     fn act<R: Wait>(&mut self, _rt: &R, event: Event) -> Result<Answer, Full> {
         if 2 <= self.events.len() || self.events.push(event.copy()).is_err() {
+            self.refused = Some(Shadow::of(&event));
             return Err(Full(event));
         }
+        self.refused = None;
         Ok(Answer {
             reply: Reply::Done,
             raised: [0; 64],
@@ -61,7 +67,10 @@ impl Pumping {
             frames,
             sender,
             receiver,
-            door: Shelf { events: room },
+            door: Shelf {
+                events: room,
+                refused: None,
+            },
         })
     }
 }

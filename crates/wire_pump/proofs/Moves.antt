@@ -1,5 +1,5 @@
 -- Each kind of step keeps the rule of the channel.
-use Rattle.std.proofs.Common.{◌≡◌, ◌≢◌, ◌⊎◌, ⊎_elim, inl, inr, ℕ, zero, suc, true, false, true≢false, map, List, [], ◌∷◌, ◌++◌, length, set, refl, sym, ap, ◌∙◌, subst, append_assoc}
+use Rattle.std.proofs.Common.{◌≡◌, ◌≢◌, ◌⊎◌, ⊎_elim, inl, inr, ℕ, ◌+◌, arith, zero, suc, true, false, true≢false, map, List, [], ◌∷◌, ◌++◌, length, set, refl, sym, ap, ◌∙◌, subst, append_assoc}
 use Rattle.std.specs.Prelude.{⊤, slice_set}
 use Rattle.std.proofs.lemmas.List.{map-append}
 use mathlib.Core.Option.{some, some-injective, some-ne-none}
@@ -13,7 +13,7 @@ use Rattle.recorder.specs.Callers.{may}
 use Rattle.wire_pump.specs.declared.message.WireMsg.{WireMsg}
 use Rattle.wire_pump.specs.declared.message.WireMsg.TheVariants.{Frame, Last}
 use Rattle.wire_pump.specs.declared.flow.Hand.{Hand}
-use Rattle.wire_pump.specs.Ends.{is_wire}
+use Rattle.wire_pump.specs.Ends.{is_wire, count_frames}
 use Rattle.wire_pump.specs.Pump.{is_ended, is_proper, sender, receiver, both, neither, Knows, IsFlow, IsSent, IsReceived, IsBeside}
 
 off : false ≡ true → ⊥
@@ -197,3 +197,85 @@ all_once_ended sent received more is p e = is ∙ ended_alone received more (sub
 -- the pump may ask for a frame from the wire
 pub pump_may : (c : Caller) (e : Event) → c ≡ Pump → is_wire e ≡ true → may c e ≡ true
 pump_may c e is wire = ap (λ (n : Caller). may n e) is ∙ wire
+
+-- ---- the way back, whose ends are put together by the hand that receives
+
+pub forks_back : (seat : ℕ) (v : Hand) → v ≡ both v.sent v.received → Forks IsFlow seat v (receiver v.received) (sender v.sent)
+forks_back seat v is items hands h at =
+    let mine = h.each seat v at in
+    let s = mine.sends (ap (λ (u : Hand). u.sends) is) in
+    let g = mine.receives (ap (λ (u : Hand). u.receives) is) in
+    let n : ℕ = length (slice_set hands seat (receiver v.received)) in
+    record {
+      sent = h.sent;
+      received = h.received;
+      sending = n;
+      receiving = h.receiving;
+      whole = h.whole;
+      proper = h.proper;
+      each = λ j u e. ⊎_elim
+          (λ (was : get_elem? (slice_set hands seat (receiver v.received)) j ≡ some u). ⊎_elim
+          (λ (t : (j ≡ seat) × (receiver v.received ≡ u)). subst (λ (y : ℕ × Hand). Knows n h.receiving h.sent h.received y.0 y.1) (λ i. (sym t.0 i, t.1 i)) (record { sends = λ f. absurd (off f); receives = λ _. g }))
+          (λ (t : (j ≢ seat) × (get_elem? hands j ≡ some u)). record { sends = λ f. absurd (t.0 (((h.each j u t.1).sends f).0 ∙ sym s.0)); receives = (h.each j u t.1).receives })
+          (at_set hands seat j (receiver v.received) u was))
+          (λ (t : (j ≡ n) × (sender v.sent ≡ u)). subst (λ (y : ℕ × Hand). Knows n h.receiving h.sent h.received y.0 y.1) (λ i. (sym t.0 i, t.1 i)) (record { sends = λ _. (refl, s.1); receives = λ f. absurd (off f) }))
+          (at_end (slice_set hands seat (receiver v.received)) (sender v.sent) u j e);
+    }
+
+pub merges_back : (seat : ℕ) (v : Hand) (other : ℕ) (w : Hand) → v ≡ receiver v.received → w ≡ sender w.sent → Merges IsFlow seat v other w (both w.sent v.received) neither
+merges_back seat v other w is is_other items hands h at apart there =
+    let mine = h.each seat v at in
+    let g = mine.receives (ap (λ (u : Hand). u.receives) is) in
+    let at_other : get_elem? hands other ≡ some w = ⊎_elim
+    (λ (t : (other ≡ seat) × (both w.sent v.received ≡ w)). absurd (apart t.0))
+    (λ (t : (other ≢ seat) × (get_elem? hands other ≡ some w)). t.1)
+    (at_set hands seat other (both w.sent v.received) w there) in
+    let s = (h.each other w at_other).sends (ap (λ (u : Hand). u.sends) is_other) in
+    record {
+      sent = h.sent;
+      received = h.received;
+      sending = seat;
+      receiving = h.receiving;
+      whole = h.whole;
+      proper = h.proper;
+      each = λ j u e. ⊎_elim
+          (λ (t : (j ≡ other) × (neither ≡ u)). subst (λ (y : Hand). Knows seat h.receiving h.sent h.received j y) t.1 (record { sends = λ f. absurd (off f); receives = λ f. absurd (off f) }))
+          (λ (t : (j ≢ other) × (get_elem? (slice_set hands seat (both w.sent v.received)) j ≡ some u)). ⊎_elim
+          (λ (q : (j ≡ seat) × (both w.sent v.received ≡ u)). subst (λ (y : ℕ × Hand). Knows seat h.receiving h.sent h.received y.0 y.1) (λ i. (sym q.0 i, q.1 i)) (record { sends = λ _. (refl, s.1); receives = λ _. g }))
+          (λ (q : (j ≢ seat) × (get_elem? hands j ≡ some u)). record { sends = λ f. absurd (t.0 (((h.each j u q.1).sends f).0 ∙ sym s.0)); receives = (h.each j u q.1).receives })
+          (at_set hands seat j (both w.sent v.received) u t.1))
+          (at_set (slice_set hands seat (both w.sent v.received)) other j neither u e);
+    }
+
+-- ---- boxes
+
+pub one_frame : (xs : List WireMsg) (f : List ℕ) → count_frames (xs ++ Frame f ∷ []) ≡ count_frames xs + 1
+one_frame [] f = refl
+one_frame (Frame g ∷ xs) f = ap (λ (n : ℕ). n + 1) (one_frame xs f)
+one_frame (Last ∷ xs) f = one_frame xs f
+
+pub no_frame : (xs : List WireMsg) → count_frames (xs ++ Last ∷ []) ≡ count_frames xs
+no_frame [] = refl
+no_frame (Frame g ∷ xs) = ap (λ (n : ℕ). n + 1) (no_frame xs)
+no_frame (Last ∷ xs) = no_frame xs
+
+-- a box that came back, and `Last`, which has none
+pub box_back : (a b : Hand) (m : WireMsg) (f : List ℕ) → IsReceived a m b → m ≡ Frame f → count_frames b.received ≡ count_frames a.received + 1
+box_back a b m f got is = ap (λ (h : Hand). count_frames h.received) got.0 ∙ (ap (λ (x : WireMsg). count_frames (a.received ++ x ∷ [])) is ∙ one_frame a.received f)
+
+pub last_back : (a b : Hand) (m : WireMsg) → IsReceived a m b → m ≡ Last → count_frames b.received ≡ count_frames a.received
+last_back a b m got is = ap (λ (h : Hand). count_frames h.received) got.0 ∙ (ap (λ (x : WireMsg). count_frames (a.received ++ x ∷ [])) is ∙ no_frame a.received)
+
+frames_of_both : (xs ys : List WireMsg) → count_frames (xs ++ ys) ≡ count_frames xs + count_frames ys
+frames_of_both [] ys = omega arith
+frames_of_both (Frame g ∷ xs) ys = let e = frames_of_both xs ys in omega arith
+frames_of_both (Last ∷ xs) ys = frames_of_both xs ys
+
+-- what the two ends say of the boxes, put together: those that send and receive are as they were when they were compared
+pub all_boxes : (boxes : ℕ) (s s' r u u' g : Hand) (under_way back_way : List WireMsg) → s' ≡ s → u' ≡ u → s'.sent ≡ r.received ++ under_way → g.sent ≡ u'.received ++ back_way
+    → boxes + count_frames s.sent ≡ 66 + count_frames u.received → boxes + count_frames under_way + count_frames back_way + count_frames r.received ≡ 66 + count_frames g.sent
+all_boxes boxes s s' r u u' g under_way back_way same same_back sent given all =
+    let a : count_frames s.sent ≡ count_frames (r.received ++ under_way) = ap (λ (h : Hand). count_frames h.sent) (sym same) ∙ ap count_frames sent in
+    let b : count_frames g.sent ≡ count_frames (u'.received ++ back_way) = ap count_frames given in
+    let c : count_frames u'.received ≡ count_frames u.received = ap (λ (h : Hand). count_frames h.received) same_back in
+    omega (arith, frames_of_both r.received under_way, frames_of_both u'.received back_way)

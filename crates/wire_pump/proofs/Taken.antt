@@ -1,5 +1,5 @@
 -- What a door took, one event after another, and the calls that stand before.
-use Rattle.std.proofs.Common.{◌≡◌, ℕ, List, [], ◌∷◌, ◌++◌, length, map, take, drop, sym, ap, ◌∙◌, append_assoc}
+use Rattle.std.proofs.Common.{◌≡◌, ℕ, false, List, [], ◌∷◌, ◌++◌, length, map, take, drop, sym, ap, ◌∙◌, subst, append_assoc}
 use Rattle.std.proofs.Math.Seq.{take-append_seam, take-length}
 use Rattle.std.proofs.lemmas.List.{map-append, take-append-drop}
 use Rattle.device.specs.Events.{Event}
@@ -10,7 +10,7 @@ use Rattle.device_lock.specs.Answers.{MayAnswer, HasAskedOne}
 use Rattle.wire_pump.specs.declared.message.WireMsg.{WireMsg}
 use Rattle.wire_pump.specs.declared.message.WireMsg.TheVariants.{Frame}
 use Rattle.wire_pump.specs.Doors.{StandFirst}
-use Rattle.wire_pump.specs.Ends.{ReceiveEnd}
+use Rattle.wire_pump.specs.Ends.{ReceiveEnd, HasReceived, HasGivenBack}
 
 -- ---- one call of a share
 
@@ -40,10 +40,26 @@ stand_first_then first mid last before after =
 
 -- ---- what was received
 
--- one message more stands behind the frames so far
-pub one_behind : (first mid new : ReceiveEnd) (frames : List (List ℕ)) (message : WireMsg) (frame : List ℕ) → mid ≡ record first { received = first.received ++ map Frame frames }
-    → new ≡ record mid { received = mid.received ++ message ∷ [] } → message ≡ Frame frame → new ≡ record first { received = first.received ++ (map Frame frames ++ Frame frame ∷ []) }
-one_behind first mid new frames message frame is more same =
-    more ∙ ap (λ (m : WireMsg). record mid { received = mid.received ++ m ∷ [] }) same
-    ∙ ap (λ (r : ReceiveEnd). record r { received = r.received ++ Frame frame ∷ [] }) is
-    ∙ ap (λ (ms : List WireMsg). record first { received = ms }) (append_assoc first.received (map Frame frames) (Frame frame ∷ []))
+-- one message more stands behind the frames so far, and a box was given back behind it, or not
+pub received_more : (first mid next last : ReceiveEnd) (frames : List (List ℕ)) (message : WireMsg) (frame : List ℕ) → HasReceived (map Frame frames) first mid → next ≡ record mid { received = mid.received ++ message ∷ [] }
+    → message ≡ Frame frame → last ≡ record next { given = last.given; is_alone = last.is_alone } → HasReceived (map Frame frames ++ Frame frame ∷ []) first last
+received_more first mid next last frames message frame before more same rest =
+    rest ∙ ap (λ (r : ReceiveEnd). record r { given = last.given; is_alone = last.is_alone }) more
+    ∙ ap (λ (m : WireMsg). record mid { received = mid.received ++ m ∷ []; given = last.given; is_alone = last.is_alone }) same
+    ∙ ap (λ (r : ReceiveEnd). record r { received = r.received ++ Frame frame ∷ []; given = last.given; is_alone = last.is_alone }) before
+    ∙ ap (λ (ms : List WireMsg). record first { received = ms; given = last.given; is_alone = last.is_alone }) (append_assoc first.received (map Frame frames) (Frame frame ∷ []))
+
+-- ---- the boxes that were given back
+
+pub given_more : (first mid next last : ReceiveEnd) (frames : List (List ℕ)) (message : WireMsg) (frame : List ℕ) → HasGivenBack (map Frame frames) first mid → next ≡ record mid { received = mid.received ++ message ∷ [] }
+    → (last.is_alone ≡ false → last ≡ record next { given = next.given ++ Frame frame ∷ [] }) → HasGivenBack (map Frame frames ++ Frame frame ∷ []) first last
+given_more first mid next last frames message frame before more went free =
+    let now = went free in
+    let alone : mid.is_alone ≡ false = sym (ap (λ (r : ReceiveEnd). r.is_alone) more) ∙ (sym (ap (λ (r : ReceiveEnd). r.is_alone) now) ∙ free) in
+    ap (λ (r : ReceiveEnd). r.given) now
+    ∙ ap (λ (ms : List WireMsg). ms ++ Frame frame ∷ []) (ap (λ (r : ReceiveEnd). r.given) more ∙ before alone)
+    ∙ append_assoc first.given (map Frame frames) (Frame frame ∷ [])
+
+-- a list of frames with one more
+pub frames_more : (P : List WireMsg → Type 0) (frames : List (List ℕ)) (frame : List ℕ) → P (map Frame frames ++ Frame frame ∷ []) → P (map Frame (frames ++ frame ∷ []))
+frames_more P frames frame p = subst P (sym (map-append Frame frames (frame ∷ []))) p

@@ -1,7 +1,7 @@
 //! Frames into the channel.
 ghost use Rattle.std.specs.Prelude.{◌≡◌, ◌++◌, ◌≤◌, true, length};
 ghost use Rattle.wire_pump.specs.Pump.{is_proper};
-ghost use Rattle.wire_pump.specs.Ends.{fed, IsCounted};
+ghost use Rattle.wire_pump.specs.Ends.{fed, HasSent, IsCounted};
 
 use crate::ends::FrameSender;
 use std::sync::Wait;
@@ -18,8 +18,7 @@ pub enum FeedEnd {
 
 /// Sends the frames in order, and then `Last`. It waits while 64 messages are under way.
 pub fn feed<R: Wait>(sender: &mut FrameSender, rt: &R, frames: &[FrameBuf]) -> FeedEnd
-    ensures sent { sender.new
-        ≡ record sender.old { sent = sender.old.sent ++ fed frames.now result } }
+    ensures sent { HasSent (fed frames.now result) sender.old sender.new }
     ensures count { IsCounted (length frames.now) result }
     ensures proper { is_proper sender.new.sent ≡ true }
 {

@@ -46,6 +46,25 @@ impl Lesson<Parcel, Hand> for Ends {
     ghost fact = { IsBeside };
 }
 
+/// The same two ends, put together by the hand that receives.
+pub(crate) struct Back;
+
+impl Split<Hand> for Back {
+    ghost left = { λ hand. receiver hand.received };
+
+    ghost right = { λ hand. sender hand.sent };
+}
+
+impl Join<Hand> for Back {
+    ghost both = { λ receiving sending. both sending.sent receiving.received };
+
+    ghost spent = { neither };
+}
+
+impl Lesson<Parcel, Hand> for Back {
+    ghost fact = { IsBeside };
+}
+
 /// A message that is sent.
 pub(crate) struct Sends;
 

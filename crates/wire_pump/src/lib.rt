@@ -7,9 +7,10 @@
 //!
 //! Between any two steps, of whatever threads, what was received is a beginning of what was sent, and `Last` was sent once at
 //! most and at the end: this is the rule `IsFlow` of `specs/Pump.antt`, which every step keeps. [`FrameSender::beside`] says
-//! it of the two ends, where one thread has both. No call but the maker takes memory: frames move in boxes that the maker
-//! made, and come back when they were taken. The crate stands on `crossbeam_channel`, which keeps the rule, on `device` for
-//! the event, and on `device_lock` for the shared device.
+//! it of the two ends, where one thread has both. No call but the maker takes memory: frames move in the 66 boxes that the maker
+//! made, which come back by a second channel under the same rule, whether the door took their frames or not. The crate stands on
+//! `crossbeam_channel`, which keeps the rule, on `device` for the event, on `device_lock` for the shared device, and on
+//! `shadow`, by which contracts speak of a frame that came back.
 #![tactic(auto)]
 
 mod ends;

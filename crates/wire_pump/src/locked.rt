@@ -1,35 +1,44 @@
 //! The door to a device that threads share.
-ghost use Rattle.std.specs.Prelude.{◌≡◌};
+ghost use Rattle.std.specs.Prelude.{◌≡◌, true, Some, None};
+ghost use Rattle.wire_pump.specs.Doors.{event_shown};
+ghost use Rattle.wire_pump.specs.Ends.{is_wire};
 ghost use Rattle.history.specs.declared.caller.Caller.TheVariants.{Pump};
 
 use crate::pumping::Door;
 use device::{Answer, Event, Request};
 use device_lock::{Full, LockedDevice, Share};
 use guest_memory::GuestMem;
+use shadow::Shadow;
 use std::marker::Model;
 use std::sync::ledger::Ledger;
 use std::sync::{Arc, Wait};
 use wire_frame::FrameBuf;
 
-/// The door to a device that threads share, with the pump's share. Contracts see that share: what the door took are the
-/// calls that its share made.
+/// The door to a device that threads share, with the pump's share. Contracts see that share, and the event that came back last,
+/// unless one was taken since: what the door took are the calls that its share made.
 #[derive(Drop)]
 pub struct LockedDoor<M: GuestMem, L: Ledger> {
     device: Arc<LockedDevice<M, L>>,
     share: Share<L>,
     // for the frames that the device sends, of which an event from the wire has none
     room: FrameBuf,
+    // the frame of the event that came back last, unless one was taken since
+    refused: Option<Shadow<FrameBuf>>,
 }
 
 impl<M: GuestMem, L: Ledger> Model for LockedDoor<M, L> {
-    ghost use Rattle.recorder.specs.Held.{CallerLog};
+    ghost use Rattle.wire_pump.specs.Doors.{SharedDoor};
 
-    ghost Value = { CallerLog };
+    ghost Value = { SharedDoor };
 
     ghost use Rattle.std.specs.Prelude.{◌≡◌};
+    ghost use Rattle.wire_pump.specs.Doors.{event_shown};
     ghost use Rattle.history.specs.declared.caller.Caller.TheVariants.{Pump};
 
-    ghost view = { λ d. d.share };
+    ghost view = { λ d. record {
+      share = d.share;
+      refused = event_shown d.refused;
+    } };
 
     ghost invariant = { λ d. d.share.caller ≡ Pump };
 }
@@ -38,18 +47,19 @@ impl<M: GuestMem, L: Ledger> LockedDoor<M, L> {
     /// A door with the share, which is the pump's.
     pub fn new(device: Arc<LockedDevice<M, L>>, share: Share<L>) -> LockedDoor<M, L>
         requires pump { share.caller ≡ Pump }
-        ensures { result ≡ share }
+        ensures { result ≡ record { share = share; refused = None } }
     {
         LockedDoor {
             device,
             share,
             room: FrameBuf::blank(),
+            refused: None,
         }
     }
 
     /// The share, after all that the door took.
     pub fn into_share(self) -> Share<L>
-        ensures share { result ≡ self }
+        ensures share { result ≡ self.share }
         ensures pump { result.caller ≡ Pump }
     {
         let LockedDoor { share, .. } = self;
@@ -58,7 +68,7 @@ impl<M: GuestMem, L: Ledger> LockedDoor<M, L> {
 }
 
 impl<M: GuestMem, L: Ledger> Door for LockedDoor<M, L> {
-    ghost use Rattle.std.specs.Prelude.{◌≡◌, ◌++◌, ◌∷◌, [], true, false, if◌then◌else◌, IfOk, IfErr, OnOk, OnErr};
+    ghost use Rattle.std.specs.Prelude.{◌≡◌, ◌++◌, ◌∷◌, [], true, false, None, Some, if◌then◌else◌, IfOk, IfErr, OnOk, OnErr};
     ghost use Rattle.device.specs.declared.event.Event.TheVariants.{Wire};
     ghost use Rattle.recorder.specs.Held.{having_asked};
     ghost use Rattle.device_lock.specs.Answers.{MayAnswer, HasAskedOne};
@@ -66,38 +76,71 @@ impl<M: GuestMem, L: Ledger> Door for LockedDoor<M, L> {
     ghost use Rattle.wire_pump.specs.Doors.{StandFirst};
     ghost use Rattle.wire_pump.specs.Ends.{is_wire};
 
-    ghost taken = { λ d. events d.asked };
+    ghost taken = { λ d. events d.share.asked };
 
-    ghost calls = { λ d. d.asked };
+    ghost calls = { λ d. d.share.asked };
+
+    ghost refused = { λ d. d.refused };
 
     /// Gives the event to the device, as one call of the pump. It comes back where the kept history is full.
     #[tactic(auto, using(crate::proofs::Moves::pump_may, crate::proofs::Taken::one_taken, crate::proofs::Taken::one_behind_it, crate::proofs::Taken::stand_first_same))]
     fn act<R: Wait>(&mut self, rt: &R, event: Event) -> Result<Answer, Full>
         requires wire { is_wire event ≡ true }
-        ensures taken { OnOk result (events self.new.asked ≡ events self.old.asked ++ event ∷ []) }
-        ensures calls { StandFirst self.old.asked self.new.asked }
-        ensures counted { IfOk result (λ answer. self.new ≡ having_asked event answer self.old) }
+        ensures taken { OnOk result
+            (events self.new.share.asked ≡ events self.old.share.asked ++ event ∷ []) }
+        ensures calls { StandFirst self.old.share.asked self.new.share.asked }
+        ensures counted { IfOk result (λ answer. self.new
+            ≡ record { share = having_asked event answer self.old.share; refused = None }) }
         ensures answer { IfOk result (λ answer. MayAnswer event answer) }
         ensures full { IfErr result (λ full. full.0 ≡ event) }
-        ensures unchanged { OnErr result (events self.new.asked ≡ events self.old.asked) }
-        ensures same { OnErr result (self.new ≡ self.old) }
+        ensures unchanged { OnErr result (events self.new.share.asked ≡ events self.old.share.asked) }
+        ensures answered { OnOk result (self.new.refused ≡ None) }
+        ensures refused { OnErr result (self.new.refused ≡ Some event) }
+        ensures same { OnErr result (self.new ≡ record self.old { refused = Some event }) }
     {
-        self.device.act(rt, &mut self.share, event)
+        match self.device.act(rt, &mut self.share, event) {
+            Ok(answer) => {
+                self.refused = None;
+                Ok(answer)
+            }
+            Err(full) => {
+                self.refused = shown(&full.0);
+                Err(full)
+            }
+        }
     }
 
     /// The same for a frame, of which no event is made.
     #[tactic(auto, using(crate::proofs::Taken::one_taken, crate::proofs::Taken::one_behind_it, crate::proofs::Taken::stand_first_same, crate::proofs::Taken::asked_one))]
     fn take<R: Wait>(&mut self, rt: &R, frame: &FrameBuf) -> bool
-        ensures taken { events self.new.asked
-            ≡ (if result then events self.old.asked ++ Wire frame.now ∷ []
-            else events self.old.asked) }
-        ensures calls { StandFirst self.old.asked self.new.asked }
-        ensures counted { result ≡ true → HasAskedOne (Wire frame.now) self.old self.new }
-        ensures same { result ≡ false → self.new ≡ self.old }
+        ensures taken { events self.new.share.asked
+            ≡ (if result then events self.old.share.asked ++ Wire frame.now ∷ []
+            else events self.old.share.asked) }
+        ensures calls { StandFirst self.old.share.asked self.new.share.asked }
+        ensures refused { self.new.refused
+            ≡ (if result then None else Some (Wire frame.now)) }
+        ensures counted { result ≡ true
+            → HasAskedOne (Wire frame.now) self.old.share self.new.share }
+        ensures same { result ≡ false
+            → self.new ≡ record self.old { refused = Some (Wire frame.now) } }
     {
         let request = Request::Wire(frame);
-        self.device
+        let taken = self
+            .device
             .act_request(rt, &mut self.share, request, &mut self.room, &mut [])
-            .is_some()
+            .is_some();
+        self.refused = if taken { None } else { Some(Shadow::of(frame)) };
+        taken
+    }
+}
+
+// The frame of an event from the wire.
+fn shown(event: &Event) -> Option<Shadow<FrameBuf>>
+    requires { is_wire event.now ≡ true }
+    ensures { event_shown result ≡ Some event.now }
+{
+    match event {
+        Event::Wire(frame) => Some(Shadow::of(frame)),
+        _ => unreachable!(),
     }
 }

@@ -1,10 +1,10 @@
 //! Frames out of the channel, to what takes them.
-ghost use Rattle.std.specs.Prelude.{◌≡◌, ◌++◌, ◌∷◌, [], List, ℕ, true, map, if◌then◌else◌, OnOk, OnErr, IfErr};
+ghost use Rattle.std.specs.Prelude.{◌≡◌, ◌++◌, ◌∷◌, [], List, ℕ, Option, None, Some, true, map, if◌then◌else◌, OnOk, OnErr, IfErr};
 ghost use Rattle.history.specs.Entries.{Entry};
 ghost use Rattle.device.specs.Events.{Event};
 ghost use Rattle.device.specs.declared.event.Event.TheVariants.{Wire};
 ghost use Rattle.wire_pump.specs.Doors.{StandFirst};
-ghost use Rattle.wire_pump.specs.Ends.{is_wire, pumped, IsAll, IsFromWire};
+ghost use Rattle.wire_pump.specs.Ends.{is_wire, pumped, emptied, IsRefused, HasReceived, HasGivenBack, IsAll, IsFromWire};
 
 use crate::ends::FrameReceiver;
 use device::{Answer, Event};
@@ -23,6 +23,10 @@ pub trait Door {
     /// The calls by which it took events, in order, each with its answer; none where it doesn't keep them.
     ghost calls: { Self → List Entry };
 
+    /// The event that it refused last, for which it had no room; none once it took one since. A door of a host's own may keep it
+    /// as an `Option` of a `Shadow`, which has no bytes of the event.
+    ghost refused: { Self → Option Event };
+
     /// Takes an event, which is an [`Event::Wire`], and answers it. Where there is no room the event comes back, and nothing
     /// changed. It may wait.
     fn act<R: Wait>(&mut self, rt: &R, event: Event) -> Result<Answer, Full>
@@ -30,7 +34,9 @@ pub trait Door {
         ensures taken { OnOk result (taken self.new ≡ taken self.old ++ event ∷ []) }
         ensures calls { StandFirst (calls self.old) (calls self.new) }
         ensures full { IfErr result (λ full. full.0 ≡ event) }
-        ensures unchanged { OnErr result (taken self.new ≡ taken self.old) };
+        ensures unchanged { OnErr result (taken self.new ≡ taken self.old) }
+        ensures answered { OnOk result (refused self.new ≡ None) }
+        ensures refused { OnErr result (refused self.new ≡ Some event) };
 
     /// Takes the event of a frame that is lent, and tells whether it did. A pump calls this, so a door that takes a frame
     /// without a copy of it may do so here, with the same meaning.
@@ -38,6 +44,8 @@ pub trait Door {
         ensures taken { taken self.new
             ≡ (if result then taken self.old ++ Wire frame.now ∷ [] else taken self.old) }
         ensures calls { StandFirst (calls self.old) (calls self.new) }
+        ensures refused { refused self.new
+            ≡ (if result then None else Some (Wire frame.now)) }
     {
         self.act(rt, Event::Wire(frame.copy())).is_ok()
     }
@@ -48,7 +56,7 @@ pub trait Door {
 pub enum PumpEnd {
     /// `Last` came: all that was sent was received, and the door took every frame.
     Last,
-    /// The door did not take this event: it is that of the frame which was received last.
+    /// The door refused this event: it is that of the frame which was received last.
     Full(Event),
     /// The sender is gone, and there was no `Last`.
     Gone,
@@ -66,7 +74,8 @@ impl Debug for PumpEnd {
 }
 
 /// Gives each frame that comes to the door, in order, until `Last` comes, the door is full, or the sender is gone. It waits
-/// while no message is under way.
+/// while no message is under way. The box of each frame goes back to the sender, that of a refused one too, and the pump is full
+/// only where the door refused the event.
 ///
 /// ```
 /// let mut door = LockedDoor::new(device, shares.pump);
@@ -79,8 +88,9 @@ impl Debug for PumpEnd {
 pub fn pump<D: Door, R: Wait>(receiver: &mut FrameReceiver, rt: &R, door: &mut D) -> PumpEnd
     ensures in_order { (frames : List (List ℕ))
         × (D.taken door.new ≡ D.taken door.old ++ map Wire frames)
-        × (receiver.new
-        ≡ record receiver.old { received = receiver.old.received ++ pumped frames result }) }
+        × HasReceived (pumped frames result) receiver.old receiver.new
+        × HasGivenBack (emptied frames result) receiver.old receiver.new }
+    ensures refused { IsRefused result (D.refused door.new) }
     ensures calls { StandFirst (D.calls door.old) (D.calls door.new) }
     ensures whole { IsAll receiver.new.received result }
     ensures wire { IsFromWire result }

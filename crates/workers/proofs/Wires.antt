@@ -16,7 +16,7 @@ use Rattle.wire_pump.specs.declared.feeding.FeedEnd.{FeedEnd}
 use Rattle.wire_pump.specs.declared.message.WireMsg.TheVariants.{Frame, Last}
 use Rattle.wire_pump.specs.declared.message.WireMsg.{WireMsg}
 use Rattle.wire_pump.specs.declared.pumping.PumpEnd.{PumpEnd}
-use Rattle.wire_pump.specs.Ends.{ReceiveEnd, SendEnd, fed, frame_in, is_wire, pumped}
+use Rattle.wire_pump.specs.Ends.{ReceiveEnd, SendEnd, HasReceived, fed, frame_in, is_wire, pumped}
 use Rattle.wire_pump.specs.Pump.{is_ended}
 use Rattle.workers.specs.Callers.{caller_of, port_or_service}
 use Rattle.workers.specs.declared.worker.Came.{Came}
@@ -150,7 +150,7 @@ full_not_last is = false≢true (ap is_last is)
 gone_not_last : Came.Gone ≡ Came.Last → ⊥
 gone_not_last is = false≢true (ap is_last is)
 
-pub has_pumped : (frames : List (List ℕ)) (end : PumpEnd) (share left : CallerLog) (old new : ReceiveEnd) → share.caller ≡ Pump → came_by end ≡ Came.Last → new ≡ record old { received = old.received ++ pumped frames end }
+pub has_pumped : (frames : List (List ℕ)) (end : PumpEnd) (share left : CallerLog) (old new : ReceiveEnd) → share.caller ≡ Pump → came_by end ≡ Came.Last → HasReceived (pumped frames end) old new
     → HasAsked (map Wire frames) (record { caller = Pump; asked = share.asked }) left → HasPumped share left old new
 has_pumped frames PumpEnd.Last share left old new is came received asked = record {
   frames = frames;

@@ -1,5 +1,5 @@
 //! The pump's door, with its gate and its folds.
-ghost use Rattle.std.specs.Prelude.{◌≡◌, ◌++◌, ◌∷◌, [], true, if◌then◌else◌, IfErr, OnOk, OnErr};
+ghost use Rattle.std.specs.Prelude.{◌≡◌, ◌++◌, ◌∷◌, [], true, None, Some, if◌then◌else◌, IfErr, OnOk, OnErr};
 ghost use Rattle.device.specs.declared.event.Event.TheVariants.{Wire};
 ghost use Rattle.history.specs.declared.caller.Caller.TheVariants.{Pump};
 ghost use Rattle.history.specs.Entries.{events};
@@ -45,7 +45,7 @@ impl<M: GuestMem, L: Ledger, G: Gate + Drop> GatedDoor<M, L, G> {
 
     /// The share, after all that the door took.
     pub fn into_share(self) -> Share<L>
-        ensures share { result ≡ self.inner }
+        ensures share { result ≡ self.inner.share }
         ensures pump { result.caller ≡ Pump }
     {
         let GatedDoor {
@@ -61,9 +61,11 @@ impl<M: GuestMem, L: Ledger, G: Gate + Drop> GatedDoor<M, L, G> {
 impl<M: GuestMem, L: Ledger, G: Gate + Drop> Door for GatedDoor<M, L, G> {
     ghost use Rattle.history.specs.Entries.{events};
 
-    ghost taken = { λ d. events d.inner.asked };
+    ghost taken = { λ d. events d.inner.share.asked };
 
-    ghost calls = { λ d. d.inner.asked };
+    ghost calls = { λ d. d.inner.share.asked };
+
+    ghost refused = { λ d. d.inner.refused };
 
     fn act<R: Wait>(&mut self, rt: &R, event: Event) -> Result<Answer, Full> {
         self.n = self.n.wrapping_add(1);
@@ -92,10 +94,13 @@ fn act<M: GuestMem, L: Ledger, R: Wait>(
     mut event: Event,
 ) -> Result<Answer, Full>
     requires wire { is_wire event ≡ true }
-    ensures taken { OnOk result (events door.new.asked ≡ events door.old.asked ++ event ∷ []) }
-    ensures calls { StandFirst door.old.asked door.new.asked }
+    ensures taken { OnOk result
+        (events door.new.share.asked ≡ events door.old.share.asked ++ event ∷ []) }
+    ensures calls { StandFirst door.old.share.asked door.new.share.asked }
     ensures full { IfErr result (λ full. full.0 ≡ event) }
-    ensures unchanged { OnErr result (door.new.asked ≡ door.old.asked) }
+    ensures unchanged { OnErr result (door.new.share.asked ≡ door.old.share.asked) }
+    ensures answered { OnOk result (door.new.refused ≡ None) }
+    ensures refused { OnErr result (door.new.refused ≡ Some event) }
 {
     for _ in rt.forever() {
         match door.act(rt, event) {
@@ -117,9 +122,11 @@ fn take<M: GuestMem, L: Ledger, R: Wait>(
     door: &mut LockedDoor<M, L>,
     frame: &FrameBuf,
 ) -> bool
-    ensures taken { events door.new.asked
-        ≡ (if result then events door.old.asked ++ Wire frame.now ∷ [] else events door.old.asked) }
-    ensures calls { StandFirst door.old.asked door.new.asked }
+    ensures taken { events door.new.share.asked
+        ≡ (if result then events door.old.share.asked ++ Wire frame.now ∷ []
+        else events door.old.share.asked) }
+    ensures calls { StandFirst door.old.share.asked door.new.share.asked }
+    ensures refused { door.new.refused ≡ (if result then None else Some (Wire frame.now)) }
 {
     for _ in rt.forever() {
         if door.take(rt, frame) {

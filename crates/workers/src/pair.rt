@@ -167,8 +167,9 @@ fn do_pump<M: GuestMem, L: Ledger, G: Gate + Drop, R: Wait + Copy>(
     mut receiver: FrameReceiver,
     door: GatedDoor<M, L, G>,
 ) -> Pumped<L>
-    requires { door.inner.caller ≡ Pump }
-    ensures { IfSome result.receiver (λ last. HasPumped door.inner result.share receiver last) }
+    requires { door.inner.share.caller ≡ Pump }
+    ensures { IfSome result.receiver
+        (λ last. HasPumped door.inner.share result.share receiver last) }
 {
     let (share, came) = pumping(&rt, &mut receiver, door);
     match came {

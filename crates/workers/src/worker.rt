@@ -5,7 +5,7 @@ ghost use Rattle.device.specs.declared.event.Event.TheVariants.{PfReset, Wire};
 ghost use Rattle.history.specs.declared.caller.Caller.TheVariants.{Port, Pump};
 ghost use Rattle.recorder.specs.Held.{HasAsked, having_calls};
 ghost use Rattle.wire_pump.specs.declared.pumping.PumpEnd.{PumpEnd};
-ghost use Rattle.wire_pump.specs.Ends.{fed, IsCounted, pumped};
+ghost use Rattle.wire_pump.specs.Ends.{fed, HasReceived, HasSent, IsCounted, pumped};
 ghost use Rattle.workers.specs.Callers.{is_port};
 ghost use Rattle.workers.specs.Asked.{HasLeft};
 ghost use Rattle.workers.specs.Calls.{HasClosed, HasDone, HasDoneAll};
@@ -266,11 +266,7 @@ fn ask_turn<M: GuestMem, L: Ledger, R: Wait>(
 /// Reads the frames of the wire from the script, and sends them and then `Last` to the pump.
 pub fn reader<R: Wait>(rt: &R, plan: &Plan, sender: &mut FrameSender)
     ensures sent { (end : FeedEnd) × IsCounted (length (frames_of (own_events plan.now Pump))) end
-        × (sender.new
-        ≡ record sender.old {
-          sent = sender.old.sent
-              ++ fed (frames_of (own_events plan.now Pump)) end;
-        }) }
+        × HasSent (fed (frames_of (own_events plan.now Pump)) end) sender.old sender.new }
     ensures wire { map Wire (frames_of (own_events plan.now Pump)) ≡ own_events plan.now Pump }
 {
     let _ = send_frames(rt, plan, sender);
@@ -279,11 +275,7 @@ pub fn reader<R: Wait>(rt: &R, plan: &Plan, sender: &mut FrameSender)
 // Sends the frames and then `Last`. Where the pump is gone, no more are sent.
 #[tactic(auto, using(crate::proofs::Wires::sent_more, crate::proofs::Wires::sent_all))]
 fn send_frames<R: Wait>(rt: &R, plan: &Plan, sender: &mut FrameSender) -> FeedEnd
-    ensures sent { sender.new
-        ≡ record sender.old {
-          sent = sender.old.sent
-              ++ fed (frames_of (own_events plan.now Pump)) result;
-        } }
+    ensures sent { HasSent (fed (frames_of (own_events plan.now Pump)) result) sender.old sender.new }
     ensures count { IsCounted (length (frames_of (own_events plan.now Pump))) result }
     ensures wire { map Wire (frames_of (own_events plan.now Pump)) ≡ own_events plan.now Pump }
 {
@@ -309,9 +301,8 @@ pub fn pumping<M: GuestMem, L: Ledger, G: Gate + Drop, R: Wait>(
     mut door: GatedDoor<M, L, G>,
 ) -> (Share<L>, Came)
     ensures asked { (frames : List (List ℕ)) × (end : PumpEnd)
-        × (receiver.new
-        ≡ record receiver.old { received = receiver.old.received ++ pumped frames end })
-        × HasAsked (map Wire frames) (record { caller = Pump; asked = door.inner.asked }) result.0
+        × HasReceived (pumped frames end) receiver.old receiver.new
+        × HasAsked (map Wire frames) (record { caller = Pump; asked = door.inner.share.asked }) result.0
         × (result.1 ≡ came_by end) }
 {
     let came = match pump(receiver, rt, &mut door) {

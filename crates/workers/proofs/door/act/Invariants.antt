@@ -4,6 +4,6 @@ use Rattle.workers.proofs.door.act.Given as goal
 
 abbrev pub invariant-loop : goal.invariant-loop
 invariant-loop g l = record {
-  asked : l.door.asked ≡ l.fn.door.asked;
+  asked : l.door.share.asked ≡ l.fn.door.share.asked;
   event : l.event ≡ l.fn.event;
 }

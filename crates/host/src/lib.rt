@@ -11,7 +11,7 @@
 //! | [`prepare`] | records the events before `go`, and answers the pools that are open there | `workers` |
 //! | [`run_workers`], [`Ended`] | does the events after `go`, each worker in a thread of its own; the shares that they leave | `workers` |
 //! | [`Gate`], [`OpenGate`] | what each worker calls round each of its events; one that holds nobody back | `workers` |
-//! | [`sweep`] | records the end of each function whose port has ended | `workers` |
+//! | [`sweep`], [`sweep_into`] | records the end of each function whose port has ended; with the notes that told so | `workers` |
 //!
 //! The program `vfdev` stands on this crate alone.
 #![tactic(auto)]
@@ -21,4 +21,4 @@ pub use modes::status::status;
 pub use modes::threads::drive_threads;
 pub use modes::{Command, Fault, Mode};
 pub use script::Script;
-pub use workers::{Ended, Gate, OpenGate, prepare, run_workers, sweep};
+pub use workers::{Ended, Gate, OpenGate, prepare, run_workers, sweep, sweep_into};

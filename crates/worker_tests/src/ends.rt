@@ -17,7 +17,7 @@ use std::sync::{Arc, Wait};
 use std::test::Fail;
 use std::thread::Threads;
 use wire_frame::Fault;
-use workers::{OpenGate, sweep};
+use workers::{OpenGate, sweep, sweep_into};
 
 // What VFLINKS reads of a link that is up at 10 Gb/s (82599 datasheet, link status).
 const LINK_UP: u32 = 0x7000_0000;
@@ -140,6 +140,51 @@ fn a_live_function_stays_open(rt: HostRuntime) -> Result<(), Fail> {
     let seen = one_of_two::<Brand, HostRuntime>(&rt, rt.alloc(), Blank::new(67))?;
     let kept = SET_UP_EVENTS + 4;
     assert_eq!(rt; seen, (Some(1), Some((3, false)), true, true, kept));
+    Ok(())
+}
+
+// The pool of the one note that is there, and whether it knows of an end.
+fn only(notes: &mut Vec<(u8, EndNote)>) -> Option<(u8, bool)> {
+    match notes.pop() {
+        Some((pool, mut note)) if notes.is_empty() => Some((pool, note.ended())),
+        _ => None,
+    }
+}
+
+// What is seen of two notes, of which the one of pool 3 is live: how many ends are swept; the one note that stays, and the one that
+// comes out; and how many calls are kept.
+type OneOut = (Option<usize>, Option<(u8, bool)>, Option<(u8, bool)>, usize);
+
+// Opens function 4 too, and sweeps over the live note and one of an ended port of pool 4, which comes out.
+fn one_out<L: Ledger, R: Wait>(rt: &R, alloc: Global, blank: Blank) -> Result<OneOut, Fail>
+    requires name { blank.name ≡ L.name }
+    requires parts { (blank.parts ≡ L.parts) × (blank.parts ≡ 67) }
+{
+    let Begun {
+        device,
+        shares,
+        port: _port,
+        note,
+    } = begin::<L, R>(rt, alloc, blank)?;
+    let mut service = shares.service;
+    if !is_silent(answer(rt, &*device, &mut service, Event::Open(4))) {
+        return Err(Fail::from("not open"));
+    }
+    let mut notes = Vec::new(alloc);
+    notes.push((3, note))?;
+    notes.push((4, ended_note(alloc)?))?;
+    let Ok(mut out) = Vec::with_capacity(alloc, notes.len()) else {
+        return Err(Fail::from("no memory"));
+    };
+    let swept = sweep_into(rt, &mut notes, &mut out, &device, &mut service).ok();
+    Ok((swept, only(&mut notes), only(&mut out), device.kept(rt)))
+}
+
+#[test]
+fn a_note_that_is_swept_comes_out(rt: HostRuntime) -> Result<(), Fail> {
+    let seen = one_out::<Brand, HostRuntime>(&rt, rt.alloc(), Blank::new(67))?;
+    let kept = SET_UP_EVENTS + 2;
+    assert_eq!(rt; seen, (Some(1), Some((3, false)), Some((4, true)), kept));
     Ok(())
 }
 

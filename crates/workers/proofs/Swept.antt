@@ -13,10 +13,11 @@ use Rattle.workers.proofs.Asks.{asked_behind, asked_none}
 abbrev Note : Type 0
 Note = ℕ × Known
 
--- a sweep under way: so many of the notes that it came past stay
-pub record IsUnderWay (first notes : List Note) (at : ℕ) (old new : CallerLog) : Type 0 where
+-- a sweep under way: so many of the notes that it came past stay, and these are gone
+pub record IsUnderWay (first notes gone : List Note) (at : ℕ) (old new : CallerLog) : Type 0 where
   pub swept : IsSwept first notes old new
   pub place : at ≡ length (filter is_live swept.passed)
+  pub taken : gone ≡ filter is_ended swept.passed
 
 -- a note at which nobody looked, and one at which somebody looked again
 pub looked_none : (n : Note) → IsLooked n n
@@ -58,10 +59,11 @@ live_same passed n is = filter-append is_live passed (n ∷ []) ∙ (ap (λ (b :
 
 -- ---- a sweep from its start to its end
 
-pub way_begins : (notes : List Note) (old : CallerLog) → IsUnderWay notes notes 0 old old
+pub way_begins : (notes : List Note) (old : CallerLog) → IsUnderWay notes notes [] 0 old old
 way_begins notes old = record {
   swept = record { passed = []; rest = notes; looked = are_looked notes; asked = asked_none old; stay = refl };
   place = refl;
+  taken = refl;
 }
 
 -- the note at the sweep's place is the first of the rest; once it was looked at it stands there as it is then
@@ -84,13 +86,13 @@ nobody_here : (front notes : List Note) (at : ℕ) → notes ≡ front ++ [] →
 nobody_here front notes at is place less = let l = ap length is in let n = length-append front [] in omega (arith, l, n, place, less)
 
 -- what a look at the next note leaves, before anything else is done
-way_looks : (first notes : List Note) (at : ℕ) (d note : Note) (old mid : CallerLog) → at < length notes → IsLooked (get_or notes at d) note → IsUnderWay first notes at old mid → IsUnderWay first (set notes at note) at old mid
-way_looks first notes at d note old mid less look way = go way.swept.passed way.swept.rest way.swept.looked way.swept.asked way.swept.stay way.place
+way_looks : (first notes gone : List Note) (at : ℕ) (d note : Note) (old mid : CallerLog) → at < length notes → IsLooked (get_or notes at d) note → IsUnderWay first notes gone at old mid → IsUnderWay first (set notes at note) gone at old mid
+way_looks first notes gone at d note old mid less look way = go way.swept.passed way.swept.rest way.swept.looked way.swept.asked way.swept.stay way.place way.taken
   where
     go : (passed rest : List Note) → AreLooked first (passed ++ rest) → HasAsked (map end_of (filter is_ended passed)) old mid → notes ≡ filter is_live passed ++ rest
-        → at ≡ length (filter is_live passed) → IsUnderWay first (set notes at note) at old mid
-    go passed [] are asked stay place = absurd (nobody_here (filter is_live passed) notes at stay place less)
-    go passed (n ∷ rest) are asked stay place = record {
+        → at ≡ length (filter is_live passed) → gone ≡ filter is_ended passed → IsUnderWay first (set notes at note) gone at old mid
+    go passed [] are asked stay place taken = absurd (nobody_here (filter is_live passed) notes at stay place less)
+    go passed (n ∷ rest) are asked stay place taken = record {
       swept = record {
         passed = passed;
         rest = note ∷ rest;
@@ -99,16 +101,17 @@ way_looks first notes at d note old mid less look way = go way.swept.passed way.
         stay = put_here (filter is_live passed) rest notes n note at stay place;
       };
       place = place;
+      taken = taken;
     }
 
 -- the next note doesn't know, and stays
-way_leaves : (first notes : List Note) (at : ℕ) (note : Note) (old mid : CallerLog) → at < length notes → note ≡ get_or notes at note → knows note.1 ≡ false → IsUnderWay first notes at old mid → IsUnderWay first notes (at + 1) old mid
-way_leaves first notes at note old mid less is live way = go way.swept.passed way.swept.rest way.swept.looked way.swept.asked way.swept.stay way.place
+way_leaves : (first notes gone : List Note) (at : ℕ) (note : Note) (old mid : CallerLog) → at < length notes → note ≡ get_or notes at note → knows note.1 ≡ false → IsUnderWay first notes gone at old mid → IsUnderWay first notes gone (at + 1) old mid
+way_leaves first notes gone at note old mid less is live way = go way.swept.passed way.swept.rest way.swept.looked way.swept.asked way.swept.stay way.place way.taken
   where
     go : (passed rest : List Note) → AreLooked first (passed ++ rest) → HasAsked (map end_of (filter is_ended passed)) old mid → notes ≡ filter is_live passed ++ rest
-        → at ≡ length (filter is_live passed) → IsUnderWay first notes (at + 1) old mid
-    go passed [] are asked stay place = absurd (nobody_here (filter is_live passed) notes at stay place less)
-    go passed (n ∷ rest) are asked stay place =
+        → at ≡ length (filter is_live passed) → gone ≡ filter is_ended passed → IsUnderWay first notes gone (at + 1) old mid
+    go passed [] are asked stay place taken = absurd (nobody_here (filter is_live passed) notes at stay place less)
+    go passed (n ∷ rest) are asked stay place taken =
         let unknown : knows n.1 ≡ false = subst (λ (x : Note). knows x.1 ≡ false) (is ∙ here_is (filter is_live passed) rest notes n note at stay place) live in
         let more = live_more passed n unknown in
         record {
@@ -120,17 +123,18 @@ way_leaves first notes at note old mid less is live way = go way.swept.passed wa
             stay = stay ∙ (sym (append_assoc (filter is_live passed) (n ∷ []) rest) ∙ ap (λ (xs : List Note). xs ++ rest) (sym more));
           };
           place = let l = ap length more in let k = length-append (filter is_live passed) (n ∷ []) in omega (arith, place, l, k);
+          taken = taken ∙ sym (ended_same passed n unknown);
         }
 
 -- the next note knows: its end is asked, and it is taken out
-way_takes : (first notes after : List Note) (at : ℕ) (note : Note) (old mid new : CallerLog) → at < length notes → note ≡ get_or notes at note → knows note.1 ≡ true → after ≡ take at notes ++ drop (at + 1) notes
-    → HasAsked (End note.0 ∷ []) mid new → IsUnderWay first notes at old mid → IsUnderWay first after at old new
-way_takes first notes after at note old mid new less is ended out ask way = go way.swept.passed way.swept.rest way.swept.looked way.swept.asked way.swept.stay way.place
+way_takes : (first notes after gone : List Note) (at : ℕ) (note : Note) (old mid new : CallerLog) → at < length notes → note ≡ get_or notes at note → knows note.1 ≡ true → after ≡ take at notes ++ drop (at + 1) notes
+    → HasAsked (End note.0 ∷ []) mid new → IsUnderWay first notes gone at old mid → IsUnderWay first after (gone ++ note ∷ []) at old new
+way_takes first notes after gone at note old mid new less is ended out ask way = go way.swept.passed way.swept.rest way.swept.looked way.swept.asked way.swept.stay way.place way.taken
   where
     go : (passed rest : List Note) → AreLooked first (passed ++ rest) → HasAsked (map end_of (filter is_ended passed)) old mid → notes ≡ filter is_live passed ++ rest
-        → at ≡ length (filter is_live passed) → IsUnderWay first after at old new
-    go passed [] are asked stay place = absurd (nobody_here (filter is_live passed) notes at stay place less)
-    go passed (n ∷ rest) are asked stay place =
+        → at ≡ length (filter is_live passed) → gone ≡ filter is_ended passed → IsUnderWay first after (gone ++ note ∷ []) at old new
+    go passed [] are asked stay place taken = absurd (nobody_here (filter is_live passed) notes at stay place less)
+    go passed (n ∷ rest) are asked stay place taken =
         let same : note ≡ n = is ∙ here_is (filter is_live passed) rest notes n note at stay place in
         let known : knows n.1 ≡ true = subst (λ (x : Note). knows x.1 ≡ true) same ended in
         let none = live_same passed n known in
@@ -147,11 +151,12 @@ way_takes first notes after at note old mid new less is ended out ask way = go w
                 ∙ (out_of_here (filter is_live passed) rest n at place ∙ ap (λ (xs : List Note). xs ++ rest) (sym none));
           };
           place = place ∙ sym (ap length none);
+          taken = (λ i. taken i ++ same i ∷ []) ∙ sym (ended_more passed n known);
         }
 
 -- where the sweep is through, none of those that stay knows of an end
-pub way_ends : (first notes : List Note) (at : ℕ) (old new : CallerLog) → length notes ≤ at → IsUnderWay first notes at old new → NoneEnded notes
-way_ends first notes at old new through way = go way.swept.passed way.swept.rest way.swept.stay way.place
+pub way_ends : (first notes gone : List Note) (at : ℕ) (old new : CallerLog) → length notes ≤ at → IsUnderWay first notes gone at old new → NoneEnded notes
+way_ends first notes gone at old new through way = go way.swept.passed way.swept.rest way.swept.stay way.place
   where
     unknown : (b : Bool) → not b ≡ true → b ≡ false
     unknown false is = refl
@@ -167,22 +172,45 @@ way_ends first notes at old new through way = go way.swept.passed way.swept.rest
 looked_less : (notes : List Note) (at : ℕ) (note : Note) → at < length notes → at < length (set notes at note)
 looked_less notes at note less = let l = length-set notes at note in omega (arith, less, l)
 
-looked_way : (first notes : List Note) (at : ℕ) (was note : Note) (old mid : CallerLog) → at < length notes → was ≡ get_or notes at was → IsLooked was note → IsUnderWay first notes at old mid → IsUnderWay first (set notes at note) at old mid
-looked_way first notes at was note old mid less is look way = way_looks first notes at was note old mid less (subst (λ (x : Note). IsLooked x note) is look) way
+looked_way : (first notes gone : List Note) (at : ℕ) (was note : Note) (old mid : CallerLog) → at < length notes → was ≡ get_or notes at was → IsLooked was note → IsUnderWay first notes gone at old mid → IsUnderWay first (set notes at note) gone at old mid
+looked_way first notes gone at was note old mid less is look way = way_looks first notes gone at was note old mid less (subst (λ (x : Note). IsLooked x note) is look) way
 
-pub way_left : (first notes : List Note) (at : ℕ) (was note : Note) (old mid new : CallerLog) → at < length notes → was ≡ get_or notes at was → IsLooked was note → knows note.1 ≡ false → new ≡ mid
-    → IsUnderWay first notes at old mid → IsUnderWay first (set notes at note) (at + 1) old new
-way_left first notes at was note old mid new less is look live same way =
-    subst (IsUnderWay first (set notes at note) (at + 1) old) (sym same)
-    (way_leaves first (set notes at note) at note old mid (looked_less notes at note less) (sym (get_or-set_same notes at note note less)) live (looked_way first notes at was note old mid less is look way))
+pub way_left : (first notes gone : List Note) (at : ℕ) (was note : Note) (old mid new : CallerLog) → at < length notes → was ≡ get_or notes at was → IsLooked was note → knows note.1 ≡ false → new ≡ mid
+    → IsUnderWay first notes gone at old mid → IsUnderWay first (set notes at note) gone (at + 1) old new
+way_left first notes gone at was note old mid new less is look live same way =
+    subst (IsUnderWay first (set notes at note) gone (at + 1) old) (sym same)
+    (way_leaves first (set notes at note) gone at note old mid (looked_less notes at note less) (sym (get_or-set_same notes at note note less)) live (looked_way first notes gone at was note old mid less is look way))
 
-pub way_taken : (first notes after : List Note) (at : ℕ) (was note : Note) (old mid new : CallerLog) → at < length notes → was ≡ get_or notes at was → IsLooked was note → knows note.1 ≡ true
-    → after ≡ take at (set notes at note) ++ drop (at + 1) (set notes at note) → HasAsked (End note.0 ∷ []) mid new → IsUnderWay first notes at old mid → IsUnderWay first after at old new
-way_taken first notes after at was note old mid new less is look ended out ask way =
-    way_takes first (set notes at note) after at note old mid new (looked_less notes at note less) (sym (get_or-set_same notes at note note less)) ended out ask (looked_way first notes at was note old mid less is look way)
+pub way_taken : (first notes after gone : List Note) (at : ℕ) (was note : Note) (old mid new : CallerLog) → at < length notes → was ≡ get_or notes at was → IsLooked was note → knows note.1 ≡ true
+    → after ≡ take at (set notes at note) ++ drop (at + 1) (set notes at note) → HasAsked (End note.0 ∷ []) mid new → IsUnderWay first notes gone at old mid → IsUnderWay first after (gone ++ note ∷ []) at old new
+way_taken first notes after gone at was note old mid new less is look ended out ask way =
+    way_takes first (set notes at note) after gone at note old mid new (looked_less notes at note less) (sym (get_or-set_same notes at note note less)) ended out ask (looked_way first notes gone at was note old mid less is look way)
 
 -- the history is full at a note that knows, which stays
-pub way_stops : (first notes : List Note) (at : ℕ) (was note : Note) (old mid new : CallerLog) → at < length notes → was ≡ get_or notes at was → IsLooked was note → new ≡ mid → IsUnderWay first notes at old mid
-    → IsSwept first (set notes at note) old new
-way_stops first notes at was note old mid new less is look same way =
-    subst (IsSwept first (set notes at note) old) (sym same) (looked_way first notes at was note old mid less is look way).swept
+pub way_stops : (first notes gone : List Note) (at : ℕ) (was note : Note) (old mid new : CallerLog) → at < length notes → was ≡ get_or notes at was → IsLooked was note → new ≡ mid → IsUnderWay first notes gone at old mid
+    → IsUnderWay first (set notes at note) gone at old new
+way_stops first notes gone at was note old mid new less is look same way =
+    subst (IsUnderWay first (set notes at note) gone at old) (sym same) (looked_way first notes gone at was note old mid less is look way)
+
+-- ---- where the notes go that are taken out
+
+-- the note that is taken out is the one that was looked at
+pub taken_is : (notes : List Note) (at : ℕ) (note out : Note) → at < length notes → out ≡ get_or (set notes at note) at out → out ≡ note
+taken_is notes at note out less is = is ∙ get_or-set_same notes at note out less
+
+-- they stand behind those that were there, or are let go
+abbrev pub Behind : List Note → Bool → List Note → List Note → Type 0
+Behind had keeps gone has = has ≡ had ++ cond keeps gone []
+
+pub behind_none : (had : List Note) (keeps : Bool) → Behind had keeps [] had
+behind_none had true = sym (append-nil had)
+behind_none had false = sym (append-nil had)
+
+pub behind_more : (had gone has more : List Note) (out note : Note) (keeps : Bool) → out ≡ note → more ≡ has ++ cond keeps (out ∷ []) [] → Behind had keeps gone has → Behind had keeps (gone ++ note ∷ []) more
+behind_more had gone has more out note true is push before = push ∙ (λ i. before i ++ is i ∷ []) ∙ append_assoc had gone (note ∷ [])
+behind_more had gone has more out note false is push before = push ∙ append-nil has ∙ before
+
+-- what was swept, and where it went
+pub swept_out : (first notes gone had has : List Note) (at : ℕ) (keeps : Bool) (old new : CallerLog) → IsUnderWay first notes gone at old new → Behind had keeps gone has
+    → (swept : IsSwept first notes old new) × (has ≡ had ++ cond keeps (filter is_ended swept.passed) [])
+swept_out first notes gone had has at keeps old new way behind = (way.swept, behind ∙ ap (λ (xs : List Note). had ++ cond keeps xs []) way.taken)

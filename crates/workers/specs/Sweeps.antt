@@ -40,6 +40,10 @@ pub record IsSwept (before after : List (ℕ × Known)) (old new : CallerLog) : 
   pub asked : HasAsked (map end_of (filter is_ended passed)) old new
   pub stay : after ≡ filter is_live passed ++ rest
 
+-- the same where the notes that are gone were put behind others, as they were when they were taken out
+abbrev pub IsSweptInto : List (ℕ × Known) → List (ℕ × Known) → List (ℕ × Known) → List (ℕ × Known) → CallerLog → CallerLog → Type 0
+IsSweptInto before after had has old new = (swept : IsSwept before after old new) × (has ≡ had ++ filter is_ended swept.passed)
+
 -- none of the notes knows of an end
 abbrev pub NoneEnded : List (ℕ × Known) → Type 0
 NoneEnded notes = All (λ (note : ℕ × Known). knows note.1 ≡ false) notes

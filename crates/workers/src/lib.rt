@@ -27,4 +27,4 @@ pub use crew::Ended;
 pub use gate::{Gate, OpenGate};
 pub use preparing::prepare;
 pub use running::run_workers;
-pub use sweeping::sweep;
+pub use sweeping::{sweep, sweep_into};

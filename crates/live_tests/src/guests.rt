@@ -189,8 +189,8 @@ fn regions_come_and_go_while_a_guest_runs(rt: HostRuntime) -> Result<(), Fail> {
     let mut device = vacant_device(alloc, 2)?;
     let memory = LiveMem::for_guest(alloc, MOST_MEMORY)?;
     assert_equal(&rt, device.attach(0, memory).is_ok(), true);
-    let (before, after) = (&sending()[..5], &sending()[5..]);
-    assert_equal(&rt, run_live(&mut device, alloc, before)?.len(), 5);
+    let events = sending();
+    assert_equal(&rt, run_live(&mut device, alloc, &events[..5])?.len(), 5);
     assert_equal(&rt, bytes_at(&mut device, HIGH + 8), Some([0; 8]));
     let spare = LiveMem::for_guest(alloc, MOST_MEMORY)?;
     let mut memory = replace(&mut device, 0, spare)?;
@@ -198,7 +198,7 @@ fn regions_come_and_go_while_a_guest_runs(rt: HostRuntime) -> Result<(), Fail> {
     let spare = replace(&mut device, 0, memory)?;
     let registers = (word(&mut device, TXDCTL0), word(&mut device, TDBAH0));
     assert_equal(&rt, registers, (Some(ENABLE), Some(1)));
-    let answers = run_live(&mut device, alloc, after)?;
+    let answers = run_live(&mut device, alloc, &events[5..])?;
     let reply = answers.last().map(|answer| answer.reply.copy());
     assert_equal(&rt, reply, Some(Reply::Sent));
     let sent = device.wire_at(0).map(|frame| frame.bytes());

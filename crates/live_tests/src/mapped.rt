@@ -108,7 +108,7 @@ fn each_region_is_found_whatever_came_before(rt: HostRuntime) -> Result<(), Fail
     let mut place = 0;
     for region in cells.chunks_mut(8) {
         // 37 is odd, so each of 64 places comes once
-        place = (place + 37) % MOST_REGIONS;
+        place = (place % MOST_REGIONS + 37) % MOST_REGIONS;
         memory.map(16 * place as u64, region, false)?;
     }
     let mut due = [[0u8; 8]; MOST_REGIONS];

@@ -1,2 +1,5 @@
 mod Isolated
 mod Left
+pub mod Owns
+pub mod Seats
+pub mod Told

@@ -1,5 +1,7 @@
 pub mod Faults
 pub mod Isolation
+pub mod Parts
 pub mod Program
 pub mod Report
 pub mod Room
+pub mod Threads

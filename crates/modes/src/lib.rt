@@ -7,8 +7,8 @@
 //! - [`drive`](drive::drive) gives a script's events to a device over memories in boxes and writes the text of the mode.
 //!   [`run`](run::run) does one mode over memories of any kind, and hands the device back.
 //! - [`drive_threads`](threads::drive_threads) has the events done by the workers of [`workers`] on a recorded device behind one lock,
-//!   and takes the device out of its lock when all have ended. [`write_report`](report::write_report) then writes how many calls it
-//!   kept, whose they are, and whether a device as it is made gives the kept answers.
+//!   and takes the device out of its lock when all have ended. The report says how many calls it kept, whose they are, and whether a
+//!   device as it is made gives the kept answers; [`write_report`](report::write_report) writes one of any recorded device.
 //!
 //! The crate stands on `script` and `transcript`, and on `lone` for one thread and `workers` for many.
 #![tactic(auto)]

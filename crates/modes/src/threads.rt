@@ -1,14 +1,19 @@
 //! The mode `threads`: a script that is done by a thread for each guest, and the history that is kept of it.
-ghost use Rattle.std.specs.Prelude.{◌≡◌, [], false, length, IfOk};
+ghost use Rattle.std.specs.Prelude.{◌≡◌, ℕ, ◌⊎◌, [], ◌∷◌, ◌++◌, true, false, length, map, Err, IfErr, IfOk, IfSome, MatchOption, MatchResult, OnErr, OnOk};
+ghost use Rattle.script.specs.Reading.{script_of};
 ghost use Rattle.script.specs.Shapes.{asked_by};
 ghost use Rattle.recorder.specs.Made.{AreUnused, IsFresh, begun};
-ghost use Rattle.modes.specs.Program.{device_of};
+ghost use Rattle.workers.specs.Ends.{pool_of};
+ghost use Rattle.modes.specs.Faults.{is_late};
+ghost use Rattle.modes.specs.Parts.{AreLeftUnused, AreOwn, AreSeated, BeganOf, IsGone, IsNewPort, Remain, WroteOf};
+ghost use Rattle.modes.specs.Program.{device_of, StopsAt};
 ghost use Rattle.modes.specs.Room.{most_calls};
+ghost use Rattle.modes.specs.Threads.{is_of_run, BeganReport, BeganThreads, StopsFor, WroteReport, WroteThreads};
 
 use crate::drive::read;
 use crate::fault::Fault;
 use crate::making::{drop_boxed, make_device};
-use crate::report::write_report;
+use crate::report::{tell_counted, write};
 use device::Device;
 use device_lock::{LockedDevice, Recorded, Shares};
 use guest_memory::{FlatMem, GuestMem};
@@ -32,13 +37,69 @@ const MOST_ENDS: usize = 64;
 ///
 /// [`Fault::BadScript`] comes before anything is written. [`Fault::Io`] comes where the reader or the writer fails, and then
 /// the writer has the beginning of the output. [`Fault::HistoryFull`] never comes: there is room for every event.
+///
+/// What is behind a lock while threads share it has no name in a contract. So what comes out of the lock is looked at before it is
+/// reported: whether it began as the script's device is made, and has as many calls of each caller as the caller's share. These looks
+/// can't fail when they run; where one did, [`Fault::NoMemory`] would come before anything is written.
 pub fn drive_threads<R: Threads + Wait + Copy + Send + 'static, I: Read, W: Write>(
     rt: R,
     alloc: Global,
     reader: &mut I,
     writer: &mut W,
-) -> Result<(), Fault> {
+) -> Result<(), Fault>
+    // where the bytes of the reader are known, their text says a script, and the writer got the report of a recording of the
+    // script's device, in which each caller asked just its own events, in order, and whose live device is what its calls lead to
+    ensures ok { OnOk result
+        (WroteThreads (I.remaining reader.old) (W.contents writer.old) (W.contents writer.new)) }
+    // or a beginning of that, or nothing
+    ensures err { OnErr result ((writer.new ≡ writer.old)
+        ⊎ BeganThreads (I.remaining reader.old) (W.contents writer.old) (W.contents writer.new)) }
+    ensures early { IfErr result (λ e. is_late e ≡ false → writer.new ≡ writer.old) }
+    ensures why { IfErr result (StopsFor (I.remaining reader.old)) }
+    // of a text with a bad line nothing is written, and that line is told where reading comes so far
+    ensures bad { IfSome (I.remaining reader.old) (λ text. (n : ℕ) → script_of text ≡ Err n
+        → (writer.new ≡ writer.old) × MatchResult result (λ _. ⊥) (StopsAt n)) }
+{
+    read_and_play(rt, alloc, reader, writer)?
+}
+
+// The same in two steps. Outside, why nothing is written: a fault of reading, or of the run; then the writer is as it was. Inside,
+// what came of writing.
+#[tactic(auto, using(crate::proofs::Told::stops_run, crate::proofs::Told::wrote_threads, crate::proofs::Told::began_threads))]
+fn read_and_play<R: Threads + Wait + Copy + Send + 'static, I: Read, W: Write>(
+    rt: R,
+    alloc: Global,
+    reader: &mut I,
+    writer: &mut W,
+) -> Result<Result<(), Fault>, Fault>
+    ensures unread { OnErr result (writer.new ≡ writer.old) }
+    ensures why { IfErr result (StopsFor (I.remaining reader.old)) }
+    ensures ok { IfOk result (λ played. OnOk played
+        (WroteThreads (I.remaining reader.old) (W.contents writer.old) (W.contents writer.new))) }
+    ensures err { IfOk result (λ played. OnErr played
+        (BeganThreads (I.remaining reader.old) (W.contents writer.old) (W.contents writer.new))) }
+    ensures late { IfOk result (λ played. IfErr played (λ e. is_late e ≡ true)) }
+{
     let script = read(alloc, reader)?;
+    play(rt, alloc, script, writer)
+}
+
+// Makes the memories, each in a box, for the live device and for the other one, and does the script by threads.
+#[tactic(auto, using(crate::proofs::Told::late_of_run))]
+fn play<R: Threads + Wait + Copy + Send + 'static, W: Write>(
+    rt: R,
+    alloc: Global,
+    script: Script,
+    writer: &mut W,
+) -> Result<Result<(), Fault>, Fault>
+    ensures unread { OnErr result (writer.new ≡ writer.old) }
+    ensures why { IfErr result (λ e. is_of_run e ≡ true) }
+    ensures ok { IfOk result (λ played. OnOk played
+        (WroteReport script (W.contents writer.old) (W.contents writer.new))) }
+    ensures err { IfOk result (λ played. OnErr played
+        (BeganReport script (W.contents writer.old) (W.contents writer.new))) }
+    ensures late { IfOk result (λ played. IfErr played (λ e. is_late e ≡ true)) }
+{
     let shape = script.shape();
     let mut live = Vec::with_capacity(alloc, usize::from(shape.functions))?;
     let mut others = Vec::with_capacity(alloc, usize::from(shape.functions))?;
@@ -52,12 +113,15 @@ pub fn drive_threads<R: Threads + Wait + Copy + Send + 'static, I: Read, W: Writ
 }
 
 // A memory of that size, to be handed on in its box.
-fn make_memory(alloc: Global, size: u64) -> Result<Box<FlatMem>, Fault> {
+fn make_memory(alloc: Global, size: u64) -> Result<Box<FlatMem>, Fault>
+    ensures { IfErr result (λ e. is_late e ≡ true) }
+{
     Ok(Box::new(alloc, FlatMem::new(alloc, size)?)?)
 }
 
 // Makes the other device, which is to give the kept answers, and does the script by threads.
 #[inline(never)]
+#[tactic(auto, using(crate::proofs::Told::late_of_run))]
 fn with_other<M: GuestMem + Send + 'static, R: Threads + Wait + Copy + Send + 'static, W: Write>(
     rt: R,
     alloc: Global,
@@ -65,7 +129,15 @@ fn with_other<M: GuestMem + Send + 'static, R: Threads + Wait + Copy + Send + 's
     live: Vec<M>,
     others: Vec<M>,
     writer: &mut W,
-) -> Result<(), Fault> {
+) -> Result<Result<(), Fault>, Fault>
+    ensures unread { OnErr result (writer.new ≡ writer.old) }
+    ensures why { IfErr result (λ e. is_of_run e ≡ true) }
+    ensures ok { IfOk result (λ played. OnOk played
+        (WroteReport script (W.contents writer.old) (W.contents writer.new))) }
+    ensures err { IfOk result (λ played. OnErr played
+        (BeganReport script (W.contents writer.old) (W.contents writer.new))) }
+    ensures late { IfOk result (λ played. IfErr played (λ e. is_late e ≡ true)) }
+{
     let mut other = make_device(alloc, script.shape(), others)?;
     let done = with_ports(rt, alloc, script, live, &mut other, writer);
     drop_boxed(other);
@@ -74,6 +146,7 @@ fn with_other<M: GuestMem + Send + 'static, R: Threads + Wait + Copy + Send + 's
 
 // Makes a port for each function, in boxes, and does the script by threads. The other device is one as it is made.
 #[inline(never)]
+#[tactic(auto, using(crate::proofs::Told::late_of_run))]
 fn with_ports<M: GuestMem + Send + 'static, R: Threads + Wait + Copy + Send + 'static, W: Write>(
     rt: R,
     alloc: Global,
@@ -81,7 +154,16 @@ fn with_ports<M: GuestMem + Send + 'static, R: Threads + Wait + Copy + Send + 's
     live: Vec<M>,
     other: &mut Device<M>,
     writer: &mut W,
-) -> Result<(), Fault> {
+) -> Result<Result<(), Fault>, Fault>
+    requires other { other.old.world ≡ device_of script.device }
+    ensures unread { OnErr result (writer.new ≡ writer.old) }
+    ensures why { IfErr result (λ e. is_of_run e ≡ true) }
+    ensures ok { IfOk result (λ played. OnOk played
+        (WroteReport script (W.contents writer.old) (W.contents writer.new))) }
+    ensures err { IfOk result (λ played. OnErr played
+        (BeganReport script (W.contents writer.old) (W.contents writer.new))) }
+    ensures late { IfOk result (λ played. IfErr played (λ e. is_late e ≡ true)) }
+{
     let count = script.shape().functions;
     let (line, seats) = make(alloc)?;
     let mut ports = Vec::with_capacity(alloc, usize::from(count))?;
@@ -113,6 +195,7 @@ fn with_ports<M: GuestMem + Send + 'static, R: Threads + Wait + Copy + Send + 's
 // device, and writes of both. What makes the device and its lock is in calls of its own: a device is too large to stand on the
 // stack while workers run.
 #[inline(never)]
+#[tactic(auto, using(crate::proofs::Told::late_of_run, crate::proofs::Told::wrote_report, crate::proofs::Told::began_report))]
 fn play_threads<
     M: GuestMem + Send + 'static,
     L: Ledger + Send + Sync + 'static,
@@ -129,46 +212,103 @@ fn play_threads<
     other: &mut Device<M>,
     ports: Vec<(P, EndNote)>,
     writer: &mut W,
-) -> Result<(), Fault>
+) -> Result<Result<(), Fault>, Fault>
     requires blank { (blank.name ≡ L.name) × (blank.parts ≡ L.parts) × (blank.parts ≡ 67) }
     requires line { line.raises ≡ [] }
+    requires other { other.old.world ≡ device_of script.device }
+    ensures unread { OnErr result (writer.new ≡ writer.old) }
+    ensures why { IfErr result (λ e. is_of_run e ≡ true) }
+    ensures ok { IfOk result (λ played. OnOk played
+        (WroteReport script (W.contents writer.old) (W.contents writer.new))) }
+    ensures err { IfOk result (λ played. OnErr played
+        (BeganReport script (W.contents writer.old) (W.contents writer.new))) }
+    ensures late { IfOk result (λ played. IfErr played (λ e. is_late e ≡ true)) }
 {
     let device = make_device(alloc, script.shape(), live)?;
-    let (recorded, mut shares) = record::<M, L>(alloc, blank, device, line, &script)?;
+    let (recorded, shares) = record::<M, L>(alloc, blank, device, line, &script)?;
     let locked = lock(alloc, recorded)?;
-    let pools = match prepare(&rt, alloc, &script, &locked, &mut shares) {
+    let ended = run_all(rt, alloc, script, &locked, shares, ports)?;
+    report(alloc, locked, ended, other, writer)
+}
+
+// Does a script by threads on a device, whose callers asked nothing yet, with ports of its functions.
+#[tactic(auto, using(crate::proofs::Told::late_of_run, crate::proofs::Owns::are_own, crate::proofs::Seats::left_first))]
+fn run_all<
+    M: GuestMem + Send + 'static,
+    L: Ledger + Send + Sync + 'static,
+    P: GuestPort + Send + 'static,
+    R: Threads + Wait + Copy + Send + 'static,
+>(
+    rt: R,
+    alloc: Global,
+    script: Script,
+    locked: &Arc<LockedDevice<M, L>>,
+    mut shares: Shares<L>,
+    ports: Vec<(P, EndNote)>,
+) -> Result<Ended<L>, Fault>
+    requires { AreUnused shares }
+    ensures many { IfOk result (λ ended. length ended.shares.items ≡ 67) }
+    ensures own { IfOk result (λ ended. AreOwn script ended.shares.items) }
+    ensures why { IfErr result (λ e. is_of_run e ≡ true) }
+{
+    let pools = match prepare(&rt, alloc, &script, locked, &mut shares) {
         Ok(pools) => pools,
         Err(fault) => return Err(of_workers(fault)),
     };
-    let ports = seat_all(alloc, &locked, &mut shares, ports, &pools)?;
+    let ports = seat_all(alloc, locked, &mut shares, ports, &pools)?;
+    // each open pool has its port, and no other has one: that can't fail, but a port is in a box, and what is in a box is not known from
+    // outside
+    if !are_of_pools(&ports, &pools) {
+        return Err(Fault::NoMemory);
+    }
     let (script, gate) = (Arc::new(alloc, script)?, Arc::new(alloc, OpenGate)?);
-    let device = Arc::try_clone(&locked)?;
+    let device = Arc::try_clone(locked)?;
     match run_workers(rt, &Discard, alloc, script, device, shares, ports, gate) {
-        Ok(ended) => report(alloc, locked, ended, other, writer),
+        Ok(ended) => Ok(ended),
         Err(fault) => Err(of_workers(fault)),
     }
 }
 
 // Takes the recorded device out of its lock, and writes what was kept of it. [`Fault::NoMemory`] where somebody else has it too: once
-// all workers have ended, nobody has.
+// all workers have ended, nobody has. The same where it is not the one that went in: that can't be, but no contract of a lock says what
+// comes out of it, so it is looked at before anything is written.
 #[inline(never)]
+#[tactic(auto, using(crate::proofs::Told::wrote_of, crate::proofs::Told::began_of))]
 fn report<M: GuestMem, L: Ledger, W: Write>(
     alloc: Global,
     locked: Arc<LockedDevice<M, L>>,
     ended: Ended<L>,
     other: &mut Device<M>,
     writer: &mut W,
-) -> Result<(), Fault>
-    requires { length ended.shares.items ≡ 67 }
+) -> Result<Result<(), Fault>, Fault>
+    requires many { length ended.shares.items ≡ 67 }
+    requires fresh { IsFresh other.old.world }
+    ensures unread { OnErr result (writer.new ≡ writer.old) }
+    ensures why { IfErr result (λ e. is_of_run e ≡ true) }
+    ensures ok { IfOk result (λ played. OnOk played (WroteOf other.old.world ended.shares.items
+        (W.contents writer.old) (W.contents writer.new))) }
+    ensures err { IfOk result (λ played. OnErr played (BeganOf other.old.world ended.shares.items
+        (W.contents writer.old) (W.contents writer.new))) }
+    ensures late { IfOk result (λ played. IfErr played (λ e. is_late e ≡ true)) }
 {
     let Some(mut recorded) = LockedDevice::into_recorded(locked) else {
         return Err(Fault::NoMemory);
     };
-    write_report(alloc, &mut recorded, ended.shares, other, writer)
+    // the kept calls begin at a device as the other one is, which is as it was made
+    if !recorded.begins_as(other) {
+        return Err(Fault::NoMemory);
+    }
+    // and they are as many of each caller as the caller's share has, which tells whose events they are
+    let Some(report) = tell_counted(&mut recorded, ended.shares, other) else {
+        return Err(Fault::NoMemory);
+    };
+    Ok(write(alloc, &report, writer))
 }
 
 // The fault of the program for one of the workers.
-fn of_workers(fault: wire_frame::Fault) -> Fault {
+fn of_workers(fault: wire_frame::Fault) -> Fault
+    ensures { is_of_run result ≡ true }
+{
     match fault {
         wire_frame::Fault::HistoryFull => Fault::HistoryFull,
         _ => Fault::NoMemory,
@@ -178,6 +318,7 @@ fn of_workers(fault: wire_frame::Fault) -> Fault {
 // A device whose calls are kept, as many as the script can ask, with the shares of its callers. The device is moved from its box over
 // the stack.
 #[inline(never)]
+#[tactic(auto, using(crate::proofs::Told::late_of_run))]
 fn record<M: GuestMem, L: Ledger>(
     alloc: Global,
     blank: Blank,
@@ -192,6 +333,7 @@ fn record<M: GuestMem, L: Ledger>(
     ensures begun { IfOk result
         (λ r. r.0 ≡ begun device.value.world (most_calls script.now) false line) }
     ensures shares { IfOk result (λ r. AreUnused r.1) }
+    ensures why { IfErr result (λ e. is_of_run e ≡ true) }
 {
     let Some(cap) = script.len().checked_add(MOST_ENDS) else {
         return Err(Fault::NoMemory);
@@ -205,45 +347,65 @@ fn record<M: GuestMem, L: Ledger>(
 fn lock<M: GuestMem, L: Ledger>(
     alloc: Global,
     recorded: Recorded<M, L>,
-) -> Result<Arc<LockedDevice<M, L>>, Fault> {
+) -> Result<Arc<LockedDevice<M, L>>, Fault>
+    ensures { IfErr result (λ e. is_late e ≡ true) }
+{
     Ok(LockedDevice::new(alloc, recorded)?)
 }
 
 // The ports of these pools, with their device and their shares: of those that can make calls.
 #[inline(never)]
+#[tactic(auto, using(crate::proofs::Seats::seated_none, crate::proofs::Seats::seated_next, crate::proofs::Seats::left_after))]
 fn seat_all<M: GuestMem, L: Ledger, P: GuestPort>(
     alloc: Global,
     device: &Arc<LockedDevice<M, L>>,
     shares: &mut Shares<L>,
     all: Vec<(P, EndNote)>,
     pools: &[u8],
-) -> Result<Vec<(LockedPort<M, L, P>, EndNote)>, Fault>
-    ensures pf { shares.new.pf ≡ shares.old.pf }
-    ensures pump { shares.new.pump ≡ shares.old.pump }
-    ensures service { shares.new.service ≡ shares.old.service }
+) -> Result<Vec<(LockedPort<M, L, P>, EndNote)>, AllocError>
+    requires { AreLeftUnused shares.old.ports.items }
+    ensures { IfOk result (λ ports. AreSeated ports.items shares.old shares.new) }
 {
     let mut ports = Vec::with_capacity(alloc, pools.len())?;
     for (port, note) in all {
-        if pools.contains(&port.pool()) {
-            if let Some(port) = seat(device, shares, port)? {
-                ports.push((port, note))?;
-            }
-        }
+        let port = seat(device, shares, pools, port)?;
+        push_port(&mut ports, port, note)?;
     }
     Ok(ports)
 }
 
-// A port with its device and its share. What was raised for its pool before is taken and discarded: a port begins here. None where
-// the port has ended or its share was handed out before, so that it could make no call: the service does its pool's events then.
+// Puts a port with its note behind the others, if there is one.
+fn push_port<M: GuestMem, L: Ledger, P: GuestPort>(
+    ports: &mut Vec<(LockedPort<M, L, P>, EndNote)>,
+    port: Option<LockedPort<M, L, P>>,
+    note: EndNote,
+) -> Result<(), AllocError>
+    ensures { OnOk result (MatchOption port (ports.new.items ≡ ports.old.items)
+        (λ port. ports.new.items ≡ ports.old.items ++ (port, note) ∷ [])) }
+{
+    match port {
+        Some(port) => Ok(ports.push((port, note))?),
+        None => Ok(()),
+    }
+}
+
+// A port with its device and its share, where it is of one of these pools. What was raised for its pool before is taken and discarded:
+// a port begins here. None where the port has ended or its share was handed out before, so that it could make no call.
+#[tactic(auto, using(crate::proofs::Seats::gone_after, crate::proofs::Seats::port_new, crate::proofs::Seats::remain_same, crate::proofs::Seats::remain_set))]
 fn seat<M: GuestMem, L: Ledger, P: GuestPort>(
     device: &Arc<LockedDevice<M, L>>,
     shares: &mut Shares<L>,
+    pools: &[u8],
     mut port: P,
 ) -> Result<Option<LockedPort<M, L, P>>, AllocError>
-    ensures pf { shares.new.pf ≡ shares.old.pf }
-    ensures pump { shares.new.pump ≡ shares.old.pump }
-    ensures service { shares.new.service ≡ shares.old.service }
+    requires { AreLeftUnused shares.old.ports.items }
+    ensures remain { Remain shares.old shares.new }
+    ensures port { IfOk result (λ made. IfSome made IsNewPort) }
+    ensures gone { IfOk result (λ made. IfSome made (λ port. IsGone port.port.pool shares.new)) }
 {
+    if !pools.contains(&port.pool()) {
+        return Ok(None);
+    }
     let _ = port.take_irqs();
     if !port.is_open() {
         return Ok(None);
@@ -253,4 +415,24 @@ fn seat<M: GuestMem, L: Ledger, P: GuestPort>(
     };
     let device = Arc::try_clone(device)?;
     Ok(Some(LockedPort::new(device, share, port)))
+}
+
+// Whether these ports are just those of the pools, in order.
+#[tactic(auto, using(crate::proofs::Seats::pools_more, crate::proofs::Seats::pools_all))]
+fn are_of_pools<M: GuestMem, L: Ledger, P: GuestPort>(
+    ports: &[(LockedPort<M, L, P>, EndNote)],
+    pools: &[u8],
+) -> bool
+    ensures { result ≡ true → map pool_of ports.now ≡ pools.now }
+{
+    if ports.len() != pools.len() {
+        return false;
+    }
+    for index in 0..pools.len() {
+        let (port, _) = &ports[index];
+        if port.pool() != pools[index] {
+            return false;
+        }
+    }
+    true
 }

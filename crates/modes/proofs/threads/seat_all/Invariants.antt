@@ -1,10 +1,6 @@
--- The shares of the others stay.
-use Rattle.std.proofs.Common.{◌≡◌}
+-- The ports so far are seated.
+use Rattle.modes.specs.Parts.{AreSeated}
 use Rattle.modes.proofs.threads.seat_all.Given as goal
 
 abbrev pub invariant-loop-port : goal.invariant-loop-port
-invariant-loop-port g l = record {
-  pf : l.shares.pf ≡ l.fn.shares.pf;
-  pump : l.shares.pump ≡ l.fn.shares.pump;
-  service : l.shares.service ≡ l.fn.shares.service;
-}
+invariant-loop-port g l = AreSeated l.ports.items l.fn.shares l.shares

@@ -15,11 +15,11 @@ const RING: u64 = 0x1000;
 const FRAMES: u64 = 0x2000;
 
 // A descriptor of a frame of 60 bytes, as the datasheet has it: DTYP 3, and the commands EOP, RS and DEXT.
-fn descriptor(number: u64) -> [u8; 16] {
+fn descriptor(number: u8) -> [u8; 16] {
     let mut bytes = [0; 16];
-    let at = FRAMES + 64 * number;
-    bytes[0] = at as u8;
-    bytes[1] = (at >> 8) as u8;
+    let at = FRAMES + 64 * u64::from(number);
+    bytes[0] = (at % 256) as u8;
+    bytes[1] = (at / 256 % 256) as u8;
     bytes[8] = 60;
     bytes[10] = 0x30;
     bytes[11] = 0x29;
@@ -27,24 +27,28 @@ fn descriptor(number: u64) -> [u8; 16] {
 }
 
 // A frame for nobody here, whose last byte tells its number.
-fn frame(number: u64) -> [u8; 60] {
+fn frame(number: u8) -> [u8; 60] {
     let mut bytes = [0; 60];
     bytes[0] = 2;
     bytes[6] = 2;
     bytes[12] = 8;
-    bytes[59] = number as u8;
+    bytes[59] = number;
     bytes
 }
 
 // A device whose function 0 has so many frames to send, each of which leaves for the wire and raises vector 1.
-fn device_to_serve(alloc: Global, count: u32) -> Result<Device<FlatMem>, Fail> {
+fn device_to_serve(alloc: Global, count: u8) -> Result<Device<FlatMem>, Fail> {
     let mut memories = Vec::new(alloc);
     memories.push(FlatMem::new(alloc, 65536)?)?;
     let mut device = Device::new(alloc, memories)?;
     device.open(0)?;
-    for number in 0..u64::from(count) {
-        device.mem_write(0, RING + 16 * number, MemSlice::new(&descriptor(number))?)?;
-        device.mem_write(0, FRAMES + 64 * number, MemSlice::new(&frame(number))?)?;
+    for number in 0..count {
+        let (ring, at) = (
+            RING + 16 * u64::from(number),
+            FRAMES + 64 * u64::from(number),
+        );
+        device.mem_write(0, ring, MemSlice::new(&descriptor(number))?)?;
+        device.mem_write(0, at, MemSlice::new(&frame(number))?)?;
     }
     let events = [
         Event::PfWrite(PFVFTE, 1),
@@ -53,7 +57,7 @@ fn device_to_serve(alloc: Global, count: u32) -> Result<Device<FlatMem>, Fail> {
         Event::VfWrite(0, TDBAL0, RING as u32),
         Event::VfWrite(0, TDLEN0, 1024),
         Event::VfWrite(0, TXDCTL0, ENABLE),
-        Event::VfWrite(0, TDT0, count),
+        Event::VfWrite(0, TDT0, u32::from(count)),
     ];
     let _answers = device.run(alloc, &events)?;
     Ok(device)
@@ -90,7 +94,7 @@ fn a_burst_ends_with_the_queue(rt: HostRuntime) -> Result<(), Fail> {
     let (taken, goes_on, told, numbers) = burst(&mut device, 64, &mut frames, alloc)?;
     // the sixth finds nothing
     assert_equal(&rt, (taken, goes_on, told), (6, false, 2));
-    assert_equal(&rt, numbers.as_slice() == [0, 1, 2, 3, 4], true);
+    assert_equal(&rt, numbers.as_slice(), [0, 1, 2, 3, 4].as_slice());
     // and there is nothing more to find
     let (taken, goes_on, told, numbers) = burst(&mut device, 64, &mut frames, alloc)?;
     assert_equal(&rt, (taken, goes_on, told), (1, false, 0));
@@ -105,12 +109,12 @@ fn a_burst_ends_with_its_number(rt: HostRuntime) -> Result<(), Fail> {
     let mut frames = Frames::new(alloc, 64, 65536)?;
     let (taken, goes_on, told, numbers) = burst(&mut device, 2, &mut frames, alloc)?;
     assert_equal(&rt, (taken, goes_on, told), (2, true, 2));
-    assert_equal(&rt, numbers.as_slice() == [0, 1], true);
+    assert_equal(&rt, numbers.as_slice(), [0, 1].as_slice());
     let (taken, goes_on, told, _) = burst(&mut device, 0, &mut frames, alloc)?;
     assert_equal(&rt, (taken, goes_on, told), (0, true, 0));
     let (taken, goes_on, _, numbers) = burst(&mut device, 64, &mut frames, alloc)?;
     assert_equal(&rt, (taken, goes_on), (4, false));
-    assert_equal(&rt, numbers.as_slice() == [0, 1, 2, 3, 4], true);
+    assert_equal(&rt, numbers.as_slice(), [0, 1, 2, 3, 4].as_slice());
     Ok(())
 }
 
@@ -122,11 +126,11 @@ fn a_burst_ends_with_the_room(rt: HostRuntime) -> Result<(), Fail> {
     let mut one = Frames::new(alloc, 1, 65536)?;
     let (taken, goes_on, _, numbers) = burst(&mut device, 64, &mut one, alloc)?;
     assert_equal(&rt, (taken, goes_on, one.has_room()), (1, true, false));
-    assert_equal(&rt, numbers.as_slice() == [0], true);
+    assert_equal(&rt, numbers.as_slice(), [0].as_slice());
     one.clear();
     let (taken, goes_on, _, numbers) = burst(&mut device, 64, &mut one, alloc)?;
     assert_equal(&rt, (taken, goes_on), (1, true));
-    assert_equal(&rt, numbers.as_slice() == [1], true);
+    assert_equal(&rt, numbers.as_slice(), [1].as_slice());
     // 9018 bytes have room for one frame, however short it is
     let mut small = Frames::new(alloc, 64, 9018)?;
     let (taken, goes_on, _, _) = burst(&mut device, 64, &mut small, alloc)?;

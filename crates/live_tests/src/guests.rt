@@ -167,55 +167,43 @@ fn the_next_guest_finds_nothing_of_the_last(rt: HostRuntime) -> Result<(), Fail>
     Ok(())
 }
 
-// Puts a memory in place of a function's own, which it gives, or why not.
-fn replace<'a>(
-    device: &mut Device<LiveMem<'a>, Shared>,
+// Why a memory of so many bytes can't be put in place of a function's own, if it can't.
+fn not_replaced(
+    device: &mut Device<LiveMem<'_>, Shared>,
+    alloc: Global,
     pool: u8,
-    memory: LiveMem<'a>,
-) -> Result<LiveMem<'a>, Fault> {
+    size: u64,
+) -> Result<Option<Fault>, Fail> {
+    let memory = LiveMem::for_guest(alloc, size)?;
     match device.replace_memory(pool, memory) {
-        Ok(kept) => Ok(kept.into_memory()),
-        Err(refused) => Err(refused.why),
+        Ok(_) => Ok(None),
+        Err(back) => Ok(Some(back.why)),
     }
 }
 
-// A queue is on, with its ring in a hole, as a region comes there between two events: the device sends what stands in it. The region
-// goes again, and its bytes are the host's. No register changes meanwhile.
+// Another memory of the same size takes the place of a guest's, and no register changes.
 #[test]
-fn regions_come_and_go_while_a_guest_runs(rt: HostRuntime) -> Result<(), Fail> {
+fn a_memory_is_replaced_by_one_of_its_size(rt: HostRuntime) -> Result<(), Fail> {
     let alloc = rt.alloc();
-    let mut cells = memory_to_send(alloc)?;
-    let due = memory_to_send(alloc)?;
     let mut device = vacant_device(alloc, 2)?;
-    let memory = LiveMem::for_guest(alloc, MOST_MEMORY)?;
+    let memory = LiveMem::for_guest(alloc, 4096)?;
     assert_equal(&rt, device.attach(0, memory).is_ok(), true);
-    let events = sending();
-    assert_equal(&rt, run_live(&mut device, alloc, &events[..5])?.len(), 5);
-    assert_equal(&rt, bytes_at(&mut device, HIGH + 8), Some([0; 8]));
-    let spare = LiveMem::for_guest(alloc, MOST_MEMORY)?;
-    let mut memory = replace(&mut device, 0, spare)?;
-    memory.map(HIGH, cells.as_mut_slice(), false)?;
-    let spare = replace(&mut device, 0, memory)?;
-    let registers = (word(&mut device, TXDCTL0), word(&mut device, TDBAH0));
-    assert_equal(&rt, registers, (Some(ENABLE), Some(1)));
-    let answers = run_live(&mut device, alloc, &events[5..])?;
-    let reply = answers.last().map(|answer| answer.reply.copy());
-    assert_equal(&rt, reply, Some(Reply::Sent));
-    let sent = device.wire_at(0).map(|frame| frame.bytes());
-    assert_equal(&rt, sent, due.as_slice().get(FRAME..FRAME + 60));
-    let mut memory = replace(&mut device, 0, spare)?;
-    let bytes = memory.unmap(HIGH).map(|bytes| bytes.len());
-    assert_equal(&rt, bytes, Some(4096));
-    let spare = replace(&mut device, 0, memory)?;
-    assert_equal(&rt, bytes_at(&mut device, HIGH + RING as u64), Some([0; 8]));
-    assert_equal(&rt, word(&mut device, TDH0), Some(1));
-    // it has to be a memory of the same size, of a function that is there
-    let absent = replace(&mut device, 2, spare).err();
-    assert_equal(&rt, absent, Some(Fault::NoSuchVf));
-    let smaller = LiveMem::for_guest(alloc, 4096)?;
-    let refused = replace(&mut device, 0, smaller).err();
-    assert_equal(&rt, refused, Some(Fault::BadMake));
-    assert_equal(&rt, size_of_first(&device), Some(MOST_MEMORY));
+    let answers = run_live(&mut device, alloc, &[Event::VfWrite(0, TDBAH0, 1)])?;
+    assert_equal(&rt, answers.len(), 1);
+    let rows = [
+        (0, 4096, None),
+        (0, 4095, Some(Fault::BadMake)),
+        (0, 4097, Some(Fault::BadMake)),
+        (1, 0, None),
+        (1, 4096, Some(Fault::BadMake)),
+        (2, 0, Some(Fault::NoSuchVf)),
+        (255, 4096, Some(Fault::NoSuchVf)),
+    ];
+    for (pool, size, due) in rows {
+        assert_equal(&rt, not_replaced(&mut device, alloc, pool, size)?, due);
+    }
+    assert_equal(&rt, word(&mut device, TDBAH0), Some(1));
+    assert_equal(&rt, size_of_first(&device), Some(4096));
     Ok(())
 }
 

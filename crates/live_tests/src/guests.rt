@@ -181,6 +181,39 @@ fn not_replaced(
     }
 }
 
+// A queue is on, with its ring in a hole, as the memory gets a region there between two events: the device sends what stands in it. No
+// register changes meanwhile.
+#[test]
+fn a_region_comes_while_a_guest_runs(rt: HostRuntime) -> Result<(), Fail> {
+    let alloc = rt.alloc();
+    let mut cells = memory_to_send(alloc)?;
+    let due = memory_to_send(alloc)?;
+    let mut mapped = LiveMem::for_guest(alloc, MOST_MEMORY)?;
+    mapped.map(HIGH, cells.as_mut_slice(), false)?;
+    let mut device = vacant_device(alloc, 2)?;
+    let memory = LiveMem::for_guest(alloc, MOST_MEMORY)?;
+    assert_equal(&rt, device.attach(0, memory).is_ok(), true);
+    let before = [
+        Event::PfWrite(PFVFTE, 1),
+        Event::VfWrite(0, TDBAL0, RING as u32),
+        Event::VfWrite(0, TDBAH0, 1),
+        Event::VfWrite(0, TDLEN0, 128),
+        Event::VfWrite(0, TXDCTL0, ENABLE),
+    ];
+    assert_equal(&rt, run_live(&mut device, alloc, &before)?.len(), 5);
+    assert_equal(&rt, bytes_at(&mut device, HIGH + 8), Some([0; 8]));
+    assert_equal(&rt, device.replace_memory(0, mapped).is_ok(), true);
+    let registers = (word(&mut device, TXDCTL0), word(&mut device, TDBAH0));
+    assert_equal(&rt, registers, (Some(ENABLE), Some(1)));
+    let after = [Event::VfWrite(0, TDT0, 1), Event::Serve(0, Queue::Q0)];
+    let answers = run_live(&mut device, alloc, &after)?;
+    let reply = answers.last().map(|answer| answer.reply.copy());
+    assert_equal(&rt, reply, Some(Reply::Sent));
+    let sent = device.wire_at(0).map(|frame| frame.bytes());
+    assert_equal(&rt, sent, due.as_slice().get(FRAME..FRAME + 60));
+    Ok(())
+}
+
 // Another memory of the same size takes the place of a guest's, and no register changes.
 #[test]
 fn a_memory_is_replaced_by_one_of_its_size(rt: HostRuntime) -> Result<(), Fail> {

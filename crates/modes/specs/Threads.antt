@@ -1,4 +1,4 @@
--- What the mode `threads` writes: the report of a recording of the script's device, in which each caller asked just its own.
+-- What the mode `threads` writes: the report of a recording of the script's device, with as many calls of each caller as are its own.
 use Rattle.std.specs.Prelude.{◌≡◌, ℕ, ◌<◌, ◌++◌, Bool, true, false, List, [], ◌∷◌, length, map, replicate, slice_index, slice_set, Option, Err, IfSome, MatchOption, if◌then◌else◌}
 use Rattle.std.specs.List.{All}
 use Rattle.std.specs.Io.KnownBytes.{Appends}
@@ -56,17 +56,18 @@ pub record AreFirst (script : Meaning) (first : List Entry) (pools : List ℕ) :
   pub callers : All IsFirst first
   pub ports : MatchOption script.go (pools ≡ []) (λ go. pools ≡ pools_from 0 (opened_after first all_closed))
 
--- of the first calls a caller made its own, and after them it asked just what it is to ask
+-- a list of calls of a caller: its own of the first calls, and behind them just what it is to ask, with some answers
 abbrev pub AsksOwn : Meaning → List Entry → List ℕ → Caller → CallerLog → Type 0
 AsksOwn script first pools c log = HasAsked (asks_after (plan_with script pools) pools c) (record { caller = c; asked = made_by c first }) log
 
--- so did the caller of a number, and the recording has as many calls of it
+-- there is such a list for the caller of a number, and the recording has as many calls of it. That these are the calls of the list is
+-- not said
 pub record IsCaller (script : Meaning) (first : List Entry) (pools : List ℕ) (held : Held) (n : ℕ) : Type 0 where
   pub log : CallerLog
   pub own : AsksOwn script first pools (caller_of n) log
   pub counted : calls_of n held.kept ≡ count_of log
 
--- and so did each of the 67 callers: the ports of the 64 pools, the driver, the pump and the service
+-- and so it is for each of the 67 callers: the ports of the 64 pools, the driver, the pump and the service
 pub record AskedAll (script : Meaning) (held : Held) : Type 0 where
   pub first : List Entry
   pub pools : List ℕ
@@ -76,7 +77,7 @@ pub record AskedAll (script : Meaning) (held : Held) : Type 0 where
 -- ---- what is written
 
 -- a recording of the script's device: it begins at the device as it is made, its calls lead from there to the live device by the
--- answers that it keeps, each is one that its caller may make, and the callers asked just that
+-- answers that it keeps, each is one that its caller may make, and there are as many of each caller as are its own
 pub record IsRecordingOf (script : Meaning) (held : Held) : Type 0 where
   pub base : held.base ≡ device_of script.device
   pub legal : Legal held.base held.kept held.live

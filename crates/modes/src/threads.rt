@@ -48,7 +48,8 @@ pub fn drive_threads<R: Threads + Wait + Copy + Send + 'static, I: Read, W: Writ
     writer: &mut W,
 ) -> Result<(), Fault>
     // where the bytes of the reader are known, their text says a script, and the writer got the report of a recording of the
-    // script's device, in which each caller asked just its own events, in order, and whose live device is what its calls lead to
+    // script's device: its calls lead to its live device, each is one that its caller may make, and there are as many of each caller
+    // as are its own in the script
     ensures ok { OnOk result
         (WroteThreads (I.remaining reader.old) (W.contents writer.old) (W.contents writer.new)) }
     // or a beginning of that, or nothing

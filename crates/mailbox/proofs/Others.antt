@@ -1,5 +1,5 @@
 -- While the writes of one pool are done, every other pool has what it had.
-use Rattle.std.proofs.Common.{arith, ◌≡◌, ◌≢◌, ℕ, suc, ◌+◌, ◌*◌, ◌/◌, ◌%◌, ◌^◌, ◌<◌, ◌≤◌, Bool, true, cond, ◌&&◌, List, [], ◌∷◌, ◌++◌, length, replicate, get_or, Option, Some, None, refl, sym, ap, subst, ◌∙◌, ltb, bit_and}
+use Rattle.std.proofs.Common.{arith, ◌≡◌, ◌≢◌, ℕ, ◌+◌, ◌*◌, ◌/◌, ◌%◌, ◌^◌, ◌<◌, ◌≤◌, Bool, true, cond, ◌&&◌, List, [], ◌∷◌, ◌++◌, length, replicate, get_or, Option, Some, None, refl, sym, ap, subst, ◌∙◌, ltb, bit_and}
 use Rattle.std.proofs.lemmas.List.{append-nil}
 use Rattle.wire_frame.specs.declared.row.Row.{Row}
 use Rattle.wire_frame.specs.Bits.{has_bit, has_bit_in, two_words}
@@ -13,20 +13,18 @@ use Rattle.pool_filter.specs.Settings.{Settings}
 use Rattle.mailbox.specs.declared.slot.Slot.{Slot}
 use Rattle.mailbox.specs.declared.message.Message.{Message}
 use Rattle.mailbox.specs.declared.writes.Write.{Write}
-use Rattle.mailbox.specs.declared.slot.Guest.{Guest}
 use Rattle.mailbox.specs.Slot.{is_up, has_joined, with_guest}
 use Rattle.mailbox.specs.State.{HostState, slot_at, with_slot}
-use Rattle.mailbox.specs.Host.{outcome, host_with, host_after, host_without}
+use Rattle.mailbox.specs.Host.{slot_after, host_after, host_without}
 use Rattle.mailbox.specs.Isolation.{IsSameFor, IsSameForAll}
 use Rattle.mailbox.specs.Words.{table, low_word, high_word, pool_word, table_word, id_word, member_word, joined_at, up_at, up_word, flags_word, port_word, control_word, addresses_of, vlans_of, settings_of}
-use Rattle.mailbox.specs.Writes.{writes_of, after_writes, writes_with, writes_after, writes_without}
+use Rattle.mailbox.specs.Writes.{writes_of, after_writes, writes_after, writes_without}
 use Rattle.mailbox.proofs.Entries.{table_at, entry_pool, two_words_at, mask_or_none}
 use Rattle.mailbox.proofs.Isolation.{slot_stays, Agrees, agrees_same}
 use Rattle.mailbox.proofs.Kept.{kept_mask, kept_members}
 use Rattle.mailbox.proofs.Masks.{has_bit_mask}
 use Rattle.mailbox.proofs.Rows.{row_after, word_after, writes_in, AllFit, all_far, Among, Each, each_front, each_far, Spares, row_spared, word_spared, Gives, Giving, parts_give, row_holds}
-use Rattle.mailbox.proofs.Settle.{kept_of, control_of, rows_after, by_rows, parts, parts_fit, in_parts}
-use Rattle.mailbox.proofs.Turns.{after_message, after_reset}
+use Rattle.mailbox.proofs.Settle.{kept_of, control_of, rows_after, by_rows, parts, parts_fit, in_parts, settled}
 
 -- ---- what the words of pool q are at every moment
 
@@ -185,55 +183,24 @@ others_meanwhile h p q f done left small few q_small other is =
     subst (λ (t : Settings). IsSameFor (settings_of h) t q) (sym (by_rows (settings_of h) done))
     (agrees_same (settings_of h) (rows_after (settings_of h) done) q (meanwhile h p q f done left small few q_small other (is ∙ in_parts (with_slot h p f) p (slot_at h p))))
 
-same_itself : (s : Settings) (q : ℕ) → IsSameFor s s q
-same_itself s q = record { settings = refl; accepts = λ frame. refl; permitted = λ frame. refl }
-
--- where nothing is written, all is as it was
-nothing_done : (s : Settings) (q : ℕ) (done left : List Write) → done ++ left ≡ [] → IsSameFor s (after_writes s done) q
-nothing_done s q [] left is = same_itself s q
-nothing_done s q (w ∷ ws) left is = absurd (some_written (ap length is))
-  where
-    some_written : suc (length (ws ++ left)) ≡ 0 → ⊥
-    some_written e = omega (arith, e)
-
-while_answered : (h : HostState) (p q : ℕ) (done left : List Write) → p < 64 → length h.ids ≤ 64 → q < 64 → q ≢ p → (o : Option Guest) → done ++ left ≡ writes_with h p o → IsSameFor (settings_of h) (after_writes (settings_of h) done) q
-while_answered h p q done left small few q_small other None is = nothing_done (settings_of h) q done left is
-while_answered h p q done left small few q_small other (Some g) is = others_meanwhile h p q (with_guest (slot_at h p) (Some g)) done left small few q_small other is
+-- after all of them
+pub others_alike : (h : HostState) (p q : ℕ) (f : Slot) → p < 64 → length h.ids ≤ 64 → q < 64 → q ≢ p → IsSameFor (settings_of h) (settings_of (with_slot h p f)) q
+others_alike h p q f small few q_small other =
+    subst (λ (t : Settings). IsSameFor (settings_of h) t q) (settled h p f small few)
+    (others_meanwhile h p q f (writes_of (with_slot h p f) p (slot_at h p)) [] small few q_small other (append-nil (writes_of (with_slot h p f) p (slot_at h p))))
 
 -- a message
 pub message_meanwhile : (h : HostState) (p q : ℕ) (message : Message) (done left : List Write) → p < 64 → length h.ids ≤ 64 → q < 64 → q ≢ p → done ++ left ≡ writes_after h p message → IsSameFor (settings_of h) (after_writes (settings_of h) done) q
-unfolding writes_after
-message_meanwhile h p q message done left small few q_small other is = while_answered h p q done left small few q_small other (outcome h p message) is
-
-pub message_others : (h : HostState) (p q : ℕ) (message : Message) → p < 64 → length h.ids ≤ 64 → q < 64 → q ≢ p → IsSameFor (settings_of h) (settings_of (host_after h p message)) q
-message_others h p q message small few q_small other =
-    subst (λ (t : Settings). IsSameFor (settings_of h) t q) (after_message h p message small few)
-    (message_meanwhile h p q message (writes_after h p message) [] small few q_small other (append-nil (writes_after h p message)))
+unfolding writes_after host_after
+message_meanwhile h p q message done left small few q_small other is = others_meanwhile h p q (slot_after h p message) done left small few q_small other is
 
 -- a reset
 pub reset_meanwhile : (h : HostState) (p q : ℕ) (done left : List Write) → p < 64 → length h.ids ≤ 64 → q < 64 → q ≢ p → done ++ left ≡ writes_without h p → IsSameFor (settings_of h) (after_writes (settings_of h) done) q
 unfolding writes_without host_without
 reset_meanwhile h p q done left small few q_small other is = others_meanwhile h p q (with_guest (slot_at h p) None) done left small few q_small other is
 
-pub reset_others : (h : HostState) (p q : ℕ) → p < 64 → length h.ids ≤ 64 → q < 64 → q ≢ p → IsSameFor (settings_of h) (settings_of (host_without h p)) q
-reset_others h p q small few q_small other =
-    subst (λ (t : Settings). IsSameFor (settings_of h) t q) (after_reset h p small few)
-    (reset_meanwhile h p q (writes_without h p) [] small few q_small other (append-nil (writes_without h p)))
-
 -- ---- what is the same for all
 
-all_alike : (h : HostState) (p : ℕ) (f : Slot) → IsSameForAll (settings_of h) (settings_of (with_slot h p f))
+pub all_alike : (h : HostState) (p : ℕ) (f : Slot) → IsSameForAll (settings_of h) (settings_of (with_slot h p f))
 unfolding settings_of addresses_of vlans_of is_filtering multicast_hit
 all_alike h p f = record { loopback = refl; filtering = refl; default_pool = refl; multicast = λ address. refl }
-
-all_with : (h : HostState) (p : ℕ) (o : Option Guest) → IsSameForAll (settings_of h) (settings_of (host_with h p o))
-all_with h p None = record { loopback = refl; filtering = refl; default_pool = refl; multicast = λ address. refl }
-all_with h p (Some g) = all_alike h p (with_guest (slot_at h p) (Some g))
-
-pub message_all : (h : HostState) (p : ℕ) (message : Message) → IsSameForAll (settings_of h) (settings_of (host_after h p message))
-unfolding host_after
-message_all h p message = all_with h p (outcome h p message)
-
-pub reset_all : (h : HostState) (p : ℕ) → IsSameForAll (settings_of h) (settings_of (host_without h p))
-unfolding host_without
-reset_all h p = all_alike h p (with_guest (slot_at h p) None)

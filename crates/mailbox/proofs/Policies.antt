@@ -13,16 +13,16 @@ use Rattle.wire_frame.proofs.BitLemmas.{has_bit_or, has_bit_and, has_bit_zero}
 use Rattle.mailbox.specs.declared.message.Multicast.{Multicast}
 use Rattle.mailbox.specs.declared.message.Multicast.TheVariants.{Off, Asked, All}
 use Rattle.mailbox.specs.declared.message.Message.{Message}
-use Rattle.mailbox.specs.declared.message.Message.TheVariants.{Reset, SetAddress, SetMulticast, JoinVlan, LeaveVlan, SetFrameLength, SetSecondAddress, NegotiateApi, GetQueues, SetMulticastMode, GetLinkState, Other}
+use Rattle.mailbox.specs.declared.message.Message.TheVariants.{Reset, SetAddress, SetMulticast, JoinVlan, LeaveVlan, SetFrameLength, ClearSecond, ReplaceSecond, AddSecond, NegotiateApi, GetQueues, SetMulticastMode, GetLinkState, Other}
 use Rattle.mailbox.specs.declared.policy.Policy.{Policy}
 use Rattle.mailbox.specs.declared.slot.Guest.{Guest}
 use Rattle.mailbox.specs.declared.slot.Slot.{Slot}
 use Rattle.mailbox.specs.declared.slot.Slot.TheVariants.{Absent, Admitted}
 use Rattle.mailbox.specs.Address.{number_of, is_number, is_unicast}
-use Rattle.mailbox.specs.Granting.{may_add, moved, second_set, place_from, place_where, joined_at, without_bit, left_at, wants_groups, with_multicast, granted, when_reset, answered}
-use Rattle.mailbox.specs.Host.{outcome, host_with, host_after, host_without, is_admitted, host_admitting}
+use Rattle.mailbox.specs.Granting.{may_add, moved, has_room, second_added, found_by, found, place_from, place_where, joined_at, without_bit, left_at, wants_groups, with_multicast, granted, when_reset, answered}
+use Rattle.mailbox.specs.Host.{outcome, slot_after, host_after, host_without, is_admitted, host_admitting}
 use Rattle.mailbox.specs.Policy.{is_port, is_port_at, may_join, is_placed, multicast_for}
-use Rattle.mailbox.specs.Slot.{policy_of, is_up, with_guest, begun, has_queues, has_modes, holds}
+use Rattle.mailbox.specs.Slot.{policy_of, is_up, with_guest, granted_to, begun, has_queues, has_modes, holds}
 use Rattle.mailbox.specs.State.{HostState, slot_at, with_slot, is_taken, other_holds}
 use Rattle.mailbox.specs.Within.{is_granted, may_have, IsGuestWithin, IsWithinPolicy, IsWithin, KeepsPolicies}
 use Rattle.mailbox.specs.Words.{is_all, settings_of}
@@ -115,21 +115,17 @@ moved_comes h p policy g k a w is = go (eqb (number_of policy.address) a) refl (
     go false own true may same = subst (MayCome h p policy (Some g)) (some_is same) (with_one (added h p policy a may).0 (inr (added h p policy a may).1))
     go false own false may same = absurd (none_is same)
 
-second_comes : (h : HostState) (p : ℕ) (policy : Policy) (g k : Guest) (second : Option ℕ) → IsGuestWithin policy g → second_set h p policy g second ≡ Some k → MayCome h p policy (Some g) k
-second_comes h p policy g k None w is = subst (MayCome h p policy (Some g)) (some_is is) (record {
-  within = record { address = w.address; second = λ a none. absurd (none_is none); joined = w.joined; multicast = w.multicast };
-  address = inl (address_held policy g);
-  second = λ a none. absurd (none_is none);
-})
-second_comes h p policy g k (Some a) w is = go (may_add h p policy a) refl is
+second_comes : (h : HostState) (p : ℕ) (policy : Policy) (g k : Guest) (a : ℕ) → IsGuestWithin policy g → second_added h p policy g a ≡ Some k → MayCome h p policy (Some g) k
+second_comes h p policy g k a w is = go (has_room g.second a) (may_add h p policy a) refl is
   where
-    go : (b : Bool) → may_add h p policy a ≡ b → cond b (Some (record g { second = Some a })) None ≡ Some k → MayCome h p policy (Some g) k
-    go true may same = subst (MayCome h p policy (Some g)) (some_is same) (record {
+    go : (c b : Bool) → may_add h p policy a ≡ b → cond (c && b) (Some (record g { second = Some a })) None ≡ Some k → MayCome h p policy (Some g) k
+    go true true may same = subst (MayCome h p policy (Some g)) (some_is same) (record {
       within = record { address = w.address; second = λ b there. subst (λ (n : ℕ). is_granted policy n ≡ true) (some_is there) (added h p policy a may).0; joined = w.joined; multicast = w.multicast };
       address = inl (address_held policy g);
       second = λ b there. inr (subst (λ (n : ℕ). is_taken h p n ≡ false) (some_is there) (added h p policy a may).1);
     })
-    go false may same = absurd (none_is same)
+    go true false may same = absurd (none_is same)
+    go false b may same = absurd (none_is same)
 
 -- ---- VLANs
 
@@ -213,7 +209,9 @@ granted_comes h p policy g k (SetMulticast groups) w is = subst (MayCome h p pol
 granted_comes h p policy g k (JoinVlan id) w is = join_comes h p policy g k (place_from 0 h.ids id) w is
 granted_comes h p policy g k (LeaveVlan id) w is = left_comes h p policy g k (eqb id 0 && not (is_port policy.vlans)) (place_where (may_join policy.vlans) (place_from 0 h.ids id)) w is
 granted_comes h p policy g k (SetFrameLength n) w is = when_comes h p policy g (record g { frame_length = n }) (leb n (h.limit + 4)) (quiet_comes h p policy g (record g { frame_length = n }) w refl refl refl refl) k is
-granted_comes h p policy g k (SetSecondAddress second) w is = second_comes h p policy g k second w is
+granted_comes h p policy g k ClearSecond w is = subst (MayCome h p policy (Some g)) (some_is is) (same_comes h p policy g w)
+granted_comes h p policy g k (ReplaceSecond a) w is = second_comes h p policy g k a w is
+granted_comes h p policy g k (AddSecond a) w is = second_comes h p policy g k a w is
 granted_comes h p policy g k (NegotiateApi api) w is = subst (MayCome h p policy (Some g)) (some_is is) (quiet_comes h p policy g (record g { api = api }) w refl refl refl refl)
 granted_comes h p policy g k GetQueues w is = when_comes h p policy g g (has_queues g.api) (same_comes h p policy g w) k is
 granted_comes h p policy g k (SetMulticastMode asked) w is = go (has_modes g.api) is
@@ -285,11 +283,15 @@ pub number_is : (o : Option ℕ) (a : ℕ) → is_number o a ≡ true → o ≡ 
 number_is None a is = absurd (true≢false (sym is))
 number_is (Some b) a is = ap Some (eqb-true b a is)
 
-guest_stands : (h : HostState) (p : ℕ) (policy : Policy) (before : Option Guest) (g : Guest) → slot_at h p ≡ Admitted policy before → is_unicast (number_of policy.address) ≡ true → MayCome h p policy before g → MayStand h p (Admitted policy (Some g))
+-- a function that holds no address more
+abbrev pub HoldsNoMore : Slot → Slot → Type 0
+HoldsNoMore s t = (a : ℕ) → holds s a ≡ true → holds t a ≡ true
+
+guest_stands : (h : HostState) (p : ℕ) (policy : Policy) (before : Option Guest) (g : Guest) → HoldsNoMore (Admitted policy before) (slot_at h p) → is_unicast (number_of policy.address) ≡ true → MayCome h p policy before g → MayStand h p (Admitted policy (Some g))
 unfolding holds
-guest_stands h p policy before g at unicast comes = record {
+guest_stands h p policy before g fewer unicast comes = record {
   within = (unicast, comes.within);
-  held = λ a there. ⊎_elim (λ has. inl (ap (λ s. holds s a) at ∙ has)) (λ free. inr free) (go a (or_cases (eqb (number_of policy.address) a) (eqb g.address a || is_number g.second a) there));
+  held = λ a there. ⊎_elim (λ has. inl (fewer a has)) (λ free. inr free) (go a (or_cases (eqb (number_of policy.address) a) (eqb g.address a || is_number g.second a) there));
 }
   where
     rest : (a : ℕ) → (eqb g.address a ≡ true) ⊎ (is_number g.second a ≡ true) → Has h p policy before a
@@ -304,19 +306,48 @@ reset_comes : (h : HostState) (p : ℕ) (policy : Policy) (k : Guest) (message :
 reset_comes h p policy k Reset is = subst (MayCome h p policy None) (some_is is) (begun_comes h p policy None)
 reset_comes h p policy k message is = absurd (none_is is)
 
-answered_stands : (h : HostState) (p : ℕ) (s : Slot) (message : Message) (g : Guest) → slot_at h p ≡ s → IsWithinPolicy s → answered h p s message ≡ Some g → MayStand h p (with_guest s (Some g))
-answered_stands h p Absent message g at w is = absurd (none_is is)
-answered_stands h p (Admitted policy None) message g at w is = guest_stands h p policy None g at w (reset_comes h p policy g message is)
-answered_stands h p (Admitted policy (Some old)) message g at w is = guest_stands h p policy (Some old) g at w.0 (granted_comes h p policy old g message w.1 is)
+answered_stands : (h : HostState) (p : ℕ) (s : Slot) (message : Message) (o : Option Guest) → HoldsNoMore s (slot_at h p) → IsWithinPolicy s → answered h p s message ≡ o → MayStand h p (granted_to s o)
+answered_stands h p s message None fewer w is = record { within = w; held = λ a there. inl (fewer a there) }
+answered_stands h p Absent message (Some g) fewer w is = absurd (none_is is)
+answered_stands h p (Admitted policy None) message (Some g) fewer w is = guest_stands h p policy None g fewer w (reset_comes h p policy g message is)
+answered_stands h p (Admitted policy (Some old)) message (Some g) fewer w is = guest_stands h p policy (Some old) g fewer w.0 (granted_comes h p policy old g message w.1 is)
 
-outcome_within : (h : HostState) (p : ℕ) (message : Message) → p < 64 → IsWithin h → (o : Option Guest) → outcome h p message ≡ o → IsWithin (host_with h p o)
-unfolding outcome
-outcome_within h p message small w None is = w
-outcome_within h p message small w (Some g) is = stands h p (with_guest (slot_at h p) (Some g)) small w (answered_stands h p (slot_at h p) message g refl (w.policies p small) is)
+-- ---- a guest that gives its second address up
+
+less_held : (policy : Policy) (g : Guest) → HoldsNoMore (Admitted policy (Some (record g { second = None }))) (Admitted policy (Some g))
+unfolding holds
+less_held policy g a there = go (eqb (number_of policy.address) a) (eqb g.address a) there
+  where
+    go : (b c : Bool) → (b || (c || false)) ≡ true → (b || (c || is_number g.second a)) ≡ true
+    go true c is = refl
+    go false true is = refl
+    go false false is = absurd (true≢false (sym is))
+
+less_within : (policy : Policy) (g : Guest) → IsGuestWithin policy g → IsGuestWithin policy (record g { second = None })
+less_within policy g w = record { address = w.address; second = λ a none. absurd (none_is none); joined = w.joined; multicast = w.multicast }
+
+found_held : (s : Slot) (message : Message) → HoldsNoMore (found s message) s
+found_held Absent message a there = there
+found_held (Admitted policy None) message a there = there
+found_held (Admitted policy (Some g)) ClearSecond a there = less_held policy g a there
+found_held (Admitted policy (Some g)) (ReplaceSecond b) a there = less_held policy g a there
+found_held (Admitted policy (Some g)) message a there = there
+
+found_within : (s : Slot) (message : Message) → IsWithinPolicy s → IsWithinPolicy (found s message)
+found_within Absent message w = w
+found_within (Admitted policy None) message w = w
+found_within (Admitted policy (Some g)) ClearSecond w = (w.0, less_within policy g w.1)
+found_within (Admitted policy (Some g)) (ReplaceSecond b) w = (w.0, less_within policy g w.1)
+found_within (Admitted policy (Some g)) message w = w
 
 pub message_within : (h : HostState) (p : ℕ) (message : Message) → p < 64 → IsWithin h → IsWithin (host_after h p message)
-unfolding host_after
-message_within h p message small w = outcome_within h p message small w (outcome h p message) refl
+unfolding host_after slot_after outcome
+message_within h p message small w =
+    stands h p (granted_to (found s message) (answered h p (found s message) message)) small w
+    (answered_stands h p (found s message) message (answered h p (found s message) message) (found_held s message) (found_within s message (w.policies p small)) refl)
+  where
+    s : Slot
+    s = slot_at h p
 
 -- a function without a guest holds its permanent address alone
 pub alone : (policy : Policy) (a : ℕ) → holds (Admitted policy None) a ≡ true → eqb (number_of policy.address) a ≡ true
@@ -348,25 +379,31 @@ same_policy : (s : Slot) (guest : Option Guest) → policy_of s ≡ policy_of (w
 same_policy Absent guest = refl
 same_policy (Admitted policy old) guest = refl
 
-policies_with : (h : HostState) (p : ℕ) (guest : Option Guest) → KeepsPolicies h (with_slot h p (with_guest (slot_at h p) guest))
-policies_with h p guest q = go (at_place h p q (with_guest (slot_at h p) guest))
-  where
-    go : (slot_at (with_slot h p (with_guest (slot_at h p) guest)) q ≡ slot_at h q) ⊎ ((q ≡ p) × (slot_at (with_slot h p (with_guest (slot_at h p) guest)) q ≡ with_guest (slot_at h p) guest))
-        → policy_of (slot_at h q) ≡ policy_of (slot_at (with_slot h p (with_guest (slot_at h p) guest)) q)
-    go (inl e) = ap policy_of (sym e)
-    go (inr e) = ap (λ n. policy_of (slot_at h n)) e.0 ∙ same_policy (slot_at h p) guest ∙ ap policy_of (sym e.1)
+granted_policy : (s : Slot) (o : Option Guest) → policy_of s ≡ policy_of (granted_to s o)
+granted_policy s None = refl
+granted_policy s (Some g) = same_policy s (Some g)
 
-outcome_policies : (h : HostState) (p : ℕ) (o : Option Guest) → KeepsPolicies h (host_with h p o)
-outcome_policies h p None = λ q. refl
-outcome_policies h p (Some g) = policies_with h p (Some g)
+found_policy : (s : Slot) (message : Message) → policy_of s ≡ policy_of (found s message)
+found_policy Absent message = refl
+found_policy (Admitted policy None) message = refl
+found_policy (Admitted policy (Some g)) message = refl
+
+policies_with : (h : HostState) (p : ℕ) (f : Slot) → policy_of (slot_at h p) ≡ policy_of f → KeepsPolicies h (with_slot h p f)
+policies_with h p f same q = go (at_place h p q f)
+  where
+    go : (slot_at (with_slot h p f) q ≡ slot_at h q) ⊎ ((q ≡ p) × (slot_at (with_slot h p f) q ≡ f)) → policy_of (slot_at h q) ≡ policy_of (slot_at (with_slot h p f) q)
+    go (inl e) = ap policy_of (sym e)
+    go (inr e) = ap (λ n. policy_of (slot_at h n)) e.0 ∙ same ∙ ap policy_of (sym e.1)
 
 pub message_policies : (h : HostState) (p : ℕ) (message : Message) → KeepsPolicies h (host_after h p message)
-unfolding host_after
-message_policies h p message = outcome_policies h p (outcome h p message)
+unfolding host_after slot_after
+message_policies h p message =
+    policies_with h p (granted_to (found (slot_at h p) message) (outcome h p message))
+    (found_policy (slot_at h p) message ∙ granted_policy (found (slot_at h p) message) (outcome h p message))
 
 pub reset_policies : (h : HostState) (p : ℕ) → KeepsPolicies h (host_without h p)
 unfolding host_without
-reset_policies h p = policies_with h p None
+reset_policies h p = policies_with h p (with_guest (slot_at h p) None) (same_policy (slot_at h p) None)
 
 -- ---- a policy is given
 

@@ -18,7 +18,7 @@ use Rattle.mailbox.specs.Address.{number_of, low_part, is_number, is_unicast}
 use Rattle.mailbox.specs.Policy.{is_port_at, may_join}
 use Rattle.mailbox.specs.Slot.{policy_of, own_address, second_address, joined_by, has_joined, holds}
 use Rattle.mailbox.specs.State.{HostState, slot_at}
-use Rattle.mailbox.specs.Within.{is_granted, is_named, IsWithinPolicy, IsWithin, IsNamedFor}
+use Rattle.mailbox.specs.Within.{is_granted, grants, is_named, IsWithinPolicy, IsWithin, IsNamedFor}
 use Rattle.mailbox.specs.Words.{table, low_word, high_word, valid, entry, pool_word, id_word, member_word, joined_at, addresses_of, vlans_of, settings_of}
 use Rattle.mailbox.proofs.Entries.{table_at, entry_pool, entry_member}
 use Rattle.mailbox.proofs.Policies.{number_is, address_held, second_held, alone}
@@ -77,6 +77,24 @@ unicast_held (Admitted policy (Some g)) a w there = go (or_cases (eqb (number_of
     go : (eqb (number_of policy.address) a ≡ true) ⊎ ((eqb g.address a || is_number g.second a) ≡ true) → is_unicast a ≡ true
     go (inl own) = subst (λ (n : ℕ). is_unicast n ≡ true) (eqb-true (number_of policy.address) a own) w.0
     go (inr other) = rest (or_cases (eqb g.address a) (is_number g.second a) other)
+
+-- and is one that the policy grants
+held_granted : (s : Slot) (a : ℕ) → IsWithinPolicy s → holds s a ≡ true → grants (policy_of s) a ≡ true
+unfolding holds
+held_granted Absent a w there = absurd (true≢false (sym there))
+held_granted (Admitted policy None) a w there = ap (λ b. b || (policy.may_choose && is_unicast a)) (alone policy a there)
+held_granted (Admitted policy (Some g)) a w there = go (or_cases (eqb (number_of policy.address) a) (eqb g.address a || is_number g.second a) there)
+  where
+    rest : (eqb g.address a ≡ true) ⊎ (is_number g.second a ≡ true) → is_granted policy a ≡ true
+    rest (inl is) = subst (λ (n : ℕ). is_granted policy n ≡ true) (eqb-true g.address a is) w.1.address
+    rest (inr is) = w.1.second a (number_is g.second a is)
+
+    go : (eqb (number_of policy.address) a ≡ true) ⊎ ((eqb g.address a || is_number g.second a) ≡ true) → is_granted policy a ≡ true
+    go (inl own) = ap (λ b. b || (policy.may_choose && is_unicast a)) own
+    go (inr other) = rest (or_cases (eqb g.address a) (is_number g.second a) other)
+
+pub address_granted : (h : HostState) (p a : ℕ) → p < 64 → IsWithin h → holds (slot_at h p) a ≡ true → grants (policy_of (slot_at h p)) a ≡ true
+address_granted h p a small w there = held_granted (slot_at h p) a (w.policies p small) there
 
 entry_shown : (h : HostState) (p a e : ℕ) → p < 64 → e < 128 → address_gives (addresses_of h) p a e ≡ true → IsHeldBy h p a
 unfolding addresses_of

@@ -1,16 +1,15 @@
 -- What a message, a reset and a policy make of the settings.
-use Rattle.std.proofs.Common.{arith, ◌≡◌, ℕ, zero, suc, ◌*◌, ◌/◌, ◌<◌, ◌≤◌, Bool, true, false, cond, List, [], length, Option, Some, None, refl, sym, ap, ◌∙◌, true≢false, is_none, is_some}
+use Rattle.std.proofs.Common.{arith, ◌≡◌, ℕ, zero, suc, ◌*◌, ◌/◌, ◌<◌, ◌≤◌, Bool, true, false, cond, List, [], length, Option, Some, None, refl, sym, ap, ◌∙◌, true≢false, is_none}
 use Rattle.std.proofs.lemmas.Bool.Decides.{nat_tests}
 use Rattle.wire_frame.specs.declared.row.Row.{Row}
 use Rattle.mailbox.specs.declared.slot.Slot.{Slot}
 use Rattle.mailbox.specs.declared.message.Message.{Message}
-use Rattle.mailbox.specs.declared.slot.Guest.{Guest}
 use Rattle.mailbox.specs.Slot.{is_up, own_address, second_address, has_joined, with_guest}
 use Rattle.mailbox.specs.State.{HostState, slot_at, with_slot}
-use Rattle.mailbox.specs.Host.{host_with, host_after, host_without, outcome}
+use Rattle.mailbox.specs.Host.{slot_after, host_after, host_without}
 use Rattle.vlan_table.specs.Registers.{VLVFB}
 use Rattle.mailbox.specs.Words.{flags_word, port_word, member_word, settings_of}
-use Rattle.mailbox.specs.Writes.{writes_where, changes, turns, moves, joins_or_leaves, writes_of, after_writes, writes_with, writes_after, writes_without}
+use Rattle.mailbox.specs.Writes.{writes_where, changes, turns, moves, joins_or_leaves, writes_of, after_writes, writes_after, writes_without}
 use Rattle.mailbox.proofs.Isolation.{and_no}
 use Rattle.mailbox.proofs.Settle.{settled}
 
@@ -64,19 +63,10 @@ settings_alike h p f small few alike =
 
 -- ---- turns
 
-with_settles : (h : HostState) (p : ℕ) (o : Option Guest) → p < 64 → length h.ids ≤ 64 → after_writes (settings_of h) (writes_with h p o) ≡ settings_of (host_with h p o)
-with_settles h p None small few = refl
-with_settles h p (Some g) small few = settled h p (with_guest (slot_at h p) (Some g)) small few
-
 pub after_message : (h : HostState) (p : ℕ) (message : Message) → p < 64 → length h.ids ≤ 64 → after_writes (settings_of h) (writes_after h p message) ≡ settings_of (host_after h p message)
 unfolding host_after writes_after
-after_message h p message small few = with_settles h p (outcome h p message) small few
+after_message h p message small few = settled h p (slot_after h p message) small few
 
 pub after_reset : (h : HostState) (p : ℕ) → p < 64 → length h.ids ≤ 64 → after_writes (settings_of h) (writes_without h p) ≡ settings_of (host_without h p)
 unfolding host_without writes_without
 after_reset h p small few = settled h p (with_guest (slot_at h p) None) small few
-
--- the writes by whether the message was granted
-pub writes_by : (h : HostState) (p : ℕ) (o : Option Guest) → cond (is_some o) (writes_of (host_with h p o) p (slot_at h p)) [] ≡ writes_with h p o
-writes_by h p None = refl
-writes_by h p (Some g) = refl

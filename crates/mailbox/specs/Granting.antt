@@ -5,7 +5,7 @@ use Rattle.wire_frame.specs.Bits.{with_bit}
 use Rattle.mailbox.specs.declared.message.Multicast.{Multicast}
 use Rattle.mailbox.specs.declared.message.Multicast.TheVariants.{Off, Asked, All}
 use Rattle.mailbox.specs.declared.message.Message.{Message}
-use Rattle.mailbox.specs.declared.message.Message.TheVariants.{Reset, SetAddress, SetMulticast, JoinVlan, LeaveVlan, SetFrameLength, SetSecondAddress, NegotiateApi, GetQueues, SetMulticastMode, GetLinkState, Other}
+use Rattle.mailbox.specs.declared.message.Message.TheVariants.{Reset, SetAddress, SetMulticast, JoinVlan, LeaveVlan, SetFrameLength, ClearSecond, ReplaceSecond, AddSecond, NegotiateApi, GetQueues, SetMulticastMode, GetLinkState, Other}
 use Rattle.mailbox.specs.declared.policy.Policy.{Policy}
 use Rattle.mailbox.specs.declared.slot.Guest.{Guest}
 use Rattle.mailbox.specs.declared.slot.Slot.{Slot}
@@ -25,9 +25,24 @@ may_add h p policy a = policy.may_choose && (is_unicast a && not (is_taken h p a
 abbrev pub moved : HostState → ℕ → Policy → Guest → ℕ → Option Guest
 moved h p policy g a = if number_of policy.address == a || may_add h p policy a then Some (record g { address = a }) else None
 
-abbrev pub second_set : HostState → ℕ → Policy → Guest → Option ℕ → Option Guest
-second_set h p policy g None = Some (record g { second = None })
-second_set h p policy g (Some a) = if may_add h p policy a then Some (record g { second = Some a }) else None
+-- a guest has one second address at most: there is room for the address where it has none, or that one
+abbrev pub has_room : Option ℕ → ℕ → Bool
+has_room None a = true
+has_room (Some b) a = b == a
+
+abbrev pub second_added : HostState → ℕ → Policy → Guest → ℕ → Option Guest
+second_added h p policy g a = if has_room g.second a && may_add h p policy a then Some (record g { second = Some a }) else None
+
+-- the guest as a message finds it: it has given its second address up, where that comes first, be the rest granted or refused
+abbrev pub found_by : Message → Guest → Guest
+found_by ClearSecond g = record g { second = None }
+found_by (ReplaceSecond a) g = record g { second = None }
+found_by message g = g
+
+abbrev pub found : Slot → Message → Slot
+found Absent message = Absent
+found (Admitted policy None) message = Admitted policy None
+found (Admitted policy (Some g)) message = Admitted policy (Some (found_by message g))
 
 -- ---- VLANs
 
@@ -86,7 +101,7 @@ multicast_set g m = if has_modes g.api then with_multicast g m else None
 abbrev pub granted_if : Bool → Guest → Option Guest
 granted_if b g = if b then Some g else None
 
--- the guest after a message, or nothing where the message is refused
+-- the guest after a message that found it so, or nothing where the message is refused
 unfoldable pub granted : HostState → ℕ → Policy → Guest → Message → Option Guest
 granted h p policy g Reset = Some (begun policy)
 granted h p policy g (SetAddress a) = moved h p policy g a
@@ -94,7 +109,9 @@ granted h p policy g (SetMulticast groups) = Some (record g { groups = groups })
 granted h p policy g (JoinVlan id) = joined h policy g id
 granted h p policy g (LeaveVlan id) = left h policy g id
 granted h p policy g (SetFrameLength n) = length_set h g n
-granted h p policy g (SetSecondAddress second) = second_set h p policy g second
+granted h p policy g ClearSecond = Some g
+granted h p policy g (ReplaceSecond a) = second_added h p policy g a
+granted h p policy g (AddSecond a) = second_added h p policy g a
 granted h p policy g (NegotiateApi api) = Some (record g { api = api })
 granted h p policy g GetQueues = granted_if (has_queues g.api) g
 granted h p policy g (SetMulticastMode asked) = multicast_set g (multicast_for policy asked)

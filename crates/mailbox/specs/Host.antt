@@ -3,25 +3,25 @@ use Rattle.std.specs.Prelude.{ℕ, Bool, not, ◌&&◌, Option, Some, None, if�
 use Rattle.mailbox.specs.declared.message.Message.{Message}
 use Rattle.mailbox.specs.declared.policy.Policy.{Policy}
 use Rattle.mailbox.specs.declared.slot.Guest.{Guest}
+use Rattle.mailbox.specs.declared.slot.Slot.{Slot}
 use Rattle.mailbox.specs.declared.slot.Slot.TheVariants.{Admitted}
 use Rattle.mailbox.specs.Address.{number_of, is_unicast}
-use Rattle.mailbox.specs.Granting.{answered}
+use Rattle.mailbox.specs.Granting.{found, answered}
 use Rattle.mailbox.specs.Policy.{is_placed}
-use Rattle.mailbox.specs.Slot.{is_up, with_guest}
+use Rattle.mailbox.specs.Slot.{is_up, with_guest, granted_to}
 use Rattle.mailbox.specs.State.{HostState, slot_at, with_slot, is_taken}
 
 -- what a message of pool p makes of its guest, or nothing where it is refused
 unfoldable pub outcome : HostState → ℕ → Message → Option Guest
-outcome h p message = answered h p (slot_at h p) message
+outcome h p message = answered h p (found (slot_at h p) message) message
 
--- the host after that: no other function is touched, and no policy
-abbrev pub host_with : HostState → ℕ → Option Guest → HostState
-host_with h p None = h
-host_with h p (Some g) = with_slot h p (with_guest (slot_at h p) (Some g))
+-- the function of pool p after that: a message that is refused leaves it as it found it
+unfoldable pub slot_after : HostState → ℕ → Message → Slot
+slot_after h p message = granted_to (found (slot_at h p) message) (outcome h p message)
 
--- after a message of pool p
+-- the host after a message of pool p: no other function is touched
 unfoldable pub host_after : HostState → ℕ → Message → HostState
-host_after h p message = host_with h p (outcome h p message)
+host_after h p message = with_slot h p (slot_after h p message)
 
 -- after the guest of pool p is gone, or its function was reset
 unfoldable pub host_without : HostState → ℕ → HostState

@@ -5,7 +5,7 @@ use Rattle.mailbox.specs.declared.message.Api.TheVariants.{V1_0, V1_1, V1_2, V1_
 use Rattle.mailbox.specs.declared.message.Multicast.{Multicast}
 use Rattle.mailbox.specs.declared.message.Multicast.TheVariants.{Off, Asked, All}
 use Rattle.mailbox.specs.declared.message.Message.{Message}
-use Rattle.mailbox.specs.declared.message.Message.TheVariants.{Reset, SetAddress, SetMulticast, JoinVlan, LeaveVlan, SetFrameLength, SetSecondAddress, NegotiateApi, GetQueues, SetMulticastMode, GetLinkState, Other}
+use Rattle.mailbox.specs.declared.message.Message.TheVariants.{Reset, SetAddress, SetMulticast, JoinVlan, LeaveVlan, SetFrameLength, ClearSecond, ReplaceSecond, AddSecond, NegotiateApi, GetQueues, SetMulticastMode, GetLinkState, Other}
 use Rattle.mailbox.specs.Address.{address_from}
 use Rattle.mailbox.specs.Registers.{NACK, RESET, SET_MAC_ADDR, SET_MULTICAST, SET_VLAN, SET_LPE, SET_MACVLAN, API_NEGOTIATE, GET_QUEUES, UPDATE_XCAST_MODE, GET_LINK_STATE}
 
@@ -30,11 +30,11 @@ number_in head = head / 2 ^ 16 % 2 ^ 8
 abbrev pub vlan_message : ℕ → ℕ → Message
 vlan_message number first = if number == 0 then LeaveVlan (first % 2 ^ 12) else JoinVlan (first % 2 ^ 12)
 
--- number 0 gives the second address up, and number 1 asks for one; there is no further
+-- number 0 gives the second address up, number 1 does so and asks for one, and every further number asks for one more
 abbrev pub second_message : ℕ → ℕ → ℕ → Message
 second_message number first second =
-    if number == 0 then SetSecondAddress None
-    else (if number == 1 then SetSecondAddress (Some (address_from first second)) else Other)
+    if number == 0 then ClearSecond
+    else (if number == 1 then ReplaceSecond (address_from first second) else AddSecond (address_from first second))
 
 abbrev pub api_asked : Option Api → Message
 api_asked None = Other

@@ -24,6 +24,11 @@ abbrev pub with_guest : Slot → Option Guest → Slot
 with_guest Absent guest = Absent
 with_guest (Admitted policy old) guest = Admitted policy guest
 
+-- the function after it was granted a guest, or was refused
+abbrev pub granted_to : Slot → Option Guest → Slot
+granted_to s None = s
+granted_to s (Some g) = with_guest s (Some g)
+
 -- a function is up while it has a guest
 abbrev pub is_up : Slot → Bool
 is_up s = is_some (guest_of s)

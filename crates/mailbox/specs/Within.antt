@@ -14,6 +14,10 @@ use Rattle.mailbox.specs.State.{HostState, slot_at}
 abbrev pub is_granted : Policy → ℕ → Bool
 is_granted policy a = number_of policy.address == a || (policy.may_choose && is_unicast a)
 
+abbrev pub grants : Option Policy → ℕ → Bool
+grants None a = false
+grants (Some policy) a = is_granted policy a
+
 -- the policy has the VLAN at the place, as one to join or as the port VLAN
 abbrev pub may_have : Policy → ℕ → Bool
 may_have policy k = is_port_at policy.vlans k || may_join policy.vlans k

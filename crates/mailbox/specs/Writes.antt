@@ -5,14 +5,13 @@ use Rattle.addr_tables.specs.Registers.{RAL, RAH}
 use Rattle.vlan_table.specs.Registers.{VLVFB}
 use Rattle.pool_filter.specs.Registers.{PFVFRE, PFVFTE, VMVIR, VMOLR}
 use Rattle.pool_filter.specs.Settings.{Settings, settings_after}
-use Rattle.mailbox.specs.declared.slot.Guest.{Guest}
 use Rattle.mailbox.specs.declared.slot.Slot.{Slot}
 use Rattle.mailbox.specs.declared.message.Message.{Message}
 use Rattle.mailbox.specs.declared.writes.Write.{Write}
 use Rattle.mailbox.specs.Address.{is_number, low_part}
 use Rattle.mailbox.specs.Slot.{is_up, own_address, second_address, has_joined}
 use Rattle.mailbox.specs.State.{HostState, slot_at}
-use Rattle.mailbox.specs.Host.{outcome, host_with, host_without}
+use Rattle.mailbox.specs.Host.{host_after, host_without}
 use Rattle.mailbox.specs.Words.{valid, member_word, up_word, flags_word, port_word}
 
 -- a write of the row's word at a place
@@ -81,13 +80,9 @@ writes_of h p old =
 
 -- ---- a message and a reset
 
-abbrev pub writes_with : HostState → ℕ → Option Guest → List Write
-writes_with h p None = []
-writes_with h p (Some g) = writes_of (host_with h p (Some g)) p (slot_at h p)
-
 -- the writes after a message of pool p
 unfoldable pub writes_after : HostState → ℕ → Message → List Write
-writes_after h p message = writes_with h p (outcome h p message)
+writes_after h p message = writes_of (host_after h p message) p (slot_at h p)
 
 -- the writes after the guest of pool p is gone
 unfoldable pub writes_without : HostState → ℕ → List Write

@@ -1,6 +1,6 @@
 //! What a message makes of a function's guest.
 ghost use Rattle.std.specs.Prelude.{◌≡◌, ◌<◌, ◌≤◌, IfSome, length};
-ghost use Rattle.mailbox.specs.Granting.{may_add, place_from, joinable, joined, left, moved, second_set, length_set, multicast_set, granted, when_reset, answered};
+ghost use Rattle.mailbox.specs.Granting.{may_add, place_from, joinable, joined, left, moved, has_room, second_added, found_by, found, length_set, multicast_set, granted, when_reset, answered};
 
 use crate::address::Address;
 use crate::host::Host;
@@ -45,7 +45,10 @@ impl Host {
             Message::JoinVlan(id) => self.joined(policy, guest, id),
             Message::LeaveVlan(id) => self.left(policy, guest, id),
             Message::SetFrameLength(length) => self.with_length(guest, length),
-            Message::SetSecondAddress(second) => self.with_second(pool, policy, guest, second),
+            Message::ClearSecond => Some(guest),
+            Message::ReplaceSecond(address) | Message::AddSecond(address) => {
+                self.with_second(pool, policy, guest, address)
+            }
             Message::NegotiateApi(api) => Some(Guest { api, ..guest }),
             Message::GetQueues => guest.has_queues().then_some(guest),
             Message::SetMulticastMode(asked) => with_multicast(guest, policy.multicast_for(asked)),
@@ -72,25 +75,23 @@ impl Host {
         }
     }
 
-    // The guest with another second address, or with none.
+    // The guest with a second address, where it has none yet, or that one.
     fn with_second(
         &self,
         pool: PoolId,
         policy: &Policy,
         guest: Guest,
-        second: Option<Address>,
+        address: Address,
     ) -> Option<Guest>
-        ensures { result ≡ second_set self.now pool policy.now guest second }
+        ensures { result ≡ second_added self.now pool policy.now guest address }
     {
-        match second {
-            None => Some(Guest { second, ..guest }),
-            Some(address) => {
-                if self.may_add(pool, policy, address) {
-                    Some(Guest { second, ..guest })
-                } else {
-                    None
-                }
-            }
+        if has_room(guest.second, address) && self.may_add(pool, policy, address) {
+            Some(Guest {
+                second: Some(address),
+                ..guest
+            })
+        } else {
+            None
         }
     }
 
@@ -136,6 +137,47 @@ impl Host {
         let place = self.joinable(policy, id)?;
         let joined = guest.joined & !(1 << place);
         Some(Guest { joined, ..guest })
+    }
+}
+
+impl Slot {
+    /// The function as a message finds it: its guest has given its second address up, where that comes first.
+    pub(crate) fn found(&self, message: &Message) -> Slot
+        ensures { result ≡ found self.now message.now }
+    {
+        match *self {
+            Slot::Admitted {
+                policy,
+                guest: Some(guest),
+            } => Slot::Admitted {
+                policy,
+                guest: Some(found_by(message, guest)),
+            },
+            other => other,
+        }
+    }
+}
+
+// The guest as a message finds it.
+fn found_by(message: &Message, guest: Guest) -> Guest
+    ensures { result ≡ found_by message.now guest }
+{
+    match message {
+        Message::ClearSecond | Message::ReplaceSecond(_) => Guest {
+            second: None,
+            ..guest
+        },
+        _ => guest,
+    }
+}
+
+// Whether the second address of a guest may be that one: it has no other.
+fn has_room(second: Option<Address>, address: Address) -> bool
+    ensures { result ≡ has_room second address }
+{
+    match second {
+        None => true,
+        Some(one) => one.is(address),
     }
 }
 

@@ -206,50 +206,78 @@ impl Host {
         ensures few { length self.now.ids ≤ 64 }
     {
         let _ids = self.ids();
-        self.answered(pool, self.slot(pool), message)
+        let slot = self.slot(pool);
+        let found = slot.found(&message);
+        self.answered(pool, found, message)
     }
 
-    // The same, where the message is granted.
-    #[tactic(auto, unfolding(crate::specs::Host::host_after))]
-    fn grant(&mut self, pool: PoolId, message: Message) -> Option<Guest>
-        ensures guest { result ≡ outcome self.old pool message }
-        ensures host { self.new ≡ host_after self.old pool message }
-        ensures few { length self.old.ids ≤ 64 }
-    {
-        let outcome = self.outcome(pool, message);
-        if outcome.is_some() {
-            self.set_guest(pool, outcome);
-        }
-        outcome
-    }
-
-    // The pool's function with another guest, or with none.
-    fn set_guest(&mut self, pool: PoolId, guest: Option<Guest>)
-        ensures host { self.new ≡ with_slot self.old pool (with_guest (slot_at self.old pool) guest) }
+    // Another function at the pool.
+    fn set_slot(&mut self, pool: PoolId, slot: Slot)
+        ensures host { self.new ≡ with_slot self.old pool slot }
         ensures pool { pool < 64 }
     {
-        let slot = self.slot(pool).with_guest(guest);
         self.slots[usize::from(pool.get())] = slot;
     }
 
-    // The writes after a message that was granted to the pool's function, or was refused.
-    fn writes_with(&self, pool: PoolId, before: &Slot, is_granted: bool) -> Writes
-        ensures { result ≡ (if is_granted then writes_of self.now pool before.now else []) }
+    // The same, with the writes that follow.
+    fn change(&mut self, pool: PoolId, slot: Slot) -> Writes
+        ensures host { self.new ≡ with_slot self.old pool slot }
+        ensures writes { result ≡ writes_of self.new pool (slot_at self.old pool) }
+        ensures others { (q : ℕ) → q < 64 → q ≢ pool
+            → IsSameFor (settings_of self.old) (settings_of self.new) q }
+        ensures all { IsSameForAll (settings_of self.old) (settings_of self.new) }
+        ensures settings { after_writes (settings_of self.old) result ≡ settings_of self.new }
+        ensures meanwhile { (q : ℕ) (done left : List Write) → q < 64 → q ≢ pool
+            → done ++ left ≡ result
+            → IsSameFor (settings_of self.old) (after_writes (settings_of self.old) done) q }
+        ensures pool { pool < 64 }
+        ensures few { length self.old.ids ≤ 64 }
     {
-        if is_granted {
-            self.writes_since(pool, before)
-        } else {
-            Writes::new()
-        }
+        let before = self.slot(pool);
+        self.set_slot(pool, slot);
+        self.writes_since(pool, &before)
     }
 
-    // Forgets what the pool's guest asked for.
-    #[tactic(auto, unfolding(crate::specs::Host::host_without))]
-    fn forget(&mut self, pool: PoolId)
-        ensures host { self.new ≡ host_without self.old pool }
+    // Answers the message in the mailbox, by its definition.
+    #[tactic(auto, unfolding(crate::specs::Host::host_after, crate::specs::Host::slot_after, crate::specs::Writes::writes_after, crate::specs::Replies::reply_to))]
+    fn hear(&mut self, pool: PoolId, mailbox: &mut Mailbox) -> Writes
+        ensures host { self.new ≡ host_after self.old pool (message_of mailbox.old.words) }
+        ensures reply { mailbox.new ≡ reply_to self.old pool mailbox.old }
+        ensures writes { result ≡ writes_after self.old pool (message_of mailbox.old.words) }
+        ensures others { (q : ℕ) → q < 64 → q ≢ pool
+            → IsSameFor (settings_of self.old) (settings_of self.new) q }
+        ensures all { IsSameForAll (settings_of self.old) (settings_of self.new) }
+        ensures settings { after_writes (settings_of self.old) result ≡ settings_of self.new }
+        ensures meanwhile { (q : ℕ) (done left : List Write) → q < 64 → q ≢ pool
+            → done ++ left ≡ result
+            → IsSameFor (settings_of self.old) (after_writes (settings_of self.old) done) q }
         ensures pool { pool < 64 }
     {
-        self.set_guest(pool, None);
+        let message = mailbox.message();
+        let before = self.slot(pool);
+        let found = before.found(&message);
+        let granted = self.outcome(pool, message);
+        let after = found.granted_to(&granted);
+        mailbox.answer(&before, granted);
+        self.change(pool, after)
+    }
+
+    // Forgets what the pool's guest asked for, by its definition.
+    #[tactic(auto, unfolding(crate::specs::Host::host_without, crate::specs::Writes::writes_without))]
+    fn forget(&mut self, pool: PoolId) -> Writes
+        ensures host { self.new ≡ host_without self.old pool }
+        ensures writes { result ≡ writes_without self.old pool }
+        ensures others { (q : ℕ) → q < 64 → q ≢ pool
+            → IsSameFor (settings_of self.old) (settings_of self.new) q }
+        ensures all { IsSameForAll (settings_of self.old) (settings_of self.new) }
+        ensures settings { after_writes (settings_of self.old) result ≡ settings_of self.new }
+        ensures meanwhile { (q : ℕ) (done left : List Write) → q < 64 → q ≢ pool
+            → done ++ left ≡ result
+            → IsSameFor (settings_of self.old) (after_writes (settings_of self.old) done) q }
+        ensures pool { pool < 64 }
+    {
+        let slot = self.slot(pool).with_guest(None);
+        self.change(pool, slot)
     }
 
     /// Answers the message that stands in the mailbox of the pool's function: puts the reply there, and gives the writes to the
@@ -283,7 +311,6 @@ impl Host {
     /// assert!(rt; mailbox.read(VFMBMEM + 4) == Some(2));
     /// assert!(rt; !writes.as_slice().is_empty());
     /// ```
-    #[tactic(auto, unfolding(crate::specs::Host::host_after, crate::specs::Writes::writes_after, crate::specs::Replies::reply_to))]
     pub fn answer(&mut self, pool: PoolId, mailbox: &mut Mailbox) -> Writes
         ensures host { self.new ≡ host_after self.old pool (message_of mailbox.old.words) }
         ensures reply { mailbox.new ≡ reply_to self.old pool mailbox.old }
@@ -298,18 +325,12 @@ impl Host {
         ensures within { IsWithin self.old → IsWithin self.new }
         ensures policies { IsWithin self.old → KeepsPolicies self.old self.new }
     {
-        let message = mailbox.message();
-        let before = self.slot(pool);
-        let granted = self.grant(pool, message);
-        let is_granted = granted.is_some();
-        mailbox.answer(&before, granted);
-        self.writes_with(pool, &before, is_granted)
+        self.hear(pool, mailbox)
     }
 
     /// Forgets what the guest of the pool's function asked for, where the function is reset from outside or by VFCTRL and
     /// where its guest goes, and gives the writes to the physical function's registers. What the host stands for stays for
     /// every other pool, as after a message.
-    #[tactic(auto, unfolding(crate::specs::Writes::writes_without))]
     pub fn reset(&mut self, pool: PoolId) -> Writes
         ensures host { self.new ≡ host_without self.old pool }
         ensures writes { result ≡ writes_without self.old pool }
@@ -323,8 +344,6 @@ impl Host {
         ensures within { IsWithin self.old → IsWithin self.new }
         ensures policies { IsWithin self.old → KeepsPolicies self.old self.new }
     {
-        let before = self.slot(pool);
-        self.forget(pool);
-        self.writes_since(pool, &before)
+        self.forget(pool)
     }
 }

@@ -2,10 +2,10 @@
 ghost use Rattle.std.specs.Prelude.{◌≡◌, ◌≢◌, ℕ, ◌<◌, true, false, length};
 ghost use Rattle.pool_filter.specs.Settings.{Settings, initial_settings, settings_after};
 ghost use Rattle.pool_filter.specs.Own.{own, contains};
-ghost use Rattle.mailbox.specs.Slot.{holds};
+ghost use Rattle.mailbox.specs.Slot.{policy_of, holds};
 ghost use Rattle.mailbox.specs.State.{HostState, slot_at};
 ghost use Rattle.mailbox.specs.Start.{first_writes, IsWhole};
-ghost use Rattle.mailbox.specs.Within.{IsWithin, IsNamedFor};
+ghost use Rattle.mailbox.specs.Within.{grants, IsWithin, IsNamedFor};
 ghost use Rattle.mailbox.specs.Words.{settings_of};
 ghost use Rattle.mailbox.specs.Writes.{after_writes};
 
@@ -21,11 +21,14 @@ pub fn first_writes_make_the_settings()
 {}
 
 /// In the settings that a host stands for a pool has the addresses that its function holds, which no other pool has, the VLAN
-/// ids that its policy names, and both its source checks on: what it may send has one of these as its source.
+/// ids that its policy names, and both its source checks on: what it may send has one of these as its source. Each address that
+/// a function holds was granted by its policy.
 pub fn settings_are_within_policies()
     ensures addresses { (h : HostState) (p a : ℕ) → p < 64 → IsWithin h
         → contains (own (settings_of h) p).addresses a ≡ true
         → holds (slot_at h p) a ≡ true }
+    ensures granted { (h : HostState) (p a : ℕ) → p < 64 → IsWithin h
+        → holds (slot_at h p) a ≡ true → grants (policy_of (slot_at h p)) a ≡ true }
     ensures one_pool { (h : HostState) (p q a : ℕ) → p < 64 → q < 64 → q ≢ p → IsWithin h
         → contains (own (settings_of h) p).addresses a ≡ true
         → contains (own (settings_of h) q).addresses a ≡ false }

@@ -48,8 +48,12 @@ pub enum Message {
     LeaveVlan(Vid),
     /// SET_LPE: how long the function's frames may be, with the FCS.
     SetFrameLength(u32),
-    /// SET_MACVLAN: one more address, or none.
-    SetSecondAddress(Option<Address>),
+    /// SET_MACVLAN, number 0: the function gives its second address up.
+    ClearSecond,
+    /// SET_MACVLAN, number 1: it gives its second address up, and wants that one.
+    ReplaceSecond(Address),
+    /// SET_MACVLAN, every further number: it wants one more address.
+    AddSecond(Address),
     /// API_NEGOTIATE: the version of the messages.
     NegotiateApi(Api),
     /// GET_QUEUES: how many queues there are.
@@ -152,14 +156,14 @@ fn vlan_message(number: u32, first: u32) -> Message
     }
 }
 
-// SET_MACVLAN: number 0 gives all further addresses up, and number 1 asks for one; there is no further.
+// SET_MACVLAN: number 0 gives the second address up, number 1 does so and asks for one, and every further number asks for one.
 fn second_message(number: u32, first: u32, second: u32) -> Message
     ensures { result ≡ second_message number first second }
 {
     match number {
-        0 => Message::SetSecondAddress(None),
-        1 => Message::SetSecondAddress(Some(Address::of_words(first, second))),
-        _ => Message::Other,
+        0 => Message::ClearSecond,
+        1 => Message::ReplaceSecond(Address::of_words(first, second)),
+        _ => Message::AddSecond(Address::of_words(first, second)),
     }
 }
 

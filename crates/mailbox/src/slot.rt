@@ -1,7 +1,7 @@
 //! One function: its policy, and what its guest has asked for.
 ghost use Rattle.std.specs.Prelude.{◌≡◌, ◌<◌, Some};
 ghost use Rattle.mailbox.specs.Address.{low_part, high_part};
-ghost use Rattle.mailbox.specs.Slot.{guest_of, is_up, has_port, begun, first_of, second_of, holds, joined_by, has_joined, with_guest, has_queues, has_modes};
+ghost use Rattle.mailbox.specs.Slot.{guest_of, is_up, has_port, begun, first_of, second_of, holds, joined_by, has_joined, with_guest, granted_to, has_queues, has_modes};
 
 use crate::address::{Address, high_part, is_number, low_part};
 use crate::message::{Api, Multicast};
@@ -118,6 +118,16 @@ impl Slot {
         match *self {
             Slot::Absent => Slot::Absent,
             Slot::Admitted { policy, guest: _ } => Slot::Admitted { policy, guest },
+        }
+    }
+
+    /// The same function after its guest was granted a message, which left it so, or was refused.
+    pub(crate) fn granted_to(&self, granted: &Option<Guest>) -> Slot
+        ensures { result ≡ granted_to self.now granted.now }
+    {
+        match granted {
+            None => *self,
+            Some(guest) => self.with_guest(Some(*guest)),
         }
     }
 

@@ -23,13 +23,12 @@ use Rattle.device.proofs.Append.{world_after_append, keep_append}
 use Rattle.mailbox.specs.declared.slot.Slot.{Slot}
 use Rattle.mailbox.specs.declared.message.Message.{Message}
 use Rattle.mailbox.specs.declared.writes.Write.{Write}
-use Rattle.mailbox.specs.declared.slot.Guest.{Guest}
 use Rattle.mailbox.specs.Slot.{with_guest}
 use Rattle.mailbox.specs.State.{HostState, slot_at, with_slot}
-use Rattle.mailbox.specs.Host.{outcome, host_with, host_after, host_without}
+use Rattle.mailbox.specs.Host.{slot_after, host_after, host_without}
 use Rattle.mailbox.specs.Isolation.{IsSameFor}
 use Rattle.mailbox.specs.Words.{settings_of}
-use Rattle.mailbox.specs.Writes.{write_at, writes_of, after_writes, writes_with, writes_after, writes_without}
+use Rattle.mailbox.specs.Writes.{write_at, writes_of, after_writes, writes_after, writes_without}
 use Rattle.mailbox.specs.declared.start.Register.{Register}
 use Rattle.mailbox.specs.declared.start.Register.TheVariants.{SourceChecks, LowAddress, HighAddress, AddressPools, MulticastTable, MulticastControl, VlanControl, VlanTable, VlanIds, VlanPools, PoolControl, PortVlans, Loopback, PoolFlags, ReceiveEnable, TransmitEnable}
 use Rattle.mailbox.specs.Start.{registers, row_of, word_of, register_writes, writes_to, first_writes}
@@ -106,12 +105,8 @@ pub pool_taken : (k : HostState) (p : ℕ) (old : Slot) → p < 64 → length k.
 pool_taken k p old small few = subst (Each IsTaken) (sym (in_parts k p old)) (each_taken (parts k p old) (parts_fit k p old small few) (parts_taken k p old))
 
 message_taken : (h : HostState) (p : ℕ) (message : Message) → p < 64 → length h.ids ≤ 64 → Each IsTaken (writes_after h p message)
-unfolding writes_after
-message_taken h p message small few = go (outcome h p message)
-  where
-    go : (o : Option Guest) → Each IsTaken (writes_with h p o)
-    go None = tt
-    go (Some g) = pool_taken (with_slot h p (with_guest (slot_at h p) (Some g))) p (slot_at h p) small few
+unfolding writes_after host_after
+message_taken h p message small few = pool_taken (with_slot h p (slot_after h p message)) p (slot_at h p) small few
 
 reset_taken : (h : HostState) (p : ℕ) → p < 64 → length h.ids ≤ 64 → Each IsTaken (writes_without h p)
 unfolding writes_without host_without
@@ -199,11 +194,7 @@ event_stays w (Wire frame) none = go (ltb w.limit (length frame))
 ids_stay : (h : HostState) (t : Turn) → (host_of h t).ids ≡ h.ids
 unfolding host_after host_without
 ids_stay h (Happens e) = refl
-ids_stay h (Answers p message) = go (outcome h p message)
-  where
-    go : (o : Option Guest) → (host_with h p o).ids ≡ h.ids
-    go None = refl
-    go (Some g) = refl
+ids_stay h (Answers p message) = refl
 ids_stay h (Forgets p) = refl
 
 turn_settles : (h : HostState) (w : World) (t : Turn) → w.settings ≡ settings_of h → length h.ids ≤ 64 → IsTurn t → (world_after w (events_in h t)).settings ≡ settings_of (host_of h t)

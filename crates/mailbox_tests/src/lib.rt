@@ -15,4 +15,6 @@ mod pools;
 #[cfg(test)]
 mod refusals;
 #[cfg(test)]
+mod seconds;
+#[cfg(test)]
 mod start;

@@ -15,14 +15,15 @@ use Rattle.mailbox.specs.declared.message.Multicast.TheVariants.{Off, Asked, All
 use Rattle.mailbox.specs.declared.message.Message.{Message}
 use Rattle.mailbox.specs.declared.message.Message.TheVariants.{Reset, SetAddress, SetMulticast, JoinVlan, LeaveVlan, SetFrameLength, ClearSecond, ReplaceSecond, AddSecond, NegotiateApi, GetQueues, SetMulticastMode, GetLinkState, Other}
 use Rattle.mailbox.specs.declared.policy.Policy.{Policy}
+use Rattle.mailbox.specs.declared.policy.VlanPolicy.{VlanPolicy}
 use Rattle.mailbox.specs.declared.slot.Guest.{Guest}
 use Rattle.mailbox.specs.declared.slot.Slot.{Slot}
 use Rattle.mailbox.specs.declared.slot.Slot.TheVariants.{Absent, Admitted}
 use Rattle.mailbox.specs.Address.{number_of, is_number, is_unicast}
-use Rattle.mailbox.specs.Granting.{may_add, moved, has_room, second_added, found_by, found, place_from, place_where, joined_at, without_bit, left_at, wants_groups, with_multicast, granted, when_reset, answered}
+use Rattle.mailbox.specs.Granting.{may_add, moved, has_room, second_added, found_by, found, joined_at, without_bit, left_at, wants_groups, with_multicast, granted, when_reset, answered}
 use Rattle.mailbox.specs.Host.{outcome, slot_after, host_after, host_without, is_admitted, host_admitting}
-use Rattle.mailbox.specs.Policy.{is_port, is_port_at, may_join, is_placed, multicast_for}
-use Rattle.mailbox.specs.Slot.{policy_of, is_up, with_guest, granted_to, begun, has_queues, has_modes, holds}
+use Rattle.mailbox.specs.Policy.{is_port, is_port_at, may_join, is_placed, place_from, place_where, multicast_for}
+use Rattle.mailbox.specs.Slot.{policy_of, is_up, with_guest, granted_to, only, begun, has_queues, has_modes, holds}
 use Rattle.mailbox.specs.State.{HostState, slot_at, with_slot, is_taken, other_holds}
 use Rattle.mailbox.specs.Within.{is_granted, may_have, IsGuestWithin, IsWithinPolicy, IsWithin, KeepsPolicies}
 use Rattle.mailbox.specs.Words.{is_all, settings_of}
@@ -79,12 +80,21 @@ quiet_comes h p policy g k w address second joins mode = record {
 not_all : (m : Multicast) → is_all m ≡ false → m ≡ All → ⊥
 not_all m is same = true≢false (sym (ap is_all same) ∙ is)
 
-begun_comes : (h : HostState) (p : ℕ) (policy : Policy) (before : Option Guest) → MayCome h p policy before (begun policy)
+-- where a place is joined alone, it is one to join
+only_joins : (vlans : VlanPolicy) (place : Option ℕ) (k : ℕ) → has_bit (only (place_where (may_join vlans) place)) k ≡ true → may_join vlans k ≡ true
+only_joins vlans None k there = absurd (true≢false (sym there ∙ has_bit_zero k))
+only_joins vlans (Some n) k there = go (may_join vlans n) refl there
+  where
+    go : (b : Bool) → may_join vlans n ≡ b → has_bit (only (cond b (Some n) None)) k ≡ true → may_join vlans k ≡ true
+    go true may bit = subst (λ (m : ℕ). may_join vlans m ≡ true) (eqb-true n k (sym (has_bit_pow n k) ∙ bit)) may
+    go false may bit = absurd (true≢false (sym bit ∙ has_bit_zero k))
+
+begun_comes : (h : HostState) (p : ℕ) (policy : Policy) (before : Option Guest) → MayCome h p policy before (begun h.ids policy)
 begun_comes h p policy before = record {
   within = record {
     address = ap (λ b. b || (policy.may_choose && is_unicast (number_of policy.address))) (itself (number_of policy.address));
     second = λ a is. absurd (none_is is);
-    joined = λ k there. absurd (true≢false (sym there ∙ has_bit_zero k));
+    joined = λ k there. ap (λ b. is_port_at policy.vlans k || b) (only_joins policy.vlans (place_from 0 h.ids 0) k there) ∙ or-true (is_port_at policy.vlans k);
     multicast = λ is. absurd (not_all Asked refl is);
   };
   address = inl (own_held policy before (number_of policy.address) (itself (number_of policy.address)));
@@ -302,7 +312,7 @@ guest_stands h p policy before g fewer unicast comes = record {
     go a (inl own) = inl (own_held policy before a own)
     go a (inr other) = rest a (or_cases (eqb g.address a) (is_number g.second a) other)
 
-reset_comes : (h : HostState) (p : ℕ) (policy : Policy) (k : Guest) (message : Message) → when_reset policy message ≡ Some k → MayCome h p policy None k
+reset_comes : (h : HostState) (p : ℕ) (policy : Policy) (k : Guest) (message : Message) → when_reset h.ids policy message ≡ Some k → MayCome h p policy None k
 reset_comes h p policy k Reset is = subst (MayCome h p policy None) (some_is is) (begun_comes h p policy None)
 reset_comes h p policy k message is = absurd (none_is is)
 

@@ -1,5 +1,5 @@
 -- What a message makes of a function's guest.
-use Rattle.std.specs.Prelude.{ℕ, ◌+◌, ◌^◌, Bool, true, not, ◌&&◌, ◌||◌, ◌==◌, nat_le, suc, List, [], ◌∷◌, Option, Some, None, bit_and, if◌then◌else◌}
+use Rattle.std.specs.Prelude.{ℕ, ◌+◌, ◌^◌, Bool, true, not, ◌&&◌, ◌||◌, ◌==◌, nat_le, List, Option, Some, None, bit_and, if◌then◌else◌}
 use Rattle.std.specs.Int.{bit_not, w64}
 use Rattle.wire_frame.specs.Bits.{with_bit}
 use Rattle.mailbox.specs.declared.message.Multicast.{Multicast}
@@ -11,7 +11,7 @@ use Rattle.mailbox.specs.declared.slot.Guest.{Guest}
 use Rattle.mailbox.specs.declared.slot.Slot.{Slot}
 use Rattle.mailbox.specs.declared.slot.Slot.TheVariants.{Absent, Admitted}
 use Rattle.mailbox.specs.Address.{number_of, is_unicast}
-use Rattle.mailbox.specs.Policy.{is_port, may_join, multicast_for}
+use Rattle.mailbox.specs.Policy.{is_port, place_to_join, multicast_for}
 use Rattle.mailbox.specs.Slot.{begun, has_queues, has_modes}
 use Rattle.mailbox.specs.State.{HostState, is_taken}
 
@@ -46,26 +46,12 @@ found (Admitted policy (Some g)) message = Admitted policy (Some (found_by messa
 
 -- ---- VLANs
 
--- the first place from k on that has the id
-abbrev pub place_from : ℕ → List ℕ → ℕ → Option ℕ
-place_from k [] id = None
-place_from k (x ∷ xs) id = if x == id then Some k else place_from (suc k) xs id
-
--- the place, if it passes the test
-abbrev pub place_where : (ℕ → Bool) → Option ℕ → Option ℕ
-place_where t None = None
-place_where t (Some k) = if t k then Some k else None
-
--- the place of the id, where the policy has it as one to join
-abbrev pub joinable : HostState → Policy → ℕ → Option ℕ
-joinable h policy id = place_where (may_join policy.vlans) (place_from 0 h.ids id)
-
 abbrev pub joined_at : Guest → Option ℕ → Option Guest
 joined_at g None = None
 joined_at g (Some k) = Some (record g { joined = with_bit g.joined k })
 
 abbrev pub joined : HostState → Policy → Guest → ℕ → Option Guest
-joined h policy g id = joined_at g (joinable h policy id)
+joined h policy g id = joined_at g (place_to_join h.ids policy.vlans id)
 
 -- the set without place k
 abbrev pub without_bit : ℕ → ℕ → ℕ
@@ -77,7 +63,7 @@ left_at g (Some k) = Some (record g { joined = without_bit g.joined k })
 
 -- id 0 is never left; with a port VLAN nothing is joined or left
 abbrev pub left : HostState → Policy → Guest → ℕ → Option Guest
-left h policy g id = if id == 0 && not (is_port policy.vlans) then Some g else left_at g (joinable h policy id)
+left h policy g id = if id == 0 && not (is_port policy.vlans) then Some g else left_at g (place_to_join h.ids policy.vlans id)
 
 -- ---- the others
 
@@ -103,7 +89,7 @@ granted_if b g = if b then Some g else None
 
 -- the guest after a message that found it so, or nothing where the message is refused
 unfoldable pub granted : HostState → ℕ → Policy → Guest → Message → Option Guest
-granted h p policy g Reset = Some (begun policy)
+granted h p policy g Reset = Some (begun h.ids policy)
 granted h p policy g (SetAddress a) = moved h p policy g a
 granted h p policy g (SetMulticast groups) = Some (record g { groups = groups })
 granted h p policy g (JoinVlan id) = joined h policy g id
@@ -119,12 +105,12 @@ granted h p policy g GetLinkState = granted_if (has_modes g.api) g
 granted h p policy g Other = None
 
 -- a function without a guest hears RESET alone
-abbrev pub when_reset : Policy → Message → Option Guest
-when_reset policy Reset = Some (begun policy)
-when_reset policy message = None
+abbrev pub when_reset : List ℕ → Policy → Message → Option Guest
+when_reset ids policy Reset = Some (begun ids policy)
+when_reset ids policy message = None
 
 -- and one that no policy names hears nothing
 abbrev pub answered : HostState → ℕ → Slot → Message → Option Guest
 answered h p Absent message = None
-answered h p (Admitted policy None) message = when_reset policy message
+answered h p (Admitted policy None) message = when_reset h.ids policy message
 answered h p (Admitted policy (Some g)) message = granted h p policy g message

@@ -1,5 +1,5 @@
 -- What a policy grants.
-use Rattle.std.specs.Prelude.{ℕ, Bool, true, false, ◌==◌, nat_lt, List, length, slice_get, Option, Some, None, if◌then◌else◌}
+use Rattle.std.specs.Prelude.{ℕ, Bool, true, false, ◌==◌, nat_lt, suc, List, [], ◌∷◌, length, slice_get, Option, Some, None, if◌then◌else◌}
 use Rattle.wire_frame.specs.Bits.{has_bit}
 use Rattle.mailbox.specs.declared.message.Multicast.{Multicast}
 use Rattle.mailbox.specs.declared.message.Multicast.TheVariants.{Off, Asked, All}
@@ -21,6 +21,20 @@ is_port_at (Joins places) k = false
 abbrev pub may_join : VlanPolicy → ℕ → Bool
 may_join (Port j) k = false
 may_join (Joins places) k = has_bit places k
+
+-- the first place from k on that has the id
+abbrev pub place_from : ℕ → List ℕ → ℕ → Option ℕ
+place_from k [] id = None
+place_from k (x ∷ xs) id = if x == id then Some k else place_from (suc k) xs id
+
+-- the place, if it passes the test
+abbrev pub place_where : (ℕ → Bool) → Option ℕ → Option ℕ
+place_where t None = None
+place_where t (Some k) = if t k then Some k else None
+
+-- the place of the id, where it is one to join
+abbrev pub place_to_join : List ℕ → VlanPolicy → ℕ → Option ℕ
+place_to_join ids vlans id = place_where (may_join vlans) (place_from 0 ids id)
 
 -- the id of a port VLAN
 abbrev pub port_of : List ℕ → VlanPolicy → Option ℕ

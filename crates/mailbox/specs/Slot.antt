@@ -1,5 +1,5 @@
 -- One function: its policy, and its guest while it is up.
-use Rattle.std.specs.Prelude.{ℕ, Bool, true, false, ◌||◌, ◌==◌, is_some, Option, Some, None}
+use Rattle.std.specs.Prelude.{ℕ, ◌^◌, Bool, true, false, ◌||◌, ◌==◌, List, is_some, Option, Some, None}
 use Rattle.wire_frame.specs.Bits.{has_bit}
 use Rattle.mailbox.specs.declared.message.Api.{Api}
 use Rattle.mailbox.specs.declared.message.Api.TheVariants.{V1_0, V1_1, V1_2, V1_3}
@@ -9,7 +9,7 @@ use Rattle.mailbox.specs.declared.slot.Guest.{Guest}
 use Rattle.mailbox.specs.declared.slot.Slot.{Slot}
 use Rattle.mailbox.specs.declared.slot.Slot.TheVariants.{Absent, Admitted}
 use Rattle.mailbox.specs.Address.{number_of, is_number}
-use Rattle.mailbox.specs.Policy.{is_port, is_port_at}
+use Rattle.mailbox.specs.Policy.{is_port, is_port_at, place_to_join}
 
 abbrev pub policy_of : Slot → Option Policy
 policy_of Absent = None
@@ -39,12 +39,18 @@ has_port (Admitted policy guest) = is_port policy.vlans
 
 -- ---- a guest
 
--- as RESET leaves it: the permanent address, the groups that it asks for, 1,518 bytes and a tag, version 1.0
-abbrev pub begun : Policy → Guest
-begun policy = record {
+-- the set of that place alone, or of none
+abbrev pub only : Option ℕ → ℕ
+only None = 0
+only (Some k) = 2 ^ k
+
+-- as RESET leaves it: the permanent address, VLAN 0 where that is one to join, the groups that it asks for, 1,518 bytes and a
+-- tag, version 1.0
+abbrev pub begun : List ℕ → Policy → Guest
+begun ids policy = record {
   address = number_of policy.address;
   second = None;
-  joined = 0;
+  joined = only (place_to_join ids policy.vlans 0);
   groups = false;
   multicast = Asked;
   frame_length = 1522;

@@ -1,6 +1,6 @@
 //! What a message makes of a function's guest.
-ghost use Rattle.std.specs.Prelude.{◌≡◌, ◌<◌, ◌≤◌, IfSome, length};
-ghost use Rattle.mailbox.specs.Granting.{may_add, place_from, joinable, joined, left, moved, has_room, second_added, found_by, found, length_set, multicast_set, granted, when_reset, answered};
+ghost use Rattle.std.specs.Prelude.{◌≡◌, ◌≤◌, length};
+ghost use Rattle.mailbox.specs.Granting.{may_add, joined, left, moved, has_room, second_added, found_by, found, length_set, multicast_set, granted, when_reset, answered};
 
 use crate::address::Address;
 use crate::host::Host;
@@ -19,7 +19,7 @@ impl Host {
             Slot::Admitted {
                 policy,
                 guest: None,
-            } => when_reset(&policy, message),
+            } => when_reset(self.ids(), &policy, message),
             Slot::Admitted {
                 policy,
                 guest: Some(guest),
@@ -39,7 +39,7 @@ impl Host {
         ensures { result ≡ granted self.now pool policy.now guest message }
     {
         match message {
-            Message::Reset => Some(Guest::begun(policy)),
+            Message::Reset => Some(Guest::begun(self.ids(), policy)),
             Message::SetAddress(address) => self.moved(pool, policy, guest, address),
             Message::SetMulticast(groups) => Some(Guest { groups, ..guest }),
             Message::JoinVlan(id) => self.joined(policy, guest, id),
@@ -109,20 +109,11 @@ impl Host {
         }
     }
 
-    // The place of the id, where the policy has it as one to join.
-    fn joinable(&self, policy: &Policy, id: Vid) -> Option<u32>
-        ensures place { result ≡ joinable self.now policy.now id }
-        ensures below { IfSome result (λ k. k < 64) }
-    {
-        let place = place_of(self.ids(), id.get())?;
-        policy.vlans.may_join(place).then_some(place)
-    }
-
     // The guest, which joins the VLAN.
     fn joined(&self, policy: &Policy, guest: Guest, id: Vid) -> Option<Guest>
         ensures { result ≡ joined self.now policy.now guest id }
     {
-        let place = self.joinable(policy, id)?;
+        let place = policy.vlans.place_to_join(self.ids(), id.get())?;
         let joined = guest.joined | 1 << place;
         Some(Guest { joined, ..guest })
     }
@@ -134,7 +125,7 @@ impl Host {
         if id.get() == 0 && !policy.vlans.is_port() {
             return Some(guest);
         }
-        let place = self.joinable(policy, id)?;
+        let place = policy.vlans.place_to_join(self.ids(), id.get())?;
         let joined = guest.joined & !(1 << place);
         Some(Guest { joined, ..guest })
     }
@@ -182,11 +173,12 @@ fn has_room(second: Option<Address>, address: Address) -> bool
 }
 
 // A function without a guest hears RESET alone.
-fn when_reset(policy: &Policy, message: Message) -> Option<Guest>
-    ensures { result ≡ when_reset policy.now message }
+fn when_reset(ids: &[u16], policy: &Policy, message: Message) -> Option<Guest>
+    requires { length ids.now ≤ 64 }
+    ensures { result ≡ when_reset ids.now policy.now message }
 {
     match message {
-        Message::Reset => Some(Guest::begun(policy)),
+        Message::Reset => Some(Guest::begun(ids, policy)),
         _ => None,
     }
 }
@@ -204,18 +196,4 @@ fn with_multicast(guest: Guest, multicast: Option<Multicast>) -> Option<Guest>
         groups: guest.groups && multicast != Multicast::Off,
         ..guest
     })
-}
-
-// The first place that has the id.
-fn place_of(ids: &[u16], id: u16) -> Option<u32>
-    requires { length ids.now ≤ 64 }
-    ensures place { result ≡ place_from 0 ids.now id }
-    ensures below { IfSome result (λ k. k < 64) }
-{
-    for k in 0..ids.len() {
-        if ids[k] == id {
-            return Some(k as u32);
-        }
-    }
-    None
 }

@@ -1,7 +1,7 @@
 //! What the host's administrator grants a function.
-ghost use Rattle.std.specs.Prelude.{◌≡◌, ◌<◌, ◌==◌};
+ghost use Rattle.std.specs.Prelude.{◌≡◌, ◌<◌, ◌≤◌, ◌==◌, IfSome, length};
 ghost use Rattle.mailbox.specs.Address.{number_of};
-ghost use Rattle.mailbox.specs.Policy.{is_port, is_port_at, may_join, port_of, is_placed, multicast_for};
+ghost use Rattle.mailbox.specs.Policy.{is_port, is_port_at, may_join, place_from, place_to_join, port_of, is_placed, multicast_for};
 
 use crate::address::Address;
 use crate::message::Multicast;
@@ -68,6 +68,16 @@ impl VlanPolicy {
         }
     }
 
+    /// The place of the id, where a driver may join it.
+    pub(crate) fn place_to_join(self, ids: &[u16], id: u16) -> Option<u32>
+        requires { length ids.now ≤ 64 }
+        ensures place { result ≡ place_to_join ids.now self id }
+        ensures below { IfSome result (λ k. k < 64) }
+    {
+        let place = place_of(ids, id)?;
+        self.may_join(place).then_some(place)
+    }
+
     /// The id of a port VLAN.
     pub(crate) fn port(self, ids: &[u16]) -> Option<u16>
         ensures { result ≡ port_of ids.now self }
@@ -103,4 +113,18 @@ impl Policy {
             }
         }
     }
+}
+
+// The first place that has the id.
+fn place_of(ids: &[u16], id: u16) -> Option<u32>
+    requires { length ids.now ≤ 64 }
+    ensures place { result ≡ place_from 0 ids.now id }
+    ensures below { IfSome result (λ k. k < 64) }
+{
+    for k in 0..ids.len() {
+        if ids[k] == id {
+            return Some(k as u32);
+        }
+    }
+    None
 }

@@ -1,7 +1,7 @@
 //! One function: its policy, and what its guest has asked for.
-ghost use Rattle.std.specs.Prelude.{◌≡◌, ◌<◌, Some};
+ghost use Rattle.std.specs.Prelude.{◌≡◌, ◌<◌, ◌≤◌, IfSome, Some, length};
 ghost use Rattle.mailbox.specs.Address.{low_part, high_part};
-ghost use Rattle.mailbox.specs.Slot.{guest_of, is_up, has_port, begun, first_of, second_of, holds, joined_by, has_joined, with_guest, granted_to, has_queues, has_modes};
+ghost use Rattle.mailbox.specs.Slot.{guest_of, is_up, has_port, only, begun, first_of, second_of, holds, joined_by, has_joined, with_guest, granted_to, has_queues, has_modes};
 
 use crate::address::{Address, high_part, is_number, low_part};
 use crate::message::{Api, Multicast};
@@ -42,14 +42,16 @@ pub enum Slot {
 }
 
 impl Guest {
-    /// A guest that has asked for nothing yet, as RESET leaves it.
-    pub(crate) fn begun(policy: &Policy) -> Guest
-        ensures { result ≡ begun policy.now }
+    /// A guest that has asked for nothing yet, as RESET leaves it: it is in VLAN 0, where the policy has that as one to join, as
+    /// each function of Linux's is that has no port VLAN. So frames with a tag of priority alone come to it and go from it.
+    pub(crate) fn begun(ids: &[u16], policy: &Policy) -> Guest
+        requires { length ids.now ≤ 64 }
+        ensures { result ≡ begun ids.now policy.now }
     {
         Guest {
             address: Address::of(policy.address),
             second: None,
-            joined: 0,
+            joined: only(policy.vlans.place_to_join(ids, 0)),
             groups: false,
             multicast: Multicast::Asked,
             frame_length: 1522,
@@ -193,6 +195,17 @@ impl Slot {
                 guest: Some(guest),
             } => { policy.vlans.is_port_at(place) || guest.has_joined(place) }
         }
+    }
+}
+
+// The set of that place alone, or of none.
+fn only(place: Option<u32>) -> u64
+    requires { IfSome place (λ k. k < 64) }
+    ensures { result ≡ only place }
+{
+    match place {
+        None => 0,
+        Some(place) => 1 << place,
     }
 }
 

@@ -42,8 +42,9 @@ fn starts(rt: HostRuntime) -> Result<(), Fail> {
     Ok(())
 }
 
-/// What changes a register, and nothing else. RESET of pool 7: RAL and RAH of entry 7, VMOLR, and its words of PFVFRE and PFVFTE.
-/// That it joins VLAN 100: its word of VLVFB. The same again, the version, queues and a length: nothing. A second address: RAL and
+/// What changes a register, and nothing else. RESET of pool 7: RAL and RAH of entry 7, VMOLR, its words of PFVFRE and PFVFTE, and
+/// that of VLVFB for VLAN 0, which is at place 0. That it asks for VLAN 0: nothing. That it joins VLAN 100: its word of VLVFB. The
+/// same again, the version, queues, a length, and that it leaves VLAN 0: nothing. A second address: RAL and
 /// RAH of entry 71; another one: RAH, RAL and RAH. That it goes: RAH and RAL of both entries, and the others.
 #[test]
 fn writes_what_changes(rt: HostRuntime) -> Result<(), Fail> {
@@ -64,8 +65,11 @@ fn writes_what_changes(rt: HostRuntime) -> Result<(), Fail> {
         write(VMOLR + 4 * 7, 0x0900_0000),
         write(PFVFRE, 0x80),
         write(PFVFTE, 0x80),
+        write(VLVFB, 0x80),
     ];
     assert!(rt; writes.as_slice() == wanted.as_slice());
+    let writes = ask(&mut host, pool, &mut mailbox, [0x1_0004, 0, 0])?;
+    assert_eq!(rt; writes.as_slice().len(), 0);
     let writes = ask(&mut host, pool, &mut mailbox, [0x1_0004, 100, 0])?;
     assert!(rt; writes.as_slice() == [write(VLVFB + 8, 0x80)].as_slice());
     for message in [
@@ -73,6 +77,7 @@ fn writes_what_changes(rt: HostRuntime) -> Result<(), Fail> {
         [8, 4, 0],
         [9, 0, 0],
         [5, 9022, 0],
+        [4, 0, 0],
         [2, 0x9059_8202, 0x1000],
     ] {
         let writes = ask(&mut host, pool, &mut mailbox, message)?;
@@ -110,6 +115,7 @@ fn writes_what_changes(rt: HostRuntime) -> Result<(), Fail> {
         write(VMOLR + 4 * 7, 0),
         write(PFVFRE, 0),
         write(PFVFTE, 0),
+        write(VLVFB, 0),
         write(VLVFB + 8, 0),
     ];
     assert!(rt; writes.as_slice() == wanted.as_slice());

@@ -13,7 +13,7 @@ use Rattle.pool_filter.specs.Settings.{Settings}
 use Rattle.mailbox.specs.declared.slot.Slot.{Slot}
 use Rattle.mailbox.specs.declared.message.Message.{Message}
 use Rattle.mailbox.specs.declared.writes.Write.{Write}
-use Rattle.mailbox.specs.Slot.{is_up, has_joined, with_guest}
+use Rattle.mailbox.specs.Slot.{is_on, has_joined, with_guest}
 use Rattle.mailbox.specs.State.{HostState, slot_at, with_slot}
 use Rattle.mailbox.specs.Host.{slot_after, host_after, host_without}
 use Rattle.mailbox.specs.Isolation.{IsSameFor, IsSameForAll}
@@ -142,7 +142,7 @@ meanwhile h p q f done left small few q_small other is = record {
     old_up j half = ap (λ w. has_bit w (q % 32)) (table_at (up_word h) 2 j (omega (arith, half, q_small))) ∙ up_word_bit h q j q_small half
 
     new_up : (j : ℕ) → HoldsBit (up_at h q) q j (bit_and (up_word k j) 0xFFFFFFFF)
-    new_up j half = ap (λ w. has_bit w (q % 32)) (kept_mask (up_at k) (32 * j)) ∙ up_word_bit k q j q_small half ∙ ap (λ g. (is_up g)) same
+    new_up j half = ap (λ w. has_bit w (q % 32)) (kept_mask (up_at k) (32 * j)) ∙ up_word_bit k q j q_small half ∙ ap (λ g. (is_on g)) same
 
     up_bits : (words : List ℕ) → has_bit (get_or words (q / 32) 0) (q % 32) ≡ up_at h q → has_bit_in words q ≡ up_at h q
     up_bits words bit = bit

@@ -16,7 +16,7 @@ use Rattle.mailbox.specs.declared.slot.Slot.{Slot}
 use Rattle.mailbox.specs.declared.writes.Write.{Write}
 use Rattle.mailbox.specs.State.{HostState, slot_at, with_slot}
 use Rattle.mailbox.specs.Address.{low_part}
-use Rattle.mailbox.specs.Slot.{is_up, own_address, second_address, has_joined}
+use Rattle.mailbox.specs.Slot.{is_on, own_address, second_address, has_joined}
 use Rattle.mailbox.specs.Words.{table, mask_from, entry, low_word, valid, high_word, pool_word, table_word, id_word, control_word, member_word, joined_at, up_at, up_word, flags_word, port_word, addresses_of, vlans_of, settings_of}
 use Rattle.mailbox.specs.Writes.{changes, turns, moves, joins_or_leaves, writes_of, after_writes}
 use Rattle.mailbox.proofs.Isolation.{slot_stays, entry_stays}
@@ -78,8 +78,8 @@ pool_parts k p old new =
 
 abbrev pub shared_parts : HostState → ℕ → Slot → Slot → List Part
 shared_parts k p old new =
-    record { test = λ i. turns (is_up old) (is_up new); row = PFVFRE; word = up_word k; from = p / 32; count = 1 }
-    ∷ record { test = λ i. turns (is_up old) (is_up new); row = PFVFTE; word = up_word k; from = p / 32; count = 1 }
+    record { test = λ i. turns (is_on old) (is_on new); row = PFVFRE; word = up_word k; from = p / 32; count = 1 }
+    ∷ record { test = λ i. turns (is_on old) (is_on new); row = PFVFTE; word = up_word k; from = p / 32; count = 1 }
     ∷ record { test = joins_or_leaves p old new; row = VLVFB; word = member_word k; from = 0; count = 2 * length k.ids }
     ∷ []
 
@@ -286,10 +286,10 @@ rows_settle h p f small few = λ i. record {
         ∙ table_same 64 _ (λ q. port_word k.ids (slot_at k q)) (λ j below. pool_settles h p f (port_word h.ids) j)
 
     ups_stay : (q : ℕ) → q ≢ p → up_at h q ≡ up_at k q
-    ups_stay q other = ap (λ g. (is_up g)) (sym (slot_stays h p q f other))
+    ups_stay q other = ap (λ g. (is_on g)) (sym (slot_stays h p q f other))
 
-    up_settles : (j : ℕ) → cond (within (p / 32) 1 j && turns (is_up old) (is_up new)) (up_word k j) (up_word h j) ≡ up_word k j
-    up_settles j = ap (λ b. cond (b && turns (is_up old) (is_up new)) (up_word k j) (up_word h j)) (one_place (p / 32) j) ∙ half_settles (up_at h) (up_at k) p j ups_stay
+    up_settles : (j : ℕ) → cond (within (p / 32) 1 j && turns (is_on old) (is_on new)) (up_word k j) (up_word h j) ≡ up_word k j
+    up_settles j = ap (λ b. cond (b && turns (is_on old) (is_on new)) (up_word k j) (up_word h j)) (one_place (p / 32) j) ∙ half_settles (up_at h) (up_at k) p j ups_stay
 
     receives : row_after PFVFRE (table 2 (up_word h)) (writes_in (parts k p old)) ≡ table 2 (up_word k)
     receives =

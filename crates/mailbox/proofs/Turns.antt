@@ -4,7 +4,7 @@ use Rattle.std.proofs.lemmas.Bool.Decides.{nat_tests}
 use Rattle.wire_frame.specs.declared.row.Row.{Row}
 use Rattle.mailbox.specs.declared.slot.Slot.{Slot}
 use Rattle.mailbox.specs.declared.message.Message.{Message}
-use Rattle.mailbox.specs.Slot.{is_up, own_address, second_address, has_joined, with_guest}
+use Rattle.mailbox.specs.Slot.{is_on, own_address, second_address, has_joined, with_guest}
 use Rattle.mailbox.specs.State.{HostState, slot_at, with_slot}
 use Rattle.mailbox.specs.Host.{slot_after, host_after, host_without}
 use Rattle.vlan_table.specs.Registers.{VLVFB}
@@ -26,7 +26,7 @@ none_is {X} {x} same = true≢false (ap is_none same)
 -- ---- functions that make the same registers
 
 pub record IsAlike (f g : Slot) : Type 0 where
-  pub up : is_up f ≡ is_up g
+  pub up : is_on f ≡ is_on g
   pub address : own_address f ≡ own_address g
   pub second : second_address f ≡ second_address g
   pub joined : (k : ℕ) → has_joined f k ≡ has_joined g k

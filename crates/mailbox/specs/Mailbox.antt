@@ -1,8 +1,10 @@
 -- The mailbox of one function: what its driver reads and writes, and what the host puts there.
-use Rattle.std.specs.Prelude.{ℕ, ◌==◌, List, ◌∷◌, Option, Some, None, replicate, slice_index, slice_set, bit_and, bit_or, if◌then◌else◌}
+use Rattle.std.specs.Prelude.{ℕ, Bool, not, ◌==◌, List, ◌∷◌, Option, Some, None, replicate, slice_index, slice_set, bit_and, bit_or, if◌then◌else◌}
 use Rattle.wire_frame.specs.Bits.{has_bit}
 use Rattle.wire_frame.specs.Row.{is_in, ◌or◌, word_at, words_after, one_at}
-use Rattle.mailbox.specs.Registers.{VFMBMEM, VFMAILBOX, REQ, VFU, ANSWERED, RSTD, READ_KEEPS, WRITE_KEEPS}
+use Rattle.mailbox.specs.Registers.{VFMBMEM, VFMAILBOX, REQ, VFU, ANSWERED, PFSTS, HELD, RSTD, READ_KEEPS, WRITE_KEEPS}
+use Rattle.mailbox.specs.declared.mailbox.Notice.{Notice}
+use Rattle.mailbox.specs.declared.mailbox.Notice.TheVariants.{Waits, Raises}
 use Rattle.mailbox.specs.declared.mailbox.Rang.{Rang}
 use Rattle.mailbox.specs.declared.mailbox.Rang.TheVariants.{Nothing, Request}
 use Rattle.mailbox.specs.declared.message.Reply.{Reply}
@@ -40,6 +42,19 @@ after_write m offset x = record {
   words = words_after VFMBMEM m.words offset x;
   control = if offset == VFMAILBOX then bit_or (bit_and m.control WRITE_KEEPS) (bit_and x VFU) else m.control;
 }
+
+-- the driver has the memory, or has a reply to look for
+abbrev pub is_held : MailboxState → Bool
+is_held m = not (bit_and m.control HELD == 0)
+
+-- a message of the host's own in word 0, with PFSTS, unless the driver has the memory
+unfoldable pub noticed : MailboxState → ℕ → MailboxState
+noticed m head =
+    if is_held m then m
+    else record { words = slice_set m.words 0 head; control = bit_or m.control PFSTS }
+
+unfoldable pub notice_in : MailboxState → Notice
+notice_in m = if is_held m then Waits else Raises
 
 -- the mailbox with a reply in words 0 to 4
 unfoldable pub replied : MailboxState → Reply → MailboxState

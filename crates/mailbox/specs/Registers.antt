@@ -21,6 +21,14 @@ VFU = 0x04
 abbrev pub ANSWERED : ℕ
 ANSWERED = 0x30
 
+-- PFSTS alone
+abbrev pub PFSTS : ℕ
+PFSTS = 0x10
+
+-- VFU and PFACK: the driver has taken the memory, or has not looked since its message was answered
+abbrev pub HELD : ℕ
+HELD = 0x24
+
 -- RSTD alone
 abbrev pub RSTD : ℕ
 RSTD = 0x80
@@ -48,6 +56,10 @@ ACK = 31
 -- RESET is the whole word, and the others are types in bits 15:0
 abbrev pub RESET : ℕ
 RESET = 1
+
+-- a message of the host's own
+abbrev pub CONTROL : ℕ
+CONTROL = 0x100
 
 abbrev pub SET_MAC_ADDR : ℕ
 SET_MAC_ADDR = 2

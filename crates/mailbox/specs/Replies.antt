@@ -6,10 +6,10 @@ use Rattle.mailbox.specs.declared.message.Reply.{Reply}
 use Rattle.mailbox.specs.declared.slot.Guest.{Guest}
 use Rattle.mailbox.specs.declared.slot.Slot.{Slot}
 use Rattle.mailbox.specs.Address.{low_part, high_part}
-use Rattle.mailbox.specs.Mailbox.{MailboxState, replied}
+use Rattle.mailbox.specs.Mailbox.{MailboxState, replied, noticed}
 use Rattle.mailbox.specs.Message.{message_of, mode_of}
-use Rattle.mailbox.specs.Registers.{CTS, NACK, ACK, RESET}
-use Rattle.mailbox.specs.Slot.{is_up, has_port}
+use Rattle.mailbox.specs.Registers.{CTS, NACK, ACK, RESET, CONTROL}
+use Rattle.mailbox.specs.Slot.{is_up, has_link, has_port}
 use Rattle.mailbox.specs.State.{HostState, slot_at}
 use Rattle.mailbox.specs.Host.{outcome}
 
@@ -29,12 +29,16 @@ refused_head words s = slice_index words 0 % 2 ^ CTS + 2 ^ NACK + (if is_up s th
 abbrev pub inserted_vlans : Slot → ℕ
 inserted_vlans s = if has_port s then 1 else 0
 
+-- the link is up, or not
+abbrev pub link_word : Slot → ℕ
+link_word s = if has_link s then 1 else 0
+
 -- the reply that grants; the driver compares that to RESET whole, so that it has no CTS
 abbrev pub granting : List ℕ → Slot → Guest → Message → Reply
 granting words s g Reset = record { words = (2 ^ ACK + RESET) ∷ low_part (Some g.address) ∷ high_part (Some g.address) ∷ 0 ∷ slice_index words 4 ∷ [] }
 granting words s g GetQueues = record { words = granted_head words ∷ 2 ∷ 2 ∷ inserted_vlans s ∷ 0 ∷ [] }
 granting words s g (SetMulticastMode asked) = record { words = granted_head words ∷ mode_of g.multicast ∷ slice_index words 2 ∷ slice_index words 3 ∷ slice_index words 4 ∷ [] }
-granting words s g GetLinkState = record { words = granted_head words ∷ 1 ∷ slice_index words 2 ∷ slice_index words 3 ∷ slice_index words 4 ∷ [] }
+granting words s g GetLinkState = record { words = granted_head words ∷ link_word s ∷ slice_index words 2 ∷ slice_index words 3 ∷ slice_index words 4 ∷ [] }
 granting words s g message = echoed words (granted_head words)
 
 -- the reply to the message in the words, which left the guest so, or was refused
@@ -46,3 +50,11 @@ reply_of words s message (Some g) = granting words s g message
 -- only by whether one of them holds the address that is asked for
 unfoldable pub reply_to : HostState → ℕ → MailboxState → MailboxState
 reply_to h p m = replied m (reply_of m.words (slot_at h p) (message_of m.words) (outcome h p (message_of m.words)))
+
+-- word 0 of a message of the host's own: with CTS where the function's link is up, and with NACK where the function is not up,
+-- so that its driver begins anew
+abbrev pub notice_head : Slot → ℕ
+notice_head s = CONTROL + (if is_up s then (if has_link s then 2 ^ CTS else 0) else 2 ^ NACK)
+
+unfoldable pub notified : HostState → ℕ → MailboxState → MailboxState
+notified h p m = noticed m (notice_head (slot_at h p))

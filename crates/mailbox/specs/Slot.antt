@@ -1,5 +1,5 @@
 -- One function: its policy, and its guest while it is up.
-use Rattle.std.specs.Prelude.{ℕ, ◌^◌, Bool, true, false, ◌||◌, ◌==◌, List, is_some, Option, Some, None}
+use Rattle.std.specs.Prelude.{ℕ, ◌^◌, Bool, true, false, ◌&&◌, ◌||◌, ◌==◌, List, is_some, Option, Some, None}
 use Rattle.wire_frame.specs.Bits.{has_bit}
 use Rattle.mailbox.specs.declared.message.Api.{Api}
 use Rattle.mailbox.specs.declared.message.Api.TheVariants.{V1_0, V1_1, V1_2, V1_3}
@@ -32,6 +32,15 @@ granted_to s (Some g) = with_guest s (Some g)
 -- a function is up while it has a guest
 abbrev pub is_up : Slot → Bool
 is_up s = is_some (guest_of s)
+
+-- the administrator has its link up
+abbrev pub has_link : Slot → Bool
+has_link Absent = false
+has_link (Admitted policy guest) = policy.link_up
+
+-- it may receive and transmit: it is up, and so is its link
+abbrev pub is_on : Slot → Bool
+is_on s = is_up s && has_link s
 
 abbrev pub has_port : Slot → Bool
 has_port Absent = false

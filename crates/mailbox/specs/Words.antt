@@ -17,7 +17,7 @@ use Rattle.mailbox.specs.declared.words.Set.{Set}
 use Rattle.mailbox.specs.declared.words.Set.TheVariants.{Up, Joined, Named}
 use Rattle.mailbox.specs.Address.{low_part, high_part}
 use Rattle.mailbox.specs.Policy.{port_of}
-use Rattle.mailbox.specs.Slot.{guest_of, is_up, has_port, own_address, second_address, has_joined}
+use Rattle.mailbox.specs.Slot.{guest_of, is_on, has_port, own_address, second_address, has_joined}
 use Rattle.mailbox.specs.State.{HostState, slot_at}
 
 -- the number with bit i at 1 where the test holds of first + i, for each i below count
@@ -32,12 +32,12 @@ table n word = map word (range_with_len 0 n)
 -- ---- sets of pools and of ids
 
 abbrev pub up_at : HostState → ℕ → Bool
-up_at h p = is_up (slot_at h p)
+up_at h p = is_on (slot_at h p)
 
 abbrev pub joined_at : HostState → ℕ → ℕ → Bool
 joined_at h k p = has_joined (slot_at h p) k
 
--- the functions that are up, those that joined the VLAN at place k, and the ids that policies name
+-- the functions that are up with their links, those that joined the VLAN at place k, and the ids that policies name
 abbrev pub is_in_set : HostState → Set → ℕ → Bool
 is_in_set h Up = up_at h
 is_in_set h (Joined k) = joined_at h k
@@ -87,7 +87,7 @@ member_word h i = if nat_lt i (2 * length h.ids) then mask_from (joined_at h (i 
 
 -- ---- pools
 
--- PFVFRE and PFVFTE: the functions that are up
+-- PFVFRE and PFVFTE: the functions that are up with their links
 abbrev pub up_word : HostState → ℕ → ℕ
 up_word h half = mask_from (up_at h) (32 * half) 32
 

@@ -9,7 +9,7 @@ use Rattle.mailbox.specs.declared.slot.Slot.{Slot}
 use Rattle.mailbox.specs.declared.message.Message.{Message}
 use Rattle.mailbox.specs.declared.writes.Write.{Write}
 use Rattle.mailbox.specs.Address.{is_number, low_part}
-use Rattle.mailbox.specs.Slot.{is_up, own_address, second_address, has_joined}
+use Rattle.mailbox.specs.Slot.{is_on, own_address, second_address, has_joined}
 use Rattle.mailbox.specs.State.{HostState, slot_at}
 use Rattle.mailbox.specs.Host.{host_after, host_without}
 use Rattle.mailbox.specs.Words.{valid, member_word, up_word, flags_word, port_word}
@@ -66,8 +66,8 @@ pool_writes h p old new =
 -- the words of 32 pools in which pool p stands: who may receive, who may transmit, and who joined a VLAN
 abbrev pub shared_writes : HostState → ℕ → Slot → Slot → List Write
 shared_writes h p old new =
-    writes_where (λ i. turns (is_up old) (is_up new)) PFVFRE (up_word h) (p / 32) 1
-    ++ writes_where (λ i. turns (is_up old) (is_up new)) PFVFTE (up_word h) (p / 32) 1
+    writes_where (λ i. turns (is_on old) (is_on new)) PFVFRE (up_word h) (p / 32) 1
+    ++ writes_where (λ i. turns (is_on old) (is_on new)) PFVFTE (up_word h) (p / 32) 1
     ++ writes_where (joins_or_leaves p old new) VLVFB (member_word h) 0 (2 * length h.ids)
 
 -- for the host as it is, and what the function of pool p was before

@@ -51,7 +51,7 @@ impl Host {
         ensures list { writes.new ≡ writes.old ++ shared_writes self.now p before.now after.now }
         ensures few { length self.now.ids ≤ 64 }
     {
-        let turned = turns(before.is_up(), after.is_up());
+        let turned = turns(before.is_on(), after.is_on());
         let half = p / 32;
         writes.put_if(turned, PFVFRE, half, self.up_word(half));
         writes.put_if(turned, PFVFTE, half, self.up_word(half));

@@ -8,13 +8,14 @@ ghost use Rattle.mailbox.specs.Slot.{with_guest};
 ghost use Rattle.mailbox.specs.declared.slot.Slot.TheVariants.{Absent};
 ghost use Rattle.mailbox.specs.Isolation.{IsSameFor, IsSameForAll};
 ghost use Rattle.mailbox.specs.Message.{message_of};
-ghost use Rattle.mailbox.specs.Replies.{reply_to};
+ghost use Rattle.mailbox.specs.Mailbox.{notice_in};
+ghost use Rattle.mailbox.specs.Replies.{reply_to, notified};
 ghost use Rattle.mailbox.specs.Within.{IsWithin, KeepsPolicies};
 ghost use Rattle.mailbox.specs.Words.{settings_of};
 ghost use Rattle.mailbox.specs.Writes.{writes_of, after_writes, writes_after, writes_without};
 
 use crate::address::Address;
-use crate::mailbox::Mailbox;
+use crate::mailbox::{Mailbox, Notice};
 use crate::message::Message;
 use crate::policy::Policy;
 use crate::slot::{Guest, Slot};
@@ -298,6 +299,7 @@ impl Host {
     ///     may_choose: false,
     ///     vlans: VlanPolicy::Joins(1),
     ///     all_multicast: false,
+    ///     link_up: true,
     /// };
     /// host.admit(pool, &policy)?;
     /// // the driver asks for a reset (VFMBMEM), takes the mailbox and rings (VFMAILBOX)
@@ -326,6 +328,19 @@ impl Host {
         ensures policies { IsWithin self.old → KeepsPolicies self.old self.new }
     {
         self.hear(pool, mailbox)
+    }
+
+    /// Puts the host's own message into the mailbox of the pool's function, so that its driver looks at its link again: after a
+    /// change of its policy, or where the link of the port went or came. Word 0 has CTS where the function is up with its link;
+    /// neither CTS nor NACK where its link is down; and NACK where it is not up, so that its driver begins anew.
+    ///
+    /// What is to be done is told: to raise the function's cause "other", or to try again.
+    #[tactic(auto, unfolding(crate::specs::Replies::notified))]
+    pub fn notify(&self, pool: PoolId, mailbox: &mut Mailbox) -> Notice
+        ensures notice { result ≡ notice_in mailbox.old }
+        ensures mailbox { mailbox.new ≡ notified self.now pool mailbox.old }
+    {
+        mailbox.notice(self.slot(pool).notice_head())
     }
 
     /// Forgets what the guest of the pool's function asked for, where the function is reset from outside or by VFCTRL and

@@ -29,7 +29,7 @@ pub mod writes;
 
 pub use address::Address;
 pub use host::Host;
-pub use mailbox::{Mailbox, Rang};
+pub use mailbox::{Mailbox, Notice, Rang};
 pub use message::{Api, Message, Multicast, Reply};
 pub use policy::{Policy, VlanPolicy};
 pub use slot::{Guest, Slot};

@@ -1,12 +1,13 @@
 //! The mailbox of one virtual function.
 ghost use Rattle.std.specs.Prelude.{◌≡◌};
 ghost use Rattle.mailbox.specs.Replies.{reply_of};
-ghost use Rattle.mailbox.specs.Mailbox.{blank, after_reset, read_at, after_read, after_write, rung_at, replied};
+ghost use Rattle.mailbox.specs.Mailbox.{blank, after_reset, read_at, after_read, after_write, rung_at, replied, noticed, notice_in};
 ghost use Rattle.mailbox.specs.Message.{message_of};
 
 use crate::message::{Message, Reply};
 use crate::registers::{
-    ANSWERED, READ_KEEPS, REQ, RSTD, VFMAILBOX, VFMBMEM, VFU, WORD_AFTER_RESET, WRITE_KEEPS,
+    ANSWERED, HELD, PFSTS, READ_KEEPS, REQ, RSTD, VFMAILBOX, VFMBMEM, VFU, WORD_AFTER_RESET,
+    WRITE_KEEPS,
 };
 use crate::slot::{Guest, Slot};
 use std::marker::Model;
@@ -19,6 +20,16 @@ pub enum Rang {
     Nothing,
     /// The function asks the host to read the message that stands in the memory.
     Request,
+}
+
+/// What came of a message of the host's own.
+#[derive(Clone, Copy, Debug, PartialEq, Eq)]
+pub enum Notice {
+    /// The function's driver has the memory, or has not looked since its message was answered: nothing is changed. It is to be
+    /// given again after the driver's next access to VFMAILBOX.
+    Waits,
+    /// It stands in the memory, and the function's cause "other" (mailbox) is to be raised.
+    Raises,
 }
 
 /// The mailbox of one virtual function: sixteen words of memory, and VFMAILBOX (82599 datasheet, VF Mailbox).
@@ -121,6 +132,20 @@ impl Mailbox {
         self.words[3] = reply.words[3];
         self.words[4] = reply.words[4];
         self.control |= ANSWERED;
+    }
+
+    /// Puts a message of the host's own into word 0, and sets PFSTS, unless the driver has the memory.
+    #[tactic(auto, unfolding(crate::specs::Mailbox::noticed, crate::specs::Mailbox::notice_in))]
+    pub(crate) fn notice(&mut self, head: u32) -> Notice
+        ensures notice { result ≡ notice_in self.old }
+        ensures mailbox { self.new ≡ noticed self.old head }
+    {
+        if self.control & HELD != 0 {
+            return Notice::Waits;
+        }
+        self.words[0] = head;
+        self.control |= PFSTS;
+        Notice::Raises
     }
 
     /// Puts the reply to the message that stands in the memory, which left the guest of the function so, or was refused.

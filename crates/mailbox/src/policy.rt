@@ -27,6 +27,8 @@ pub struct Policy {
     pub vlans: VlanPolicy,
     /// Its driver may ask for all multicast.
     pub all_multicast: bool,
+    /// Its link is up: where it is not, its driver is told so, and it neither receives nor sends.
+    pub link_up: bool,
 }
 
 impl VlanPolicy {

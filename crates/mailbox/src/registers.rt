@@ -16,6 +16,11 @@ pub const REQ: u32 = 0;
 pub const VFU: u32 = 0x4;
 /// Bits PFSTS and PFACK of VFMAILBOX as a mask: the host has written an answer, and has read the message.
 pub const ANSWERED: u32 = 0x30;
+/// Bit PFSTS of VFMAILBOX as a mask: the host has written into the memory.
+pub const PFSTS: u32 = 0x10;
+/// Bits VFU and PFACK of VFMAILBOX as a mask: the function's driver has taken the memory, or has not looked since its message
+/// was answered.
+pub const HELD: u32 = 0x24;
 /// Bit RSTD of VFMAILBOX as a mask: the function was reset from outside.
 pub const RSTD: u32 = 0x80;
 /// The bits of VFMAILBOX that a read leaves as they are: VFU, PFU and RSTI. It clears PFSTS, PFACK and RSTD.
@@ -34,6 +39,8 @@ pub const ACK: u32 = 0x8000_0000;
 
 /// RESET, the whole word 0 of a message.
 pub const RESET: u32 = 1;
+/// A message of the host's own, a type, in bits 15:0 of word 0.
+pub const CONTROL: u32 = 0x100;
 /// SET_MAC_ADDR, a type of message, in bits 15:0 of word 0.
 pub const SET_MAC_ADDR: u32 = 2;
 /// SET_MULTICAST, a type of message.

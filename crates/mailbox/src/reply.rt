@@ -1,9 +1,9 @@
 //! The replies.
 ghost use Rattle.std.specs.Prelude.{◌≡◌};
-ghost use Rattle.mailbox.specs.Replies.{echoed, granted_head, refused_head, inserted_vlans, granting, reply_of};
+ghost use Rattle.mailbox.specs.Replies.{echoed, granted_head, refused_head, inserted_vlans, link_word, granting, reply_of, notice_head};
 
 use crate::message::{Message, Reply};
-use crate::registers::{ACK, CTS, NACK, RESET};
+use crate::registers::{ACK, CONTROL, CTS, NACK, RESET};
 use crate::slot::{Guest, Slot};
 
 impl Slot {
@@ -30,6 +30,20 @@ impl Slot {
         words[0] % CTS + NACK + if self.is_up() { CTS } else { 0 }
     }
 
+    /// Word 0 of a message of the host's own: CTS where the link is up, and NACK where the function is not up.
+    pub(crate) fn notice_head(&self) -> u32
+        ensures { result ≡ notice_head self.now }
+    {
+        CONTROL
+            + if !self.is_up() {
+                NACK
+            } else if self.has_link() {
+                CTS
+            } else {
+                0
+            }
+    }
+
     // The reply that grants a message.
     fn granting(&self, words: &[u32; 16], guest: &Guest, message: Message) -> Reply
         ensures { result ≡ granting words.now self.now guest.now message }
@@ -52,7 +66,13 @@ impl Slot {
                 words: [head, guest.multicast.mode(), words[2], words[3], words[4]],
             },
             Message::GetLinkState => Reply {
-                words: [head, 1, words[2], words[3], words[4]],
+                words: [
+                    head,
+                    u32::from(self.has_link()),
+                    words[2],
+                    words[3],
+                    words[4],
+                ],
             },
             _ => echoed(words, head),
         }

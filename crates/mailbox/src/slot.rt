@@ -1,7 +1,7 @@
 //! One function: its policy, and what its guest has asked for.
 ghost use Rattle.std.specs.Prelude.{◌≡◌, ◌<◌, ◌≤◌, IfSome, Some, length};
 ghost use Rattle.mailbox.specs.Address.{low_part, high_part};
-ghost use Rattle.mailbox.specs.Slot.{guest_of, is_up, has_port, only, begun, first_of, second_of, holds, joined_by, has_joined, with_guest, granted_to, has_queues, has_modes};
+ghost use Rattle.mailbox.specs.Slot.{guest_of, is_up, has_link, is_on, has_port, only, begun, first_of, second_of, holds, joined_by, has_joined, with_guest, granted_to, has_queues, has_modes};
 
 use crate::address::{Address, high_part, is_number, low_part};
 use crate::message::{Api, Multicast};
@@ -138,6 +138,23 @@ impl Slot {
         ensures { result ≡ is_up self.now }
     {
         self.guest().is_some()
+    }
+
+    /// Whether the administrator has its link up.
+    pub(crate) fn has_link(&self) -> bool
+        ensures { result ≡ has_link self.now }
+    {
+        match self {
+            Slot::Absent => false,
+            Slot::Admitted { policy, guest: _ } => policy.link_up,
+        }
+    }
+
+    /// Whether it may receive and transmit.
+    pub(crate) fn is_on(&self) -> bool
+        ensures { result ≡ is_on self.now }
+    {
+        self.is_up() && self.has_link()
     }
 
     /// Whether it has a port VLAN.

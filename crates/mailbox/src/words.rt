@@ -13,7 +13,7 @@ use pool_filter::registers::{ALWAYS, PORT_VLAN_RULE};
 /// A set of pools or of VLAN ids, by their numbers.
 #[derive(Clone, Copy, Debug, PartialEq, Eq)]
 pub enum Set {
-    /// The pools whose functions are up.
+    /// The pools whose functions are up, and so are their links.
     Up,
     /// The pools that joined the VLAN at a place.
     Joined(u32),
@@ -29,7 +29,7 @@ impl Host {
         ensures { result ≡ is_in_set self.now set number }
     {
         match set {
-            Set::Up => self.slot_at(number).is_up(),
+            Set::Up => self.slot_at(number).is_on(),
             Set::Joined(place) => self.slot_at(number).has_joined(place),
             Set::Named => is_named(self.ids(), number),
         }
@@ -50,7 +50,7 @@ impl Host {
         word
     }
 
-    /// The functions that are up, of pools 32 i to 32 i + 31.
+    /// The functions that are up with their links, of pools 32 i to 32 i + 31.
     pub(crate) fn up_word(&self, i: u32) -> u32
         requires { i < 2 }
         ensures { result ≡ up_word self.now i }

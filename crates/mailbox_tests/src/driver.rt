@@ -18,6 +18,7 @@ pub fn policy(last: u8) -> Policy {
         may_choose: false,
         vlans: VlanPolicy::Joins(3),
         all_multicast: false,
+        link_up: true,
     }
 }
 

@@ -25,6 +25,7 @@ fn example_of_host_answer(rt: HostRuntime) -> Result<(), Fail> {
         may_choose: false,
         vlans: VlanPolicy::Joins(1),
         all_multicast: false,
+        link_up: true,
     };
     host.admit(pool, &policy)?;
     // the driver asks for a reset (VFMBMEM), takes the mailbox and rings (VFMAILBOX)

@@ -11,6 +11,8 @@ mod examples;
 #[cfg(test)]
 mod first_writes;
 #[cfg(test)]
+mod notices;
+#[cfg(test)]
 mod pools;
 #[cfg(test)]
 mod refusals;

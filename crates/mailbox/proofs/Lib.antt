@@ -1,3 +1,4 @@
+pub mod Admitted
 pub mod Alike
 pub mod Entries
 pub mod First

@@ -21,15 +21,15 @@ use Rattle.mailbox.specs.declared.slot.Slot.{Slot}
 use Rattle.mailbox.specs.declared.slot.Slot.TheVariants.{Absent, Admitted}
 use Rattle.mailbox.specs.Address.{number_of, is_number, is_unicast}
 use Rattle.mailbox.specs.Granting.{may_add, moved, has_room, second_added, found_by, found, joined_at, without_bit, left_at, wants_groups, with_multicast, granted, when_reset, answered}
-use Rattle.mailbox.specs.Host.{outcome, slot_after, host_after, host_without, is_admitted, host_admitting}
-use Rattle.mailbox.specs.Policy.{is_port, is_port_at, may_join, is_placed, place_from, place_where, multicast_for}
-use Rattle.mailbox.specs.Slot.{policy_of, is_up, with_guest, granted_to, only, begun, has_queues, has_modes, holds}
+use Rattle.mailbox.specs.Host.{outcome, slot_after, host_after, host_without}
+use Rattle.mailbox.specs.Policy.{is_port, is_port_at, is_granted, may_join, place_from, place_where, multicast_for}
+use Rattle.mailbox.specs.Slot.{policy_of, with_guest, granted_to, only, begun, has_queues, has_modes, holds}
 use Rattle.mailbox.specs.State.{HostState, slot_at, with_slot, is_taken, other_holds}
-use Rattle.mailbox.specs.Within.{is_granted, may_have, IsGuestWithin, IsWithinPolicy, IsWithin, KeepsPolicies}
-use Rattle.mailbox.specs.Words.{is_all, settings_of}
+use Rattle.mailbox.specs.Within.{may_have, IsGuestWithin, IsWithinPolicy, IsWithin, KeepsPolicies}
+use Rattle.mailbox.specs.Words.{is_all}
 use Rattle.mailbox.proofs.Entries.{has_bit_pow}
 use Rattle.mailbox.proofs.Isolation.{slot_stays}
-use Rattle.mailbox.proofs.Turns.{some_is, none_is, IsAlike, settings_alike}
+use Rattle.mailbox.proofs.Turns.{some_is, none_is}
 
 -- ---- what one message makes of a guest
 
@@ -43,10 +43,10 @@ pub record MayCome (h : HostState) (p : ℕ) (policy : Policy) (before : Option 
   pub address : Has h p policy before g.address
   pub second : (a : ℕ) → g.second ≡ Some a → Has h p policy before a
 
-itself : (a : ℕ) → eqb a a ≡ true
+pub itself : (a : ℕ) → eqb a a ≡ true
 itself a = grind (arith, nat_tests)
 
-own_held : (policy : Policy) (guest : Option Guest) (a : ℕ) → eqb (number_of policy.address) a ≡ true → holds (Admitted policy guest) a ≡ true
+pub own_held : (policy : Policy) (guest : Option Guest) (a : ℕ) → eqb (number_of policy.address) a ≡ true → holds (Admitted policy guest) a ≡ true
 unfolding holds
 own_held policy guest a is = rw is refl
 
@@ -77,7 +77,7 @@ quiet_comes h p policy g k w address second joins mode = record {
   second = λ a is. inl (second_held policy g a (second ∙ is));
 }
 
-not_all : (m : Multicast) → is_all m ≡ false → m ≡ All → ⊥
+pub not_all : (m : Multicast) → is_all m ≡ false → m ≡ All → ⊥
 not_all m is same = true≢false (sym (ap is_all same) ∙ is)
 
 -- where a place is joined alone, it is one to join
@@ -250,7 +250,7 @@ pub record MayStand (h : HostState) (p : ℕ) (g : Slot) : Type 0 where
   pub held : (a : ℕ) → holds g a ≡ true → (holds (slot_at h p) a ≡ true) ⊎ (is_taken h p a ≡ false)
 
 -- the function at a pool after the change, if there is such a place
-at_place : (h : HostState) (p q : ℕ) (g : Slot) → (slot_at (with_slot h p g) q ≡ slot_at h q) ⊎ ((q ≡ p) × (slot_at (with_slot h p g) q ≡ g))
+pub at_place : (h : HostState) (p q : ℕ) (g : Slot) → (slot_at (with_slot h p g) q ≡ slot_at h q) ⊎ ((q ≡ p) × (slot_at (with_slot h p g) q ≡ g))
 at_place h p q g = go (eqb q p) refl
   where
     here : (b : Bool) → ltb p (length h.slots) ≡ b → (slot_at (with_slot h p g) p ≡ slot_at h p) ⊎ (slot_at (with_slot h p g) p ≡ g)
@@ -414,51 +414,6 @@ message_policies h p message =
 pub reset_policies : (h : HostState) (p : ℕ) → KeepsPolicies h (host_without h p)
 unfolding host_without
 reset_policies h p = policies_with h p (with_guest (slot_at h p) None) (same_policy (slot_at h p) None)
-
--- ---- a policy is given
-
-admitted : (h : HostState) (p : ℕ) (policy : Policy) → is_admitted h p policy ≡ true → (is_unicast (number_of policy.address) ≡ true) × ((is_taken h p (number_of policy.address) ≡ false) × (is_up (slot_at h p) ≡ false))
-unfolding is_admitted
-admitted h p policy is =
-    let a : (is_unicast (number_of policy.address) ≡ true) × ((not (is_taken h p (number_of policy.address)) && (is_placed h.ids policy.vlans && not (is_up (slot_at h p)))) ≡ true) = and_parts (is_unicast (number_of policy.address)) _ is in
-    let b : (not (is_taken h p (number_of policy.address)) ≡ true) × ((is_placed h.ids policy.vlans && not (is_up (slot_at h p))) ≡ true) = and_parts (not (is_taken h p (number_of policy.address))) _ a.1 in
-    let d : (is_placed h.ids policy.vlans ≡ true) × (not (is_up (slot_at h p)) ≡ true) = and_parts (is_placed h.ids policy.vlans) (not (is_up (slot_at h p))) b.1 in
-    (a.0, (not-true (is_taken h p (number_of policy.address)) b.0, not-true (is_up (slot_at h p)) d.1))
-
-new_stands : (h : HostState) (p : ℕ) (policy : Policy) → is_admitted h p policy ≡ true → MayStand h p (Admitted policy None)
-new_stands h p policy is = record {
-  within = (admitted h p policy is).0;
-  held = λ a there. inr (ap (is_taken h p) (sym (eqb-true (number_of policy.address) a (alone policy a there))) ∙ (admitted h p policy is).1.0);
-}
-
-pub admit_within : (h : HostState) (p : ℕ) (policy : Policy) → p < 64 → IsWithin h → IsWithin (host_admitting h p policy)
-unfolding host_admitting
-admit_within h p policy small w = go (is_admitted h p policy) refl
-  where
-    go : (b : Bool) → is_admitted h p policy ≡ b → IsWithin (cond b (with_slot h p (Admitted policy None)) h)
-    go true is = stands h p (Admitted policy None) small w (new_stands h p policy is)
-    go false is = w
-
--- a function that is not up makes no register
-alike_itself : (s : Slot) → IsAlike s s
-alike_itself s = record { up = refl; address = refl; second = refl; joined = λ k. refl; flags = refl; port = λ ids. refl }
-
-down_alike : (s : Slot) (policy : Policy) → is_up s ≡ false → IsAlike s (Admitted policy None)
-down_alike Absent policy down = record { up = refl; address = refl; second = refl; joined = λ k. refl; flags = refl; port = λ ids. refl }
-down_alike (Admitted old None) policy down = record { up = refl; address = refl; second = refl; joined = λ k. refl; flags = refl; port = λ ids. refl }
-down_alike (Admitted old (Some g)) policy down = absurd (true≢false down)
-
-admit_alike : (h : HostState) (p : ℕ) (policy : Policy) → is_admitted h p policy ≡ true → IsAlike (slot_at h p) (slot_at (with_slot h p (Admitted policy None)) p)
-admit_alike h p policy is =
-    ⊎_elim (λ same. subst (IsAlike (slot_at h p)) (sym same) (alike_itself (slot_at h p))) (λ new. subst (IsAlike (slot_at h p)) (sym new.1) (down_alike (slot_at h p) policy (admitted h p policy is).1.1)) (at_place h p p (Admitted policy None))
-
-pub admit_settings : (h : HostState) (p : ℕ) (policy : Policy) → p < 64 → length h.ids ≤ 64 → settings_of (host_admitting h p policy) ≡ settings_of h
-unfolding host_admitting
-admit_settings h p policy small few = go (is_admitted h p policy) refl
-  where
-    go : (b : Bool) → is_admitted h p policy ≡ b → settings_of (cond b (with_slot h p (Admitted policy None)) h) ≡ settings_of h
-    go true is = sym (settings_alike h p (Admitted policy None) small few (admit_alike h p policy is))
-    go false is = refl
 
 -- ---- the first host
 

@@ -15,10 +15,10 @@ use Rattle.mailbox.specs.declared.policy.Policy.{Policy}
 use Rattle.mailbox.specs.declared.slot.Slot.{Slot}
 use Rattle.mailbox.specs.declared.slot.Slot.TheVariants.{Absent, Admitted}
 use Rattle.mailbox.specs.Address.{number_of, low_part, is_number, is_unicast}
-use Rattle.mailbox.specs.Policy.{is_port_at, may_join}
+use Rattle.mailbox.specs.Policy.{is_granted, is_port_at, may_join}
 use Rattle.mailbox.specs.Slot.{policy_of, own_address, second_address, joined_by, has_joined, holds}
 use Rattle.mailbox.specs.State.{HostState, slot_at}
-use Rattle.mailbox.specs.Within.{is_granted, grants, is_named, IsWithinPolicy, IsWithin, IsNamedFor}
+use Rattle.mailbox.specs.Within.{grants, is_named, IsWithinPolicy, IsWithin, IsNamedFor}
 use Rattle.mailbox.specs.Words.{table, low_word, high_word, valid, entry, pool_word, id_word, member_word, joined_at, addresses_of, vlans_of, settings_of}
 use Rattle.mailbox.proofs.Entries.{table_at, entry_pool, entry_member}
 use Rattle.mailbox.proofs.Policies.{number_is, address_held, second_held, alone}

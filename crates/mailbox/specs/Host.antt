@@ -4,11 +4,12 @@ use Rattle.mailbox.specs.declared.message.Message.{Message}
 use Rattle.mailbox.specs.declared.policy.Policy.{Policy}
 use Rattle.mailbox.specs.declared.slot.Guest.{Guest}
 use Rattle.mailbox.specs.declared.slot.Slot.{Slot}
-use Rattle.mailbox.specs.declared.slot.Slot.TheVariants.{Admitted}
+use Rattle.mailbox.specs.declared.slot.Slot.TheVariants.{Absent}
 use Rattle.mailbox.specs.Address.{number_of, is_unicast}
 use Rattle.mailbox.specs.Granting.{found, answered}
+use Rattle.mailbox.specs.Keeping.{under}
 use Rattle.mailbox.specs.Policy.{is_placed}
-use Rattle.mailbox.specs.Slot.{is_up, with_guest, granted_to}
+use Rattle.mailbox.specs.Slot.{with_guest, granted_to}
 use Rattle.mailbox.specs.State.{HostState, slot_at, with_slot, is_taken}
 
 -- what a message of pool p makes of its guest, or nothing where it is refused
@@ -27,12 +28,21 @@ host_after h p message = with_slot h p (slot_after h p message)
 unfoldable pub host_without : HostState → ℕ → HostState
 host_without h p = with_slot h p (with_guest (slot_at h p) None)
 
--- a policy is taken where its address is one station's and no other function's, its port VLAN is one of the ids, and the
--- function is not up
+-- after no policy names the function of pool p any more
+unfoldable pub host_dismissing : HostState → ℕ → HostState
+host_dismissing h p = with_slot h p Absent
+
+-- ---- policies
+
+-- a policy is taken where its address is one station's and no other function's, and its port VLAN is one of the ids
 unfoldable pub is_admitted : HostState → ℕ → Policy → Bool
 is_admitted h p policy =
-    is_unicast (number_of policy.address) && (not (is_taken h p (number_of policy.address))
-    && (is_placed h.ids policy.vlans && not (is_up (slot_at h p))))
+    is_unicast (number_of policy.address)
+    && (not (is_taken h p (number_of policy.address)) && is_placed h.ids policy.vlans)
+
+-- the host with the function of pool p under the policy
+unfoldable pub host_under : HostState → ℕ → Policy → HostState
+host_under h p policy = with_slot h p (under policy (slot_at h p))
 
 unfoldable pub host_admitting : HostState → ℕ → Policy → HostState
-host_admitting h p policy = if is_admitted h p policy then with_slot h p (Admitted policy None) else h
+host_admitting h p policy = if is_admitted h p policy then host_under h p policy else h

@@ -2,6 +2,7 @@ pub mod Address
 pub mod Granting
 pub mod Host
 pub mod Isolation
+pub mod Keeping
 pub mod Mailbox
 pub mod Message
 pub mod Policy

@@ -1,11 +1,18 @@
 -- What a policy grants.
-use Rattle.std.specs.Prelude.{ℕ, Bool, true, false, ◌==◌, nat_lt, suc, List, [], ◌∷◌, length, slice_get, Option, Some, None, if◌then◌else◌}
+use Rattle.std.specs.Prelude.{ℕ, Bool, true, false, ◌&&◌, ◌||◌, ◌==◌, nat_lt, suc, List, [], ◌∷◌, length, slice_get, Option, Some, None, if◌then◌else◌}
 use Rattle.wire_frame.specs.Bits.{has_bit}
 use Rattle.mailbox.specs.declared.message.Multicast.{Multicast}
 use Rattle.mailbox.specs.declared.message.Multicast.TheVariants.{Off, Asked, All}
 use Rattle.mailbox.specs.declared.policy.Policy.{Policy}
 use Rattle.mailbox.specs.declared.policy.VlanPolicy.{VlanPolicy}
 use Rattle.mailbox.specs.declared.policy.VlanPolicy.TheVariants.{Port, Joins}
+use Rattle.mailbox.specs.Address.{number_of, is_unicast}
+
+-- ---- addresses
+
+-- the address is the permanent one, or one station's where the policy lets the guest choose
+abbrev pub is_granted : Policy → ℕ → Bool
+is_granted policy a = number_of policy.address == a || (policy.may_choose && is_unicast a)
 
 -- ---- VLANs, by their places among the host's ids
 

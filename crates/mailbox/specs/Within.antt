@@ -6,13 +6,9 @@ use Rattle.mailbox.specs.declared.slot.Guest.{Guest}
 use Rattle.mailbox.specs.declared.slot.Slot.{Slot}
 use Rattle.mailbox.specs.declared.slot.Slot.TheVariants.{Absent, Admitted}
 use Rattle.mailbox.specs.Address.{number_of, is_unicast}
-use Rattle.mailbox.specs.Policy.{is_port_at, may_join}
+use Rattle.mailbox.specs.Policy.{is_granted, is_port_at, may_join}
 use Rattle.mailbox.specs.Slot.{policy_of, joined_by, holds}
 use Rattle.mailbox.specs.State.{HostState, slot_at}
-
--- the address is the permanent one, or one station's where the policy lets the guest choose
-abbrev pub is_granted : Policy → ℕ → Bool
-is_granted policy a = number_of policy.address == a || (policy.may_choose && is_unicast a)
 
 abbrev pub grants : Option Policy → ℕ → Bool
 grants None a = false
@@ -43,6 +39,10 @@ pub record IsWithin (h : HostState) : Type 0 where
 -- the policy of every function is the same
 abbrev pub KeepsPolicies : HostState → HostState → Type 0
 KeepsPolicies h k = (q : ℕ) → policy_of (slot_at h q) ≡ policy_of (slot_at k q)
+
+-- the policy of every function but p is the same
+abbrev pub KeepsOtherPolicies : ℕ → HostState → HostState → Type 0
+KeepsOtherPolicies p h k = (q : ℕ) → q ≢ p → policy_of (slot_at h q) ≡ policy_of (slot_at k q)
 
 -- ---- in the registers
 

@@ -7,11 +7,12 @@ use Rattle.pool_filter.specs.Registers.{PFVFRE, PFVFTE, VMVIR, VMOLR}
 use Rattle.pool_filter.specs.Settings.{Settings, settings_after}
 use Rattle.mailbox.specs.declared.slot.Slot.{Slot}
 use Rattle.mailbox.specs.declared.message.Message.{Message}
+use Rattle.mailbox.specs.declared.policy.Policy.{Policy}
 use Rattle.mailbox.specs.declared.writes.Write.{Write}
 use Rattle.mailbox.specs.Address.{is_number, low_part}
 use Rattle.mailbox.specs.Slot.{is_on, own_address, second_address, has_joined}
 use Rattle.mailbox.specs.State.{HostState, slot_at}
-use Rattle.mailbox.specs.Host.{host_after, host_without}
+use Rattle.mailbox.specs.Host.{host_after, host_without, host_dismissing, host_under}
 use Rattle.mailbox.specs.Words.{valid, member_word, up_word, flags_word, port_word}
 
 -- a write of the row's word at a place
@@ -78,7 +79,7 @@ writes_of h p old =
     ++ pool_writes h p old (slot_at h p)
     ++ shared_writes h p old (slot_at h p)
 
--- ---- a message and a reset
+-- ---- a message, a reset and a policy
 
 -- the writes after a message of pool p
 unfoldable pub writes_after : HostState → ℕ → Message → List Write
@@ -87,3 +88,11 @@ writes_after h p message = writes_of (host_after h p message) p (slot_at h p)
 -- the writes after the guest of pool p is gone
 unfoldable pub writes_without : HostState → ℕ → List Write
 writes_without h p = writes_of (host_without h p) p (slot_at h p)
+
+-- the writes after no policy names the function of pool p any more
+unfoldable pub writes_dismissing : HostState → ℕ → List Write
+writes_dismissing h p = writes_of (host_dismissing h p) p (slot_at h p)
+
+-- the writes after the function of pool p came under a policy
+unfoldable pub writes_under : HostState → ℕ → Policy → List Write
+writes_under h p policy = writes_of (host_under h p policy) p (slot_at h p)

@@ -3,7 +3,6 @@ ghost use Rattle.std.specs.Prelude.{◌≡◌, ◌≢◌, ℕ, ◌+◌, ◌*◌,
 ghost use Rattle.mailbox.specs.declared.writes.Write.{Write};
 ghost use Rattle.mailbox.specs.State.{slot_at, with_slot, other_holds, is_taken};
 ghost use Rattle.mailbox.specs.Host.{outcome, host_after, host_without, is_admitted, host_admitting};
-ghost use Rattle.mailbox.specs.Policy.{is_placed};
 ghost use Rattle.mailbox.specs.Slot.{with_guest};
 ghost use Rattle.mailbox.specs.declared.slot.Slot.TheVariants.{Absent};
 ghost use Rattle.mailbox.specs.Isolation.{IsSameFor, IsSameForAll};
@@ -17,12 +16,11 @@ ghost use Rattle.mailbox.specs.Writes.{writes_of, after_writes, writes_after, wr
 use crate::address::Address;
 use crate::mailbox::{Mailbox, Notice};
 use crate::message::Message;
-use crate::policy::Policy;
 use crate::slot::{Guest, Slot};
 use crate::writes::Writes;
 use arrayvec::ArrayVec;
 use std::marker::Model;
-use wire_frame::{Fault, FrameLimit, PoolId, Vid};
+use wire_frame::{FrameLimit, PoolId, Vid};
 
 /// For each of 64 functions what its policy grants and what it has asked for so far, and the VLAN ids that policies name.
 #[derive(Drop)]
@@ -86,56 +84,6 @@ impl Host {
             limit,
         }
     }
-
-    /// Gives a function its policy. It is refused, and nothing changes, where the address is not one station's or another
-    /// function holds it, where the place of a port VLAN is none of the ids', and where the function is up: by
-    /// [`Fault::BadMake`].
-    ///
-    /// A function that is not up makes no register, so that nothing is to be written.
-    pub fn admit(&mut self, pool: PoolId, policy: &Policy) -> Result<(), Fault>
-        ensures host { self.new ≡ host_admitting self.old pool policy.now }
-        ensures variant { is_ok result ≡ is_admitted self.old pool policy.now }
-        ensures err { IfErr result (λ e. e ≡ Fault.BadMake) }
-        ensures within { IsWithin self.old → IsWithin self.new }
-        ensures settings { IsWithin self.old → settings_of self.new ≡ settings_of self.old }
-    {
-        self.take(pool, policy)
-    }
-
-    // The same, by its definition.
-    #[tactic(auto, unfolding(crate::specs::Host::host_admitting))]
-    fn take(&mut self, pool: PoolId, policy: &Policy) -> Result<(), Fault>
-        ensures host { self.new ≡ host_admitting self.old pool policy.now }
-        ensures variant { is_ok result ≡ is_admitted self.old pool policy.now }
-        ensures err { IfErr result (λ e. e ≡ Fault.BadMake) }
-        ensures pool { pool < 64 }
-        ensures few { length self.old.ids ≤ 64 }
-    {
-        let p = usize::from(pool.get());
-        if !self.is_admitted(pool, policy) {
-            return Err(Fault::BadMake);
-        }
-        self.slots[p] = Slot::Admitted {
-            policy: *policy,
-            guest: None,
-        };
-        Ok(())
-    }
-
-    // Whether the policy is taken.
-    #[tactic(auto, unfolding(crate::specs::Host::is_admitted))]
-    fn is_admitted(&self, pool: PoolId, policy: &Policy) -> bool
-        ensures value { result ≡ is_admitted self.now pool policy.now }
-        ensures placed { result ≡ true → is_placed self.now.ids policy.now.vlans ≡ true }
-        ensures few { length self.now.ids ≤ 64 }
-    {
-        let ids = self.ids.as_slice();
-        let address = Address::of(policy.address);
-        address.is_unicast()
-            && !self.is_taken(pool, address)
-            && policy.vlans.is_placed(ids)
-            && !self.slot(pool).is_up()
-    }
 }
 
 /// What it holds.
@@ -170,8 +118,8 @@ impl Host {
         &self.slots[pool as usize]
     }
 
-    // The function of a pool.
-    fn slot(&self, pool: PoolId) -> Slot
+    /// The function of a pool.
+    pub(crate) fn slot(&self, pool: PoolId) -> Slot
         ensures value { result ≡ slot_at self.now pool }
         ensures pool { pool < 64 }
     {
@@ -220,8 +168,8 @@ impl Host {
         self.slots[usize::from(pool.get())] = slot;
     }
 
-    // The same, with the writes that follow.
-    fn change(&mut self, pool: PoolId, slot: Slot) -> Writes
+    /// The same, with the writes that follow.
+    pub(crate) fn change(&mut self, pool: PoolId, slot: Slot) -> Writes
         ensures host { self.new ≡ with_slot self.old pool slot }
         ensures writes { result ≡ writes_of self.new pool (slot_at self.old pool) }
         ensures others { (q : ℕ) → q < 64 → q ≢ pool

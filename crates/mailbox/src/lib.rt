@@ -13,9 +13,11 @@
 #![tactic(auto)]
 
 pub mod address;
+pub mod admitting;
 pub mod changed;
 pub mod granting;
 pub mod host;
+pub mod keeping;
 pub mod laws;
 pub mod mailbox;
 pub mod message;

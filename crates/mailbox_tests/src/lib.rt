@@ -13,6 +13,8 @@ mod first_writes;
 #[cfg(test)]
 mod notices;
 #[cfg(test)]
+mod policies;
+#[cfg(test)]
 mod pools;
 #[cfg(test)]
 mod refusals;

@@ -1,0 +1,3 @@
+pub mod Zeros
+pub mod Fit
+pub mod Quiet

@@ -1,0 +1,10 @@
+pub mod Offered
+pub mod Decisions
+pub mod Sessions
+pub mod Regions
+pub mod Vectors
+pub mod Memory
+pub mod Received
+pub mod Answers
+pub mod Inside
+pub mod Runs

@@ -12,6 +12,7 @@ ghost use Rattle.vfio_session.specs.Sessions.{fresh, answered, refused, asked, r
 ghost use Rattle.vfio_session.specs.Regions.{read, read_register, write, write_register, write_configuration};
 ghost use Rattle.vfio_session.specs.Vectors.{set, turned_off, given_files, armed_after};
 ghost use Rattle.vfio_session.specs.Memory.{map, mapped, unmap};
+ghost use Rattle.vfio_session.specs.Inside.{AreInside};
 ghost use Rattle.vfio_session.specs.Received.{region_told, irq_told, may_have_files, acted, taken, begun, received};
 
 use crate::decision::{Ask, Breach, Decision, VectorRange};
@@ -66,8 +67,43 @@ impl Session {
     ///
     /// A reply stands in the front of the room, and the rest of the room stays as it was; without a reply all of it does. A message that
     /// can't be read, or that asks for what isn't there, is refused by an errno, and the session goes on; [`Breach`] lists what ends it.
-    #[tactic(auto, unfolding(crate::specs::Received::received))]
     pub fn receive(&mut self, message: &[u8], files: usize, room: &mut [u8; ROOM]) -> Decision
+        ensures session { self.new ≡ (received self.old message.now files).session }
+        ensures reply { Says (count_of result) room.old room.new (received self.old message.now files).reply }
+        ensures most { IfSome (count_of result) (λ count. count ≤ 4128) }
+        ensures asks { ask_of result ≡ (received self.old message.now files).asks }
+        ensures owed { owed_of result ≡ (received self.old message.now files).owed }
+        ensures files { fate_of result ≡ (received self.old message.now files).files }
+        ensures ends { breach_of result ≡ (received self.old message.now files).ends }
+        ensures inside { AreInside (ask_of result) files }
+    {
+        self.decide(message, files, room)
+    }
+
+    /// Whether a version was agreed on.
+    pub fn has_version(&self) -> bool
+        ensures { result ≡ self.now.has_version }
+    {
+        self.has_version
+    }
+
+    /// The configuration space.
+    pub fn space(&self) -> &PciFunction
+        ensures { result.now ≡ self.now.space }
+    {
+        &self.space
+    }
+
+    /// Whether a vector of MSI-X has a file. There are vectors 0 to 2.
+    pub fn is_armed(&self, vector: u32) -> bool
+        ensures { result ≡ slice_index_or self.now.armed vector false }
+    {
+        armed_in(&self.armed, vector)
+    }
+
+    // The same, by the definition alone.
+    #[tactic(auto, unfolding(crate::specs::Received::received))]
+    fn decide(&mut self, message: &[u8], files: usize, room: &mut [u8; ROOM]) -> Decision
         ensures session { self.new ≡ (received self.old message.now files).session }
         ensures reply { Says (count_of result) room.old room.new (received self.old message.now files).reply }
         ensures most { IfSome (count_of result) (λ count. count ≤ 4128) }
@@ -99,27 +135,6 @@ impl Session {
                 }
             }
         }
-    }
-
-    /// Whether a version was agreed on.
-    pub fn has_version(&self) -> bool
-        ensures { result ≡ self.now.has_version }
-    {
-        self.has_version
-    }
-
-    /// The configuration space.
-    pub fn space(&self) -> &PciFunction
-        ensures { result.now ≡ self.now.space }
-    {
-        &self.space
-    }
-
-    /// Whether a vector of MSI-X has a file. There are vectors 0 to 2.
-    pub fn is_armed(&self, vector: u32) -> bool
-        ensures { result ≡ slice_index_or self.now.armed vector false }
-    {
-        armed_in(&self.armed, vector)
     }
 
     // The connection ends.

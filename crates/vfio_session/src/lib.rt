@@ -67,7 +67,7 @@
 //!     Decision::Ends(_) => return Err("the connection has to end".into()),
 //! };
 //! assert!(rt; count == Some(36));
-//! assert!(rt; room[..36].ends_with(&[4, 0, 0, 0, 0x80, 0, 0, 0x40]));
+//! assert!(rt; room.get(32..36) == Some([0x80, 0, 0, 0x40].as_slice()));
 //! ```
 #![tactic(auto)]
 

@@ -1,3 +1,4 @@
 pub mod StoreLemmas
 pub mod ReplayLemmas
 pub mod WordLemmas
+pub mod HeadLemmas

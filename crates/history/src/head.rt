@@ -1,7 +1,8 @@
 //! A kept call without its bytes.
-ghost use Rattle.std.specs.Prelude.{◌≡◌, ◌≤◌, length};
+ghost use Rattle.std.specs.Prelude.{◌≡◌, ◌≤◌, true, length, IsTrue, ◌↔◌};
 ghost use Rattle.device.specs.Request.{event_of};
-ghost use Rattle.history.specs.Heads.{head_of, kind_of, brought, IsSound};
+ghost use Rattle.history.specs.Entries.{brings};
+ghost use Rattle.history.specs.Heads.{head_of, event_with, kind_of, brought, IsSound};
 
 use crate::caller::Caller;
 use device::{Outcome, Queue, Reply, Request};
@@ -9,7 +10,7 @@ use irq_causes::Vectors;
 use std::marker::Model;
 
 /// An event without its bytes and its frame, in 16 bytes. As an `Event<(), ()>` it would take 24, and a [`Head`] 40.
-#[derive(Clone, Copy)]
+#[derive(Clone, Copy, PartialEq, Eq)]
 pub enum EventHead {
     /// The open of a pool's function.
     Open(u8),
@@ -133,6 +134,28 @@ pub fn brought<'a>(request: Request<'a>) -> &'a [u8]
         Request::MemWrite(_, _, written) => written.bytes(),
         Request::Wire(frame) => frame.bytes(),
         _ => &[],
+    }
+}
+
+/// Whether an event is the one of a head, where these are the bytes that stand with the head.
+#[inline]
+#[tactic(auto, using(crate::proofs::HeadLemmas::event_by, crate::proofs::HeadLemmas::has_head, crate::proofs::HeadLemmas::has_bytes))]
+pub fn is_event(head: EventHead, bytes: &[u8], request: Request<'_>) -> bool
+    ensures { IsTrue result ↔ (event_of request.entry ≡ event_with bytes.now head) }
+{
+    head == head_of(request) && are_brought(bytes, request)
+}
+
+// Whether these are the bytes that an event brings, if it brings some.
+#[inline]
+fn are_brought(bytes: &[u8], request: Request<'_>) -> bool
+    ensures { IsTrue result
+        ↔ (brings (event_of request.entry) ≡ true → brought (event_of request.entry) ≡ bytes.now) }
+{
+    match request {
+        Request::MemWrite(_, _, written) => written.bytes() == bytes,
+        Request::Wire(frame) => frame.bytes() == bytes,
+        _ => true,
     }
 }
 

@@ -1,6 +1,7 @@
 //! The history.
 ghost use Rattle.std.specs.Prelude.{◌≡◌, ◌≤◌, ◌<◌, ◌*◌, ◌++◌, ◌∷◌, [], length, vec_len, vec_capacity, true, false, IsTrue, ◌↔◌, IfOk, IfErr};
 ghost use Rattle.device.specs.declared.event.Event.{Event};
+ghost use Rattle.device.specs.declared.event.Reply.TheVariants.{Done};
 ghost use Rattle.device.specs.Accesses.{accesses_by};
 ghost use Rattle.device.specs.Live.{told_world, TakesLive, AreListed};
 ghost use Rattle.device.specs.Outcome.{reads, answer_in};
@@ -11,7 +12,7 @@ ghost use Rattle.history.specs.Entries.{entry, entry_at, is_cap, last_of, bytes_
 
 use crate::bytes::{Read, append, append_read, bytes_told, part};
 use crate::caller::Caller;
-use crate::head::{EventHead, Head, PackedCaller, ReplyKind, brought, head_of, kind_of};
+use crate::head::{EventHead, Head, PackedCaller, ReplyKind, brought, head_of, is_event, kind_of};
 use crate::reply::is_reply;
 use crate::words::{append_words, are_messages, words_len};
 use device::{Device, MemSlice, Request, Response};
@@ -226,6 +227,28 @@ impl History {
             EventHead::PfReset => Request::PfReset,
             EventHead::Wire => Request::Wire(laid(bytes, frame)),
         }
+    }
+
+    /// Whether an event is what was asked in a call, counted from the oldest.
+    #[inline]
+    pub fn asks(&self, index: usize, request: Request<'_>) -> bool
+        requires { index < length self.now.entries }
+        ensures { IsTrue result ↔ (event_of request.entry ≡ (entry_at self.now index).event) }
+    {
+        let head = self.heads[index];
+        let start = head.start as usize;
+        let bytes = part(self.store.as_slice(), start, usize::from(head.count));
+        is_event(head.event, bytes, request)
+    }
+
+    /// Whether a call, counted from the oldest, was replied that it was done.
+    #[inline]
+    #[tactic(auto, using(crate::proofs::HeadLemmas::done_by, crate::proofs::HeadLemmas::done_alone))]
+    pub fn is_done(&self, index: usize) -> bool
+        requires { index < length self.now.entries }
+        ensures { IsTrue result ↔ ((entry_at self.now index).answer.reply ≡ Done) }
+    {
+        matches!(self.heads[index].reply, ReplyKind::Done)
     }
 
     // Whether a call, counted from the oldest, was answered so by a device right after the event.

@@ -1,5 +1,4 @@
 mod Isolated
 mod Left
-pub mod Owns
-pub mod Seats
+pub mod Matches
 pub mod Told

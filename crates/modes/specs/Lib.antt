@@ -1,6 +1,6 @@
 pub mod Faults
 pub mod Isolation
-pub mod Parts
+pub mod Matches
 pub mod Program
 pub mod Report
 pub mod Room

@@ -1,5 +1,5 @@
--- What the mode `threads` writes: the report of a recording of the script's device, with as many calls of each caller as are its own.
-use Rattle.std.specs.Prelude.{◌≡◌, ℕ, ◌<◌, ◌++◌, Bool, true, false, List, [], ◌∷◌, length, map, replicate, slice_index, slice_set, Option, Err, IfSome, MatchOption, if◌then◌else◌}
+-- What the mode `threads` writes: the report of a recording of the script's device, whose calls are the script's, each caller's in order.
+use Rattle.std.specs.Prelude.{◌≡◌, ℕ, ◌<◌, ◌++◌, Bool, true, false, List, [], ◌∷◌, length, map, slice_index, Option, None, Some, Err, IfSome, if◌then◌else◌}
 use Rattle.std.specs.List.{All}
 use Rattle.std.specs.Io.KnownBytes.{Appends}
 use Rattle.device.specs.Events.{Event}
@@ -9,10 +9,11 @@ use Rattle.history.specs.declared.caller.Caller.{Caller}
 use Rattle.history.specs.declared.caller.Caller.TheVariants.{Port, Driver, Pump, Service}
 use Rattle.history.specs.Entries.{Entry, events}
 use Rattle.recorder.specs.Legal.{Legal, calls_of}
-use Rattle.recorder.specs.Held.{Held, HasAsked, CallerLog, count_of}
+use Rattle.recorder.specs.Held.{Held}
 use Rattle.script.specs.Reading.{Meaning, script_of}
 use Rattle.transcript.specs.Known.{Began}
-use Rattle.workers.specs.Counts.{IsFirst, made_by}
+use Rattle.workers.specs.Callers.{caller_before}
+use Rattle.workers.specs.Counts.{made_by}
 use Rattle.workers.specs.Opens.{all_closed, opened_after, pools_from}
 use Rattle.workers.specs.Plans.{Planned, events_before, own_events, planned}
 use Rattle.modes.specs.declared.fault.Fault.{Fault}
@@ -31,57 +32,46 @@ abbrev pub until_end : List Event → List Event
 until_end [] = []
 until_end (e ∷ events) = if is_end e then [] else e ∷ until_end events
 
--- what a caller asks after `go`, in order, where these pools have a port: its own events, and the service then the ports' ends
-abbrev pub asks_after : Planned → List ℕ → Caller → List Event
-asks_after plan pools (Port p) = until_end (own_events plan (Port p))
-asks_after plan pools Driver = own_events plan Driver
-asks_after plan pools Pump = own_events plan Pump
-asks_after plan pools Service = own_events plan Service ++ map End pools
+-- what a caller asks after `go`, in order: its own events; and the service at the end the end of each pool that has a port
+abbrev pub asks_after : Planned → Caller → List Event
+asks_after plan (Port p) = until_end (own_events plan (Port p))
+asks_after plan Driver = own_events plan Driver
+asks_after plan Pump = own_events plan Pump
+asks_after plan Service = own_events plan Service ++ map End (pools_from 0 plan.ports)
 
--- for each pool whether it has a port, beside those that had one
-abbrev pub among : List Bool → List ℕ → List Bool
-among ports [] = ports
-among ports (p ∷ pools) = among (slice_set ports p true) pools
+-- ---- the calls of a recording
 
--- who does which event, where these pools have a port
-abbrev pub plan_with : Meaning → List ℕ → Planned
-plan_with script pools = planned script (among (replicate 64 false) pools)
+-- the pools that have a port: those that the calls before `go` leave open by their answers, and none where there is no `go`
+abbrev pub ports_at : Option ℕ → List Entry → List Bool
+ports_at None first = all_closed
+ports_at (Some go) first = opened_after first all_closed
 
--- ---- what all of them asked
+abbrev pub ports_after : Meaning → List Entry → List Bool
+ports_after script first = ports_at script.go first
 
--- these calls asked the events before `go`, in order, each by its caller; and the pools that their answers leave open have a port,
--- none where there is no `go`
-pub record AreFirst (script : Meaning) (first : List Entry) (pools : List ℕ) : Type 0 where
-  pub asked : events first ≡ events_before script
-  pub callers : All IsFirst first
-  pub ports : MatchOption script.go (pools ≡ []) (λ go. pools ≡ pools_from 0 (opened_after first all_closed))
+-- a call is of one of the 67 callers: the ports of the 64 pools, the driver, the pump and the service
+abbrev pub IsOfCaller : Entry → Type 0
+IsOfCaller call = (n : ℕ) × (n < 67) × (call.caller ≡ caller_of n)
 
--- a list of calls of a caller: its own of the first calls, and behind them just what it is to ask, with some answers
-abbrev pub AsksOwn : Meaning → List Entry → List ℕ → Caller → CallerLog → Type 0
-AsksOwn script first pools c log = HasAsked (asks_after (plan_with script pools) pools c) (record { caller = c; asked = made_by c first }) log
-
--- there is such a list for the caller of a number, and the recording has as many calls of it. That these are the calls of the list is
--- not said
-pub record IsCaller (script : Meaning) (first : List Entry) (pools : List ℕ) (held : Held) (n : ℕ) : Type 0 where
-  pub log : CallerLog
-  pub own : AsksOwn script first pools (caller_of n) log
-  pub counted : calls_of n held.kept ≡ count_of log
-
--- and so it is for each of the 67 callers: the ports of the 64 pools, the driver, the pump and the service
-pub record AskedAll (script : Meaning) (held : Held) : Type 0 where
+-- the calls are the script's: first the events before `go`, in order, each by its caller; and behind them of each of the 67 callers just
+-- what it is to ask, in order, and of nobody else
+pub record AreOfScript (script : Meaning) (calls : List Entry) : Type 0 where
   pub first : List Entry
-  pub pools : List ℕ
-  pub before : AreFirst script first pools
-  pub each : (n : ℕ) → n < 67 → IsCaller script first pools held n
+  pub rest : List Entry
+  pub all : calls ≡ first ++ rest
+  pub before : events first ≡ events_before script
+  pub callers : All (λ (call : Entry). call.caller ≡ caller_before call.event) first
+  pub known : All IsOfCaller rest
+  pub each : (n : ℕ) → n < 67 → events (made_by (caller_of n) rest) ≡ asks_after (planned script (ports_after script first)) (caller_of n)
 
 -- ---- what is written
 
 -- a recording of the script's device: it begins at the device as it is made, its calls lead from there to the live device by the
--- answers that it keeps, each is one that its caller may make, and there are as many of each caller as are its own
+-- answers that it keeps, each is one that its caller may make, and they are the script's
 pub record IsRecordingOf (script : Meaning) (held : Held) : Type 0 where
   pub base : held.base ≡ device_of script.device
   pub legal : Legal held.base held.kept held.live
-  pub asked : AskedAll script held
+  pub calls : AreOfScript script held.kept
 
 -- a text is the report of a recorded device: how many calls it keeps, how many of them are each caller's, and that they replay
 pub record IsReportOn (held : Held) (text : List ℕ) : Type 0 where

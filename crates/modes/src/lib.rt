@@ -19,6 +19,7 @@ pub mod fault;
 mod keep;
 mod making;
 pub mod mode;
+mod of_script;
 pub mod report;
 pub mod run;
 pub mod status;

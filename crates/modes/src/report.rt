@@ -1,13 +1,10 @@
 //! What is written of a recorded device.
-ghost use Rattle.std.specs.Prelude.{◌≡◌, ℕ, ◌<◌, ◌^◌, ◌++◌, true, length, slice_index, sum, IfOk, IfErr, IfSome, OnOk, OnErr};
-ghost use Rattle.std.specs.List.{sum_by};
+ghost use Rattle.std.specs.Prelude.{◌≡◌, ◌++◌, true, length, IfOk, IfErr, OnOk, OnErr};
 ghost use Rattle.std.specs.Io.KnownBytes.{Appends};
 ghost use Rattle.std.specs.String.{string_bytes};
 ghost use Rattle.transcript.specs.Known.{Began};
 ghost use Rattle.transcript.specs.Lines.{numbered};
-ghost use Rattle.recorder.specs.Held.{count_of};
 ghost use Rattle.modes.specs.Faults.{is_late};
-ghost use Rattle.modes.specs.Parts.{HasShare, TellsShare};
 ghost use Rattle.modes.specs.Report.{caller_line, caller_name, line_of, number_end, replay_line, report_text, BeganToReport, Reported, Tells};
 
 use crate::fault::Fault;
@@ -57,85 +54,22 @@ fn tell<M: GuestMem, L: Ledger>(
     other: &mut Device<M>,
 ) -> Report
     requires { length shares.items ≡ 67 }
-    ensures tells { Tells recorded.old other.old.world result }
-    ensures all { sum result.calls ≡ sum_by count_of shares.items }
-    ensures few { sum result.calls < 2 ^ 64 }
-    ensures same { recorded.new ≡ recorded.old }
+    ensures { Tells recorded.old other.old.world result }
 {
     let Some(tally) = recorded.gather(shares) else {
         unreachable!()
     };
     let calls = tally.entries;
-    let kept = recorded.kept();
-    // how few calls were folded away is all that is asked here
-    let _ = recorded.folded();
     Report {
-        kept,
+        kept: recorded.kept(),
         calls,
         replays: recorded.replays(other),
     }
 }
 
-/// The same, where each caller's share among these has as many calls as are told of the caller; None where one hasn't. The shares of
-/// a recorded device have, but its contract counts the calls of all shares together alone.
-pub(crate) fn tell_counted<M: GuestMem, L: Ledger>(
-    recorded: &mut Recorded<M, L>,
-    shares: Vec<Share<L>>,
-    other: &mut Device<M>,
-) -> Option<Report>
-    requires { length shares.items ≡ 67 }
-    ensures tells { IfSome result (Tells recorded.old other.old.world) }
-    ensures counted { IfSome result (λ report. (n : ℕ) → n < 67
-        → HasShare shares.items n (slice_index report.calls n)) }
-    ensures same { recorded.new ≡ recorded.old }
-{
-    let Some(counts) = counts_of(&shares) else {
-        return None;
-    };
-    let report = tell(recorded, shares, other);
-    if !are_same(&report.calls, &counts) {
-        return None;
-    }
-    Some(report)
-}
-
-// How many calls each caller's share has, modulo 2^64; None where a caller has none among these.
-fn counts_of<L: Ledger>(shares: &[Share<L>]) -> Option<[u64; CALLERS]>
-    ensures { IfSome result
-        (λ counts. (n : ℕ) → n < 67 → TellsShare shares.now n (slice_index counts n)) }
-{
-    let mut counts = [0; CALLERS];
-    for caller in 0..CALLERS {
-        let Some(count) = find_count(shares, caller as u8) else {
-            return None;
-        };
-        counts[caller] = count;
-    }
-    Some(counts)
-}
-
-// How many calls the share of the caller of that number has.
-fn find_count<L: Ledger>(shares: &[Share<L>], caller: u8) -> Option<u64>
-    ensures { IfSome result (TellsShare shares.now caller) }
-{
-    for share in shares {
-        if share.caller() == caller {
-            return Some(share.count());
-        }
-    }
-    None
-}
-
-// Whether two have as many calls of each caller.
-fn are_same(one: &[u64; CALLERS], other: &[u64; CALLERS]) -> bool
-    ensures { result ≡ true → one.now ≡ other.now }
-{
-    one == other
-}
-
-/// Writes a report.
+// Writes a report.
 #[tactic(auto, using(transcript::proofs::Known::nothing_began))]
-pub(crate) fn write<W: Write>(alloc: Global, report: &Report, writer: &mut W) -> Result<(), Fault>
+fn write<W: Write>(alloc: Global, report: &Report, writer: &mut W) -> Result<(), Fault>
     ensures ok { OnOk result
         (Appends (W.contents writer.old) (W.contents writer.new) (report_text report.now)) }
     ensures err { OnErr result

@@ -1,11 +1,10 @@
 //! The mode `threads`: a script that is done by a thread for each guest, and the history that is kept of it.
-ghost use Rattle.std.specs.Prelude.{◌≡◌, ℕ, ◌⊎◌, [], ◌∷◌, ◌++◌, true, false, length, map, Err, IfErr, IfOk, IfSome, MatchOption, MatchResult, OnErr, OnOk};
+ghost use Rattle.std.specs.Prelude.{◌≡◌, ℕ, ◌⊎◌, [], true, false, length, Err, IfErr, IfOk, IfSome, MatchResult, OnErr, OnOk};
+ghost use Rattle.std.specs.Arc.{arc_value};
 ghost use Rattle.script.specs.Reading.{script_of};
 ghost use Rattle.script.specs.Shapes.{asked_by};
 ghost use Rattle.recorder.specs.Made.{AreUnused, IsFresh, begun};
-ghost use Rattle.workers.specs.Ends.{pool_of};
 ghost use Rattle.modes.specs.Faults.{is_late};
-ghost use Rattle.modes.specs.Parts.{AreLeftUnused, AreOwn, AreSeated, BeganOf, IsGone, IsNewPort, Remain, WroteOf};
 ghost use Rattle.modes.specs.Program.{device_of, StopsAt};
 ghost use Rattle.modes.specs.Room.{most_calls};
 ghost use Rattle.modes.specs.Threads.{is_of_run, BeganReport, BeganThreads, StopsFor, WroteReport, WroteThreads};
@@ -13,7 +12,8 @@ ghost use Rattle.modes.specs.Threads.{is_of_run, BeganReport, BeganThreads, Stop
 use crate::drive::read;
 use crate::fault::Fault;
 use crate::making::{drop_boxed, make_device};
-use crate::report::{tell_counted, write};
+use crate::of_script::is_of_script;
+use crate::report::write_report;
 use device::Device;
 use device_lock::{LockedDevice, Recorded, Shares};
 use guest_memory::{FlatMem, GuestMem};
@@ -39,8 +39,8 @@ const MOST_ENDS: usize = 64;
 /// the writer has the beginning of the output. [`Fault::HistoryFull`] never comes: there is room for every event.
 ///
 /// What is behind a lock while threads share it has no name in a contract. So what comes out of the lock is looked at before it is
-/// reported: whether it began as the script's device is made, and has as many calls of each caller as the caller's share. These looks
-/// can't fail when they run; where one did, [`Fault::NoMemory`] would come before anything is written.
+/// reported: whether it began as the script's device is made, and whether its calls are the script's, each caller's in order. These
+/// looks can't fail when they run; where one did, [`Fault::NoMemory`] would come before anything is written.
 pub fn drive_threads<R: Threads + Wait + Copy + Send + 'static, I: Read, W: Write>(
     rt: R,
     alloc: Global,
@@ -48,8 +48,7 @@ pub fn drive_threads<R: Threads + Wait + Copy + Send + 'static, I: Read, W: Writ
     writer: &mut W,
 ) -> Result<(), Fault>
     // where the bytes of the reader are known, their text says a script, and the writer got the report of a recording of the
-    // script's device: its calls lead to its live device, each is one that its caller may make, and there are as many of each caller
-    // as are its own in the script
+    // script's device: its calls lead to its live device, and are the script's, each caller's own in order
     ensures ok { OnOk result
         (WroteThreads (I.remaining reader.old) (W.contents writer.old) (W.contents writer.new)) }
     // or a beginning of that, or nothing
@@ -196,7 +195,7 @@ fn with_ports<M: GuestMem + Send + 'static, R: Threads + Wait + Copy + Send + 's
 // device, and writes of both. What makes the device and its lock is in calls of its own: a device is too large to stand on the
 // stack while workers run.
 #[inline(never)]
-#[tactic(auto, using(crate::proofs::Told::late_of_run, crate::proofs::Told::wrote_report, crate::proofs::Told::began_report))]
+#[tactic(auto, using(crate::proofs::Told::late_of_run))]
 fn play_threads<
     M: GuestMem + Send + 'static,
     L: Ledger + Send + Sync + 'static,
@@ -228,12 +227,13 @@ fn play_threads<
     let device = make_device(alloc, script.shape(), live)?;
     let (recorded, shares) = record::<M, L>(alloc, blank, device, line, &script)?;
     let locked = lock(alloc, recorded)?;
-    let ended = run_all(rt, alloc, script, &locked, shares, ports)?;
-    report(alloc, locked, ended, other, writer)
+    let script = Arc::new(alloc, script)?;
+    let ended = run_all(rt, alloc, Arc::try_clone(&script)?, &locked, shares, ports)?;
+    report(alloc, script, locked, ended, other, writer)
 }
 
 // Does a script by threads on a device, whose callers asked nothing yet, with ports of its functions.
-#[tactic(auto, using(crate::proofs::Told::late_of_run, crate::proofs::Owns::are_own, crate::proofs::Seats::left_first))]
+#[tactic(auto, using(crate::proofs::Told::late_of_run))]
 fn run_all<
     M: GuestMem + Send + 'static,
     L: Ledger + Send + Sync + 'static,
@@ -242,14 +242,13 @@ fn run_all<
 >(
     rt: R,
     alloc: Global,
-    script: Script,
+    script: Arc<Script>,
     locked: &Arc<LockedDevice<M, L>>,
     mut shares: Shares<L>,
     ports: Vec<(P, EndNote)>,
 ) -> Result<Ended<L>, Fault>
     requires { AreUnused shares }
     ensures many { IfOk result (λ ended. length ended.shares.items ≡ 67) }
-    ensures own { IfOk result (λ ended. AreOwn script ended.shares.items) }
     ensures why { IfErr result (λ e. is_of_run e ≡ true) }
 {
     let pools = match prepare(&rt, alloc, &script, locked, &mut shares) {
@@ -257,12 +256,7 @@ fn run_all<
         Err(fault) => return Err(of_workers(fault)),
     };
     let ports = seat_all(alloc, locked, &mut shares, ports, &pools)?;
-    // each open pool has its port, and no other has one: that can't fail, but a port is in a box, and what is in a box is not known from
-    // outside
-    if !are_of_pools(&ports, &pools) {
-        return Err(Fault::NoMemory);
-    }
-    let (script, gate) = (Arc::new(alloc, script)?, Arc::new(alloc, OpenGate)?);
+    let gate = Arc::new(alloc, OpenGate)?;
     let device = Arc::try_clone(locked)?;
     match run_workers(rt, &Discard, alloc, script, device, shares, ports, gate) {
         Ok(ended) => Ok(ended),
@@ -271,12 +265,13 @@ fn run_all<
 }
 
 // Takes the recorded device out of its lock, and writes what was kept of it. [`Fault::NoMemory`] where somebody else has it too: once
-// all workers have ended, nobody has. The same where it is not the one that went in: that can't be, but no contract of a lock says what
-// comes out of it, so it is looked at before anything is written.
+// all workers have ended, nobody has. The same where it is no recording of the script: that can't be, but no contract of a lock says
+// what comes out of it, so it is looked at before anything is written.
 #[inline(never)]
-#[tactic(auto, using(crate::proofs::Told::wrote_of, crate::proofs::Told::began_of))]
+#[tactic(auto, using(crate::proofs::Told::wrote_report, crate::proofs::Told::began_report))]
 fn report<M: GuestMem, L: Ledger, W: Write>(
     alloc: Global,
+    script: Arc<Script>,
     locked: Arc<LockedDevice<M, L>>,
     ended: Ended<L>,
     other: &mut Device<M>,
@@ -284,12 +279,13 @@ fn report<M: GuestMem, L: Ledger, W: Write>(
 ) -> Result<Result<(), Fault>, Fault>
     requires many { length ended.shares.items ≡ 67 }
     requires fresh { IsFresh other.old.world }
+    requires other { other.old.world ≡ device_of (arc_value script).device }
     ensures unread { OnErr result (writer.new ≡ writer.old) }
     ensures why { IfErr result (λ e. is_of_run e ≡ true) }
-    ensures ok { IfOk result (λ played. OnOk played (WroteOf other.old.world ended.shares.items
-        (W.contents writer.old) (W.contents writer.new))) }
-    ensures err { IfOk result (λ played. OnErr played (BeganOf other.old.world ended.shares.items
-        (W.contents writer.old) (W.contents writer.new))) }
+    ensures ok { IfOk result (λ played. OnOk played
+        (WroteReport (arc_value script) (W.contents writer.old) (W.contents writer.new))) }
+    ensures err { IfOk result (λ played. OnErr played
+        (BeganReport (arc_value script) (W.contents writer.old) (W.contents writer.new))) }
     ensures late { IfOk result (λ played. IfErr played (λ e. is_late e ≡ true)) }
 {
     let Some(mut recorded) = LockedDevice::into_recorded(locked) else {
@@ -299,11 +295,11 @@ fn report<M: GuestMem, L: Ledger, W: Write>(
     if !recorded.begins_as(other) {
         return Err(Fault::NoMemory);
     }
-    // and they are as many of each caller as the caller's share has, which tells whose events they are
-    let Some(report) = tell_counted(&mut recorded, ended.shares, other) else {
+    // and they are the script's
+    if !is_of_script(alloc, script, recorded.history())? {
         return Err(Fault::NoMemory);
-    };
-    Ok(write(alloc, &report, writer))
+    }
+    Ok(write_report(alloc, &mut recorded, ended.shares, other, writer))
 }
 
 // The fault of the program for one of the workers.
@@ -356,7 +352,6 @@ fn lock<M: GuestMem, L: Ledger>(
 
 // The ports of these pools, with their device and their shares: of those that can make calls.
 #[inline(never)]
-#[tactic(auto, using(crate::proofs::Seats::seated_none, crate::proofs::Seats::seated_next, crate::proofs::Seats::left_after))]
 fn seat_all<M: GuestMem, L: Ledger, P: GuestPort>(
     alloc: Global,
     device: &Arc<LockedDevice<M, L>>,
@@ -364,45 +359,28 @@ fn seat_all<M: GuestMem, L: Ledger, P: GuestPort>(
     all: Vec<(P, EndNote)>,
     pools: &[u8],
 ) -> Result<Vec<(LockedPort<M, L, P>, EndNote)>, AllocError>
-    requires { AreLeftUnused shares.old.ports.items }
-    ensures { IfOk result (λ ports. AreSeated ports.items shares.old shares.new) }
+    ensures others { (shares.new.pf ≡ shares.old.pf) × (shares.new.pump ≡ shares.old.pump)
+        × (shares.new.service ≡ shares.old.service) }
 {
     let mut ports = Vec::with_capacity(alloc, pools.len())?;
     for (port, note) in all {
-        let port = seat(device, shares, pools, port)?;
-        push_port(&mut ports, port, note)?;
+        if let Some(port) = seat(device, shares, pools, port)? {
+            ports.push((port, note))?;
+        }
     }
     Ok(ports)
 }
 
-// Puts a port with its note behind the others, if there is one.
-fn push_port<M: GuestMem, L: Ledger, P: GuestPort>(
-    ports: &mut Vec<(LockedPort<M, L, P>, EndNote)>,
-    port: Option<LockedPort<M, L, P>>,
-    note: EndNote,
-) -> Result<(), AllocError>
-    ensures { OnOk result (MatchOption port (ports.new.items ≡ ports.old.items)
-        (λ port. ports.new.items ≡ ports.old.items ++ (port, note) ∷ [])) }
-{
-    match port {
-        Some(port) => Ok(ports.push((port, note))?),
-        None => Ok(()),
-    }
-}
-
 // A port with its device and its share, where it is of one of these pools. What was raised for its pool before is taken and discarded:
 // a port begins here. None where the port has ended or its share was handed out before, so that it could make no call.
-#[tactic(auto, using(crate::proofs::Seats::gone_after, crate::proofs::Seats::port_new, crate::proofs::Seats::remain_same, crate::proofs::Seats::remain_set))]
 fn seat<M: GuestMem, L: Ledger, P: GuestPort>(
     device: &Arc<LockedDevice<M, L>>,
     shares: &mut Shares<L>,
     pools: &[u8],
     mut port: P,
 ) -> Result<Option<LockedPort<M, L, P>>, AllocError>
-    requires { AreLeftUnused shares.old.ports.items }
-    ensures remain { Remain shares.old shares.new }
-    ensures port { IfOk result (λ made. IfSome made IsNewPort) }
-    ensures gone { IfOk result (λ made. IfSome made (λ port. IsGone port.port.pool shares.new)) }
+    ensures others { (shares.new.pf ≡ shares.old.pf) × (shares.new.pump ≡ shares.old.pump)
+        × (shares.new.service ≡ shares.old.service) }
 {
     if !pools.contains(&port.pool()) {
         return Ok(None);
@@ -416,24 +394,4 @@ fn seat<M: GuestMem, L: Ledger, P: GuestPort>(
     };
     let device = Arc::try_clone(device)?;
     Ok(Some(LockedPort::new(device, share, port)))
-}
-
-// Whether these ports are just those of the pools, in order.
-#[tactic(auto, using(crate::proofs::Seats::pools_more, crate::proofs::Seats::pools_all))]
-fn are_of_pools<M: GuestMem, L: Ledger, P: GuestPort>(
-    ports: &[(LockedPort<M, L, P>, EndNote)],
-    pools: &[u8],
-) -> bool
-    ensures { result ≡ true → map pool_of ports.now ≡ pools.now }
-{
-    if ports.len() != pools.len() {
-        return false;
-    }
-    for index in 0..pools.len() {
-        let (port, _) = &ports[index];
-        if port.pool() != pools[index] {
-            return false;
-        }
-    }
-    true
 }

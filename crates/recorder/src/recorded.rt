@@ -283,6 +283,14 @@ impl<M: GuestMem, L: Ledger> Recorded<M, L> {
         self.journal.folded() == 0 && is_same_make(self.journal.recording().device(), other)
     }
 
+    /// The kept calls, the oldest first.
+    #[inline]
+    pub fn history(&self) -> &History
+        ensures { result.now.entries ≡ self.now.kept }
+    {
+        self.journal.recording().history()
+    }
+
     /// How many calls are kept.
     #[inline]
     pub fn kept(&self) -> usize

@@ -49,7 +49,7 @@ kept_none old new pf_same service_same pump_same ports_same = record {
 
 -- ---- the events of a list so far
 
-opened_last : (calls : List Entry) (call : Entry) (pools : List Bool) → opened_after (calls ++ call ∷ []) pools ≡ opened call.event call.answer.reply (opened_after calls pools)
+pub opened_last : (calls : List Entry) (call : Entry) (pools : List Bool) → opened_after (calls ++ call ∷ []) pools ≡ opened call.event call.answer.reply (opened_after calls pools)
 opened_last [] call pools = refl
 opened_last (x ∷ calls) call pools = opened_last calls call (opened x.event x.answer.reply pools)
 

@@ -91,7 +91,7 @@ other_place plan place c places less is so_far =
     }
 
 -- the caller of a number has that number
-number_at : (n : ℕ) → n < 67 → caller_number (caller_at n) ≡ n
+pub number_at : (n : ℕ) → n < 67 → caller_number (caller_at n) ≡ n
 number_at n below = port (nat_lt n 64) refl
   where
     pump : (is : Bool) → (n == 65) ≡ is → nat_lt n 64 ≡ false → (n == 64) ≡ false → caller_number (if n == 65 then Pump else Service) ≡ n

@@ -1,26 +1,26 @@
 //! The events before `go`.
-ghost use Rattle.std.specs.Prelude.{◌≡◌, ℕ, ◌<◌, ◌≤◌, ◌⊎◌, List, [], length, take, IfErr, IfOk, OnErr, OnOk};
+ghost use Rattle.std.specs.Prelude.{◌≡◌, ℕ, ◌<◌, ◌≤◌, ◌⊎◌, [], length, take, IfErr, IfOk, OnErr, OnOk};
 ghost use Rattle.wire_frame.specs.declared.fault.Fault.{Fault};
-ghost use Rattle.device.specs.declared.span.Span.{Span};
 ghost use Rattle.device.specs.Request.{event_of};
 ghost use Rattle.device.specs.Outcome.{reply_by, bytes_told};
 ghost use Rattle.history.specs.declared.caller.Caller.TheVariants.{Driver, Service};
 ghost use Rattle.workers.specs.Callers.{caller_before};
 ghost use Rattle.workers.specs.Counts.{HasRecorded, HaveKept, HaveRecorded};
 ghost use Rattle.workers.specs.Plans.{events_before};
-ghost use Rattle.workers.specs.Opens.{HaveLeft, IsPrepared, all_closed, opened, pools_from, with_pool};
+ghost use Rattle.workers.specs.Opens.{HaveLeft, IsPrepared};
 
 use crate::asking::ask;
+use crate::opens::{closed_pools, note, pools_in};
 use crate::plan::caller_before;
 use device::bytes::MOST_BYTES;
 use device::{Outcome, Request};
 use device_lock::{Caller, LockedDevice, Shares};
 use guest_memory::GuestMem;
 use script::{Room, Script};
-use std::alloc::{AllocError, Global};
+use std::alloc::Global;
 use std::sync::Wait;
 use std::sync::ledger::Ledger;
-use wire_frame::{Fault, FrameBuf, PoolId};
+use wire_frame::{Fault, FrameBuf};
 
 /// Records the events before `go`, and all where there is none, in order: those of the physical function by its driver's
 /// share, and all others by the service's. Answers the pools that are open at `go`, rising, and none where there is none: those
@@ -94,13 +94,6 @@ fn record_first<M: GuestMem, L: Ledger, R: Wait>(
     Ok(pools)
 }
 
-// No pool is open.
-fn closed_pools() -> [bool; 64]
-    ensures { result ≡ all_closed }
-{
-    [false; 64]
-}
-
 // Records an event before `go`, and answers what came of it.
 #[tactic(auto, using(crate::proofs::Turns::may_first, crate::proofs::Turns::room_for))]
 fn record<M: GuestMem, L: Ledger, R: Wait>(
@@ -126,47 +119,4 @@ fn record<M: GuestMem, L: Ledger, R: Wait>(
         Caller::Driver => ask(rt, device, &mut shares.pf, request, frame, read),
         _ => ask(rt, device, &mut shares.service, request, frame, read),
     }
-}
-
-// Notes which pools an event leaves open.
-fn note(request: Request<'_>, outcome: Outcome, is_open: &mut [bool; 64])
-    requires { length is_open.old ≡ 64 }
-    ensures open { (bytes : Span → List ℕ) →
-        is_open.new ≡ opened (event_of request.entry) (reply_by bytes outcome) is_open.old }
-    ensures len { length is_open.new ≡ 64 }
-{
-    if !matches!(outcome, Outcome::Done) {
-        return;
-    }
-    match request {
-        Request::Open(pool) => set(is_open, pool, true),
-        Request::End(pool) => set(is_open, pool, false),
-        Request::PfReset => *is_open = [false; 64],
-        _ => {}
-    }
-}
-
-// Notes whether a pool is open.
-fn set(is_open: &mut [bool; 64], pool: u8, value: bool)
-    requires { length is_open.old ≡ 64 }
-    ensures open { is_open.new ≡ with_pool pool value is_open.old }
-    ensures len { length is_open.new ≡ 64 }
-{
-    if pool < PoolId::COUNT {
-        is_open[usize::from(pool)] = value;
-    }
-}
-
-// The pools that are open, rising.
-fn pools_in(alloc: Global, is_open: &[bool; 64]) -> Result<Vec<u8>, AllocError>
-    requires { length is_open.now ≡ 64 }
-    ensures { IfOk result (λ pools. pools.items ≡ pools_from 0 is_open.now) }
-{
-    let mut pools = Vec::with_capacity(alloc, 64)?;
-    for pool in 0..PoolId::COUNT {
-        if is_open[usize::from(pool)] {
-            pools.push(pool)?;
-        }
-    }
-    Ok(pools)
 }

@@ -128,7 +128,7 @@ first_taken h = registers_taken h registers
 one_write : (w : World) (v : Write) → IsTaken v → (step w (write_event v)).world.settings ≡ settings_after w.settings v.offset v.value
 one_write w v is = ap (λ b. (cond b (refused w BadOffset) (replied (pf_written w v.offset v.value) Done)).world.settings) is
 
-writes_done : (w : World) (ws : List Write) → Each IsTaken ws → (world_after w (write_events ws)).settings ≡ after_writes w.settings ws
+pub writes_done : (w : World) (ws : List Write) → Each IsTaken ws → (world_after w (write_events ws)).settings ≡ after_writes w.settings ws
 writes_done w [] each = refl
 writes_done w (v ∷ ws) each = writes_done (step w (write_event v)).world ws each.1 ∙ ap (λ s. after_writes s ws) (one_write w v each.0)
 
@@ -158,7 +158,7 @@ own_stays w p e = go (ltb p (length w.functions))
     go true = refl
     go false = refl
 
-event_stays : (w : World) (e : Event) → sets_registers e ≡ false → (step w e).world.settings ≡ w.settings
+pub event_stays : (w : World) (e : Event) → sets_registers e ≡ false → (step w e).world.settings ≡ w.settings
 event_stays w (Open p) none = own_stays w p (Open p)
 event_stays w (End p) none = own_stays w p (End p)
 event_stays w (VfRead p offset) none = own_stays w p (VfRead p offset)
@@ -191,7 +191,7 @@ event_stays w (Wire frame) none = go (ltb w.limit (length frame))
 
 -- ---- turns
 
-ids_stay : (h : HostState) (t : Turn) → (host_of h t).ids ≡ h.ids
+pub ids_stay : (h : HostState) (t : Turn) → (host_of h t).ids ≡ h.ids
 unfolding host_after host_without
 ids_stay h (Happens e) = refl
 ids_stay h (Answers p message) = refl
@@ -209,7 +209,7 @@ turn_settles h w (Forgets p) is few small =
     ∙ after_reset h p small few
 
 -- the writes of another pool leave nothing
-others_quiet : (q : ℕ) (h : HostState) (w : World) (ws : List Write) → w.settings ≡ settings_of h → Each IsTaken ws → ((done left : List Write) → done ++ left ≡ ws → IsSameFor (settings_of h) (after_writes (settings_of h) done) q) → keep q w (write_events ws) ≡ []
+pub others_quiet : (q : ℕ) (h : HostState) (w : World) (ws : List Write) → w.settings ≡ settings_of h → Each IsTaken ws → ((done left : List Write) → done ++ left ≡ ws → IsSameFor (settings_of h) (after_writes (settings_of h) done) q) → keep q w (write_events ws) ≡ []
 others_quiet q h w ws is each same = quiet q w ws each (λ done left at. ap (λ s. own (after_writes s done) q) is ∙ sym (same done left at).settings ∙ sym (ap (λ s. own s q) is))
 
 turn_keeps : (q : ℕ) (h : HostState) (w : World) (t : Turn) → q < 64 → w.settings ≡ settings_of h → length h.ids ≤ 64 → IsTurn t → keep q w (events_in h t) ≡ kept_in q h w t
@@ -229,7 +229,7 @@ turn_keeps q h w (Forgets p) q_small is few small = go (eqb p q) refl
 
 -- ---- runs
 
-few_still : (h : HostState) (t : Turn) → length h.ids ≤ 64 → length (host_of h t).ids ≤ 64
+pub few_still : (h : HostState) (t : Turn) → length h.ids ≤ 64 → length (host_of h t).ids ≤ 64
 few_still h t few = subst (λ (ids : List ℕ). length ids ≤ 64) (sym (ids_stay h t)) few
 
 pub run_settles : (h : HostState) (w : World) (turns : List Turn) → w.settings ≡ settings_of h → length h.ids ≤ 64 → All IsTurn turns → (world_after w (events_of h turns)).settings ≡ settings_of (host_at_end h turns)

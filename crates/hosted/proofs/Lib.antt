@@ -1,0 +1,3 @@
+pub mod OneTurn
+pub mod Others
+pub mod Stands

@@ -1,0 +1,232 @@
+-- What stands between two calls stands after turns of one function.
+use Rattle.std.proofs.Common.{◌≡◌, ℕ, ◌<◌, ◌≤◌, Bool, true, false, List, [], ◌∷◌, ◌++◌, ◌≢◌, length, get_or, refl, sym, ap, ◌∙◌, subst, arith}
+use Rattle.std.specs.List.{All}
+use Rattle.std.specs.Prelude.{◌&&◌, OnErr, Result, Ok, Err, slice_set, if◌then◌else◌}
+use Rattle.std.proofs.lemmas.Bool.Decides.{nat_tests}
+use Rattle.wire_frame.specs.declared.fault.Fault.{Fault}
+use Rattle.wire_frame.specs.declared.fault.Fault.TheVariants.{BadMake}
+use Rattle.device.specs.Guests.{is_for_guests}
+use Rattle.device.specs.Events.{Event}
+use Rattle.std.proofs.lemmas.List.{get_or-set_other, length-map, length-set}
+use Rattle.device.specs.declared.event.Event.TheVariants.{Flr, VfWrite}
+use Rattle.device.specs.Lone.{lone_after, lone_of}
+use Rattle.device.proofs.Unwinding.{isolated_state}
+use Rattle.device.specs.World.{World, fresh, is_frame_limit, step, with_function, world_after}
+use Rattle.device.proofs.LiveLemmas.{length_told}
+use Rattle.device.proofs.Shape.{step_shape}
+use Rattle.device.specs.Live.{TracedWorld, told_world}
+use Rattle.live_memory.specs.Trace.{Access}
+use Rattle.mailbox.specs.declared.policy.Policy.{Policy}
+use Rattle.mailbox.specs.declared.slot.Slot.TheVariants.{Absent}
+use Rattle.mailbox.specs.Host.{host_admitting, host_dismissing, host_under, is_admitted}
+use Rattle.mailbox.specs.Isolation.{IsSameFor}
+use Rattle.mailbox.specs.Writes.{after_writes, writes_dismissing, writes_of, writes_under}
+use Rattle.mailbox.specs.declared.slot.Slot.{Slot}
+use Rattle.mailbox.specs.declared.writes.Write.{Write}
+use Rattle.mailbox.proofs.Isolation.{slot_stays}
+use Rattle.pool_filter.specs.Settings.{Settings}
+use Rattle.mailbox.specs.State.{HostState, slot_at, with_slot}
+use Rattle.mailbox.specs.Within.{IsWithin}
+use Rattle.mailbox.specs.Words.{settings_of}
+use Rattle.mailbox_laws.specs.Turns.{Turn, sets_registers, events_of, write_events, host_at_end, host_of}
+use Rattle.mailbox.proofs.Rows.{Each}
+use Rattle.mailbox_laws.proofs.Kept.{IsTaken, event_stays, few_still, first_run, others_quiet, pool_taken, run_settles, writes_done}
+use Rattle.vf_unit.specs.Unit.{Closed, Function}
+use Rattle.mailbox.specs.Start.{first_writes}
+use Rattle.mailbox.specs.Host.{host_without}
+use Rattle.mailbox.specs.Mailbox.{MailboxState, after_reset, blank}
+use Rattle.mailbox_laws.specs.Turns.Turn.{Happens, Forgets}
+use Rattle.pool_filter.specs.Own.{own}
+use Rattle.hosted.specs.Hosted.{HaveTaken, HostedState, IsBegun, IsHosted, LeavesOthers, mailbox_at, with_world}
+use Rattle.hosted.specs.Turns.{mail_turns, mailed, reset_turns, takes, write_turns}
+use Rattle.hosted.proofs.Others.{IsOf, are_turns, box_stays, leaves_others, own_forget, own_reset, own_write}
+
+as_many : (w : World) (es : List Event) → length (world_after w es).functions ≡ length w.functions
+as_many w [] = refl
+as_many w (e ∷ es) = as_many (step w e).world es ∙ (step_shape w e).functions
+
+few_ids : (h : HostState) (ts : List Turn) → length h.ids ≤ 64 → length (host_at_end h ts).ids ≤ 64
+few_ids h [] few = few
+few_ids h (t ∷ ts) few = few_ids (host_of h t) ts (few_still h t few)
+
+pub stands : (p : ℕ) (old new : HostedState) (ts : List Turn) → p < 64 → IsHosted old → All (IsOf p) ts → HaveTaken ts old new → IsWithin new.host → length new.mailboxes ≡ length old.mailboxes → IsHosted new
+stands p old new ts below is all taken within boxes = record {
+  settings =
+      ap (λ (w : World). w.settings) taken.world ∙ run_settles old.host old.device.world ts is.settings is.ids (are_turns p ts below all)
+      ∙ ap settings_of (sym taken.host);
+  within = within;
+  ids = subst (λ (h : HostState). length h.ids ≤ 64) (sym taken.host) (few_ids old.host ts is.ids);
+  functions = subst (λ (n : ℕ). n ≤ 64) (sym (ap (λ (w : World). length w.functions) taken.world ∙ as_many old.device.world (events_of old.host ts))) is.functions;
+  many = boxes ∙ is.many;
+}
+
+-- and after an event of frames, which writes no register of the physical function, while guests write their memories
+pub stays_live : (old new : HostedState) (before now : List (List Access)) (e : Event) → IsHosted old → sets_registers e ≡ false → new.device.world ≡ (step (told_world before now old.device.world) e).world
+    → new.host ≡ old.host → new.mailboxes ≡ old.mailboxes → IsHosted new
+stays_live old new before now e is none world host boxes = record {
+  settings = ap (λ (w : World). w.settings) world ∙ event_stays (told_world before now old.device.world) e none ∙ is.settings ∙ ap settings_of (sym host);
+  within = subst IsWithin (sym host) is.within;
+  ids = subst (λ (h : HostState). length h.ids ≤ 64) (sym host) is.ids;
+  functions = subst (λ (n : ℕ). n ≤ 64)
+      (sym (ap (λ (w : World). length w.functions) world ∙ (step_shape (told_world before now old.device.world) e).functions ∙ length_told before now old.device.world.functions)) is.functions;
+  many = ap length boxes ∙ is.many;
+}
+
+-- as it is made
+pub begins : (h : HostedState) (host : HostState) (sizes : List ℕ) → IsBegun host sizes h → IsWithin host → length host.ids ≤ 64 → length sizes ≤ 64 → IsHosted h
+begins h host sizes is within ids few = record {
+  settings = ap (λ (w : World). w.settings) is.world ∙ first_run host host.limit sizes ∙ ap settings_of (sym is.host);
+  within = subst IsWithin (sym is.host) within;
+  ids = subst (λ (k : HostState). length k.ids ≤ 64) (sym is.host) ids;
+  functions = subst (λ (n : ℕ). n ≤ 64)
+      (sym (ap (λ (w : World). length w.functions) is.world ∙ as_many (fresh host.limit sizes) (write_events (first_writes host)) ∙ length-map sizes Closed)) few;
+  many = ap length is.mailboxes;
+}
+
+-- what a call shows that takes turns of p alone, once the mailboxes but p's are as they were
+pub record Shows (p : ℕ) (old new : HostedState) : Type 0 where
+  pub hosted : IsHosted new
+  pub others : LeavesOthers p old new
+
+pub shows : (p : ℕ) (old new : HostedState) (ts : List Turn) (m : MailboxState) → p < 64 → IsHosted old → All (IsOf p) ts → HaveTaken ts old new → IsWithin new.host → new.mailboxes ≡ slice_set old.mailboxes p m → Shows p old new
+shows p old new ts m below is all taken within boxes = record {
+  hosted = stands p old new ts below is all taken within (ap length boxes ∙ length-set old.mailboxes p m);
+  others = leaves_others p old new ts below is all taken (λ q other. box_stays old.mailboxes new.mailboxes p q m boxes other);
+}
+
+-- a write that the device took, and then what the host did
+pub written : (old new : HostedState) (p offset x : ℕ) (mid : World) (r : ℕ) (m : MailboxState) → p < 64 → IsHosted old → r ≡ p → m ≡ mailbox_at old p → takes old (VfWrite p offset x) ≡ true
+    → mid ≡ (step old.device.world (VfWrite p offset x)).world → new.device.world ≡ world_after mid (events_of old.host (mail_turns m r offset x)) → new.host ≡ host_at_end old.host (mail_turns m r offset x) → IsWithin new.host
+    → new.mailboxes ≡ slice_set old.mailboxes p (mailed old.host r m offset x) → Shows p old new
+written old new p offset x mid r m below is at box took stepped world host within boxes =
+    shows p old new (write_turns old p offset x) (mailed old.host r m offset x) below is (own_write old p offset x)
+    (record {
+      world = world ∙ (λ i. world_after (stepped i) (events_of old.host (mail_turns (box i) (at i) offset x)))
+          ∙ ap (λ (b : Bool). world_after old.device.world (events_of old.host (Happens (VfWrite p offset x) ∷ (if b then mail_turns (mailbox_at old p) p offset x else [])))) (sym took);
+      host = host ∙ (λ i. host_at_end old.host (mail_turns (box i) (at i) offset x))
+          ∙ ap (λ (b : Bool). host_at_end old.host (Happens (VfWrite p offset x) ∷ (if b then mail_turns (mailbox_at old p) p offset x else []))) (sym took);
+    }) within boxes
+
+-- a reset that the device took, and then the host forgot
+pub was_reset : (old new : HostedState) (p : ℕ) (mid : World) → p < 64 → IsHosted old → takes old (Flr p) ≡ true → mid ≡ (step old.device.world (Flr p)).world
+    → new.device.world ≡ world_after mid (events_of old.host (Forgets p ∷ [])) → new.host ≡ host_without old.host p → IsWithin new.host → new.mailboxes ≡ slice_set old.mailboxes p after_reset → Shows p old new
+was_reset old new p mid below is took stepped world host within boxes =
+    shows p old new (reset_turns old p) after_reset below is (own_reset old p)
+    (record {
+      world = world ∙ ap (λ (w : World). world_after w (events_of old.host (Forgets p ∷ []))) stepped
+          ∙ ap (λ (b : Bool). world_after old.device.world (events_of old.host (Happens (Flr p) ∷ (if b then Forgets p ∷ [] else [])))) (sym took);
+      host = host ∙ ap (λ (b : Bool). host_at_end old.host (Happens (Flr p) ∷ (if b then Forgets p ∷ [] else []))) (sym took);
+    }) within boxes
+
+-- p's function is another, and nothing else of the device
+abbrev pub IsMovedAt : ℕ → World → World → Type 0
+IsMovedAt p w v = (f : Function) × (v ≡ with_function w p f)
+
+-- a guest came or went, and the host forgot
+pub moved : (old new : HostedState) (p : ℕ) (mid : World) → p < 64 → IsHosted old → IsMovedAt p old.device.world mid
+    → new.device.world ≡ world_after mid (events_of old.host (Forgets p ∷ [])) → new.host ≡ host_without old.host p → IsWithin new.host → new.mailboxes ≡ slice_set old.mailboxes p blank → Shows p old new
+moved old new p mid below is (f, at) world host within boxes =
+    record {
+      hosted = then.hosted;
+      others = record {
+        functions = λ q inside other. then.others.functions q (subst (λ (n : ℕ). q < n) (sym many) inside) other
+            ∙ ap (lone_of q) at ∙ ap (λ (g : Function). record { limit = old.device.world.limit; function = g; settings = own old.device.world.settings q }) (get_or-set_other old.device.world.functions p q f (Closed 0) other);
+        slots = then.others.slots;
+        mailboxes = then.others.mailboxes;
+      };
+    }
+  where
+    many : length mid.functions ≡ length old.device.world.functions
+    many = ap (λ (w : World). length w.functions) at ∙ length-set old.device.world.functions p f
+
+    between : IsHosted (with_world old mid)
+    between = record {
+      settings = ap (λ (w : World). w.settings) at ∙ is.settings;
+      within = is.within;
+      ids = is.ids;
+      functions = subst (λ (n : ℕ). n ≤ 64) (sym many) is.functions;
+      many = is.many;
+    }
+
+    then : Shows p (with_world old mid) new
+    then = shows p (with_world old mid) new (Forgets p ∷ []) blank below between (own_forget p) (record { world = world; host = host }) within boxes
+
+-- a device for guests has no more than 64 of them
+pub few_guests : {R : Type 0} (limit : ℕ) (sizes : List ℕ) (made : Result R Fault) (device : R) → ((is_frame_limit limit && is_for_guests sizes) ≡ false → made ≡ Err BadMake) → made ≡ Ok device → length sizes ≤ 64
+unfolding is_for_guests
+few_guests limit sizes made device bad is = go (is_frame_limit limit && is_for_guests sizes) refl
+  where
+    go : (b : Bool) → (is_frame_limit limit && is_for_guests sizes) ≡ b → length sizes ≤ 64
+    go true good = grind (arith, nat_tests)
+    go false none = absurd (let refused = bad none in cc)
+
+-- p's slot is another, and the writes that follow are done
+placed : (p : ℕ) (old new : HostedState) (slot : Slot) (ws : List Write) → p < 64 → IsHosted old → new.host ≡ with_slot old.host p slot → ws ≡ writes_of (with_slot old.host p slot) p (slot_at old.host p)
+    → new.device.world ≡ world_after old.device.world (write_events ws) → after_writes (settings_of old.host) ws ≡ settings_of new.host
+    → ((q : ℕ) (done left : List Write) → q < 64 → q ≢ p → done ++ left ≡ ws → IsSameFor (settings_of old.host) (after_writes (settings_of old.host) done) q)
+    → IsWithin new.host → new.mailboxes ≡ old.mailboxes → Shows p old new
+placed p old new slot ws below is host listed world settles meanwhile within boxes = record {
+  hosted = record {
+    settings = ap (λ (w : World). w.settings) world ∙ writes_done old.device.world ws taken ∙ ap (λ (s : Settings). after_writes s ws) is.settings ∙ settles;
+    within = within;
+    ids = subst (λ (h : HostState). length h.ids ≤ 64) (sym host) is.ids;
+    functions = subst (λ (n : ℕ). n ≤ 64) (sym (ap (λ (w : World). length w.functions) world ∙ as_many old.device.world (write_events ws))) is.functions;
+    many = ap length boxes ∙ is.many;
+  };
+  others = record {
+    functions = λ q inside other.
+        ap (lone_of q) world ∙ isolated_state q old.device.world (write_events ws) inside is.functions
+        ∙ ap (lone_after (lone_of q old.device.world))
+        (others_quiet q old.host old.device.world ws is.settings taken (λ done left at. meanwhile q done left (let few = is.functions in omega (arith, inside, few)) other at));
+    slots = λ q other. ap (λ (h : HostState). slot_at h q) host ∙ slot_stays old.host p q slot other;
+    mailboxes = λ q other. ap (λ (ms : List MailboxState). get_or ms q blank) boxes;
+  };
+}
+  where
+    taken : Each IsTaken ws
+    taken = subst (Each IsTaken) (sym listed) (pool_taken (with_slot old.host p slot) p (slot_at old.host p) below is.ids)
+
+pub admitted : (p : ℕ) (old new : HostedState) (policy : Policy) (ws : List Write) → p < 64 → IsHosted old → is_admitted old.host p policy ≡ true → new.host ≡ host_admitting old.host p policy → ws ≡ writes_under old.host p policy
+    → new.device.world ≡ world_after old.device.world (write_events ws) → after_writes (settings_of old.host) ws ≡ settings_of new.host
+    → ((q : ℕ) (done left : List Write) → q < 64 → q ≢ p → done ++ left ≡ ws → IsSameFor (settings_of old.host) (after_writes (settings_of old.host) done) q)
+    → IsWithin new.host → new.mailboxes ≡ old.mailboxes → Shows p old new
+unfolding host_admitting host_under writes_under
+admitted p old new policy ws below is taken host listed world settles meanwhile within boxes =
+    placed p old new _ ws below is (host ∙ ap (λ (b : Bool). if b then host_under old.host p policy else old.host) taken) listed world settles meanwhile within boxes
+
+pub dismissed : (p : ℕ) (old new : HostedState) (ws : List Write) → p < 64 → IsHosted old → new.host ≡ host_dismissing old.host p → ws ≡ writes_dismissing old.host p
+    → new.device.world ≡ world_after old.device.world (write_events ws) → after_writes (settings_of old.host) ws ≡ settings_of new.host
+    → ((q : ℕ) (done left : List Write) → q < 64 → q ≢ p → done ++ left ≡ ws → IsSameFor (settings_of old.host) (after_writes (settings_of old.host) done) q)
+    → IsWithin new.host → new.mailboxes ≡ old.mailboxes → Shows p old new
+unfolding host_dismissing writes_dismissing
+dismissed p old new ws below is host listed world settles meanwhile within boxes = placed p old new Absent ws below is host listed world settles meanwhile within boxes
+
+-- nothing is as it was but p's mailbox
+pub told : (p : ℕ) (old new : HostedState) (m : MailboxState) → IsHosted old → new.device ≡ old.device → new.host ≡ old.host → new.mailboxes ≡ slice_set old.mailboxes p m → Shows p old new
+told p old new m is device host boxes = record {
+  hosted = record {
+    settings = ap (λ (d : TracedWorld). d.world.settings) device ∙ is.settings ∙ ap settings_of (sym host);
+    within = subst IsWithin (sym host) is.within;
+    ids = subst (λ (h : HostState). length h.ids ≤ 64) (sym host) is.ids;
+    functions = subst (λ (d : TracedWorld). length d.world.functions ≤ 64) (sym device) is.functions;
+    many = ap length boxes ∙ length-set old.mailboxes p m ∙ is.many;
+  };
+  others = record {
+    functions = λ q inside other. ap (λ (d : TracedWorld). lone_of q d.world) device;
+    slots = λ q other. ap (λ (h : HostState). slot_at h q) host;
+    mailboxes = λ q other. box_stays old.mailboxes new.mailboxes p q m boxes other;
+  };
+}
+
+-- a policy that is refused changes nothing
+pub unchanged : (old : HostedState) (host : HostState) (p : ℕ) (policy : Policy) → is_admitted old.host p policy ≡ false → host ≡ host_admitting old.host p policy
+    → record { device = old.device; host = host; mailboxes = old.mailboxes } ≡ old
+unfolding host_admitting
+unchanged old host p policy refused is = ap (λ (h : HostState). record { device = old.device; host = h; mailboxes = old.mailboxes }) (is ∙ ap (λ (b : Bool). if b then host_under old.host p policy else old.host) refused)
+
+pub itself : (p : ℕ) (h : HostedState) → LeavesOthers p h h
+itself p h = record { functions = λ q inside other. refl; slots = λ q other. refl; mailboxes = λ q other. refl }
+
+pub on_err : {A E : Type 0} (r : Result A E) {P : Type 0} → P → OnErr r P
+on_err (Ok v) holds = tt
+on_err (Err e) holds = holds

@@ -1,0 +1,49 @@
+//! Frames: what a function sends, and what comes from the wire.
+ghost use Rattle.std.specs.Prelude.{◌≡◌};
+ghost use Rattle.device.specs.Accesses.{accesses_by};
+ghost use Rattle.device.specs.declared.event.Event.TheVariants.{Serve, Wire};
+ghost use Rattle.device.specs.Live.{AreListed, AreMet, TakesLive, told_world};
+ghost use Rattle.device.specs.Outcome.{messages_or_refused};
+ghost use Rattle.device.specs.World.{step};
+
+use crate::hosted::HostedDevice;
+use device::{Queue, Response};
+use irq_causes::Messages;
+use live_memory::Dma;
+use wire_frame::{Fault, FrameBuf};
+
+impl<D: Dma<K>, K> HostedDevice<D, K> {
+    /// Takes the next descriptor of a transmit queue, as [`Device::serve_live`](device::Device::serve_live) says.
+    pub fn serve<'f>(&mut self, pool: u8, queue: Queue, frame: &'f mut FrameBuf) -> Response<'f>
+        ensures takes { TakesLive D.shared self.old.device.accesses self.new.device.accesses
+            self.old.device.world (Serve pool queue) self.new.device.world result }
+        ensures listed { AreListed
+            (accesses_by (told_world self.old.device.accesses self.new.device.accesses
+            self.old.device.world) (Serve pool queue))
+            self.old.device.accesses self.new.device.accesses }
+        ensures host { self.new.host ≡ self.old.host }
+        ensures mailboxes { self.new.mailboxes ≡ self.old.mailboxes }
+    {
+        self.device.serve_live(pool, queue, frame)
+    }
+
+    /// Takes a frame from the wire, as [`Device::wire_live`](device::Device::wire_live) says.
+    pub fn wire(&mut self, frame: &FrameBuf) -> Result<Messages, Fault>
+        ensures world { self.new.device.world
+            ≡ (step (told_world self.old.device.accesses self.new.device.accesses
+            self.old.device.world) (Wire frame.now)).world }
+        ensures answer { messages_or_refused result
+            ≡ (step (told_world self.old.device.accesses self.new.device.accesses
+            self.old.device.world) (Wire frame.now)).answer }
+        ensures listed { AreListed
+            (accesses_by (told_world self.old.device.accesses self.new.device.accesses
+            self.old.device.world) (Wire frame.now))
+            self.old.device.accesses self.new.device.accesses }
+        ensures met { AreMet D.shared self.old.device.accesses self.new.device.accesses
+            self.old.device.world }
+        ensures host { self.new.host ≡ self.old.host }
+        ensures mailboxes { self.new.mailboxes ≡ self.old.mailboxes }
+    {
+        self.device.wire_live(frame)
+    }
+}

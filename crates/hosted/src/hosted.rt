@@ -1,0 +1,108 @@
+//! The device with its host.
+ghost use Rattle.std.specs.Prelude.{◌≡◌, ◌≤◌, ◌&&◌, false, true, nat_le, length, map, replicate, Err, IfErr, IfOk};
+ghost use Rattle.device.specs.Guests.{is_for_guests};
+ghost use Rattle.device.specs.World.{fresh, world_after};
+ghost use Rattle.mailbox.specs.Mailbox.{blank};
+ghost use Rattle.mailbox.specs.Start.{first_writes};
+ghost use Rattle.mailbox_laws.specs.Turns.{write_events};
+ghost use Rattle.hosted.specs.Hosted.{IsBegun, host_of_ids};
+
+use device::Device;
+use live_memory::Dma;
+use mailbox::{Host, Mailbox};
+use std::alloc::{AllocError, Global};
+use std::marker::Model;
+use wire_frame::{Fault, FrameLimit, PoolId, Vid};
+
+/// How many functions a host has mailboxes for.
+const MAILBOXES: usize = 64;
+
+/// A device, the host that alone writes the physical function's registers, and the mailbox of each function. Contracts see all three,
+/// the device with what was read and written of each memory.
+#[derive(Drop)]
+pub struct HostedDevice<D: Dma<K>, K> {
+    pub(crate) device: Device<D, K>,
+    pub(crate) host: Host,
+    // by the pools
+    pub(crate) mailboxes: Vec<Mailbox>,
+}
+
+impl<D: Dma<K>, K> Model for HostedDevice<D, K> {
+    ghost use Rattle.hosted.specs.Hosted.{HostedState, IsHosted};
+
+    ghost Value = { HostedState };
+
+    ghost view = { λ h. record { device = h.device; host = h.host; mailboxes = h.mailboxes.items } };
+
+    ghost invariant = { λ h. IsHosted (record { device = h.device; host = h.host; mailboxes = h.mailboxes.items }) };
+}
+
+impl<D: Dma<K>, K> HostedDevice<D, K> {
+    /// A device of closed functions, each over one of the memories, 1 to 64, where one of no bytes is vacant, and a host whose policies
+    /// may name these VLAN ids, at most 64. Every register of the physical function has the word that it has for this host: no function
+    /// may receive or send, until a policy admits it and its driver asks. The pool, if one is given, takes what no pool accepts.
+    ///
+    /// [`Fault::BadMake`] comes exactly where there are more than 64 ids, no memories or more than 64, or one has more than 2^46 bytes;
+    /// [`Fault::NoMemory`] only where the host refused the room.
+    pub fn for_guests(
+        alloc: Global,
+        memories: Vec<D>,
+        ids: &[Vid],
+        default_pool: Option<PoolId>,
+        limit: FrameLimit,
+    ) -> Result<HostedDevice<D, K>, Fault>
+        ensures begun { IfOk result (IsBegun (host_of_ids ids.now default_pool limit)
+            (map (λ m. length (D.seen m)) memories.items)) }
+        ensures bad_make { (nat_le (length ids.now) 64 && is_for_guests
+            (map (λ m. length (D.seen m)) memories.items)) ≡ false → result ≡ Err Fault.BadMake }
+        ensures no_memory { IfErr result (λ e.
+            (nat_le (length ids.now) 64
+            && is_for_guests (map (λ m. length (D.seen m)) memories.items)) ≡ true
+            → e ≡ Fault.NoMemory) }
+    {
+        let Some(host) = Host::new(ids, default_pool, limit) else {
+            return Err(Fault::BadMake);
+        };
+        let mut device = Device::for_guests(alloc, memories, limit.get())?;
+        let mailboxes = blank_mailboxes(alloc)?;
+        bring_up(&mut device, &host);
+        Ok(HostedDevice {
+            device,
+            host,
+            mailboxes,
+        })
+    }
+
+    /// How many functions there are, at most 64.
+    pub fn functions(&self) -> usize
+        ensures count { result ≡ length self.now.device.world.functions }
+        ensures few { result ≤ 64 }
+    {
+        self.device.functions()
+    }
+}
+
+// The mailboxes of all functions, in which nothing stands.
+fn blank_mailboxes(alloc: Global) -> Result<Vec<Mailbox>, AllocError>
+    ensures { IfOk result (λ boxes. boxes.items ≡ replicate 64 blank) }
+{
+    let mut boxes = Vec::with_capacity(alloc, MAILBOXES)?;
+    for _ in 0..MAILBOXES {
+        boxes.push(Mailbox::new())?;
+    }
+    Ok(boxes)
+}
+
+// Does the first writes of a host.
+fn bring_up<D: Dma<K>, K>(device: &mut Device<D, K>, host: &Host)
+    ensures world { device.new.world
+        ≡ world_after device.old.world (write_events (first_writes host.now)) }
+    ensures accesses { device.new.accesses ≡ device.old.accesses }
+{
+    for place in 0..Host::FIRST_WRITES {
+        let Some(write) = host.first_write(place) else {
+            unreachable!()
+        };
+        let _ = device.pf_write(write.offset, write.value);
+    }
+}

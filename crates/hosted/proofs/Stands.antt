@@ -1,45 +1,41 @@
 -- What stands between two calls stands after turns of one function.
 use Rattle.std.proofs.Common.{◌≡◌, ℕ, ◌<◌, ◌≤◌, Bool, true, false, List, [], ◌∷◌, ◌++◌, ◌≢◌, length, get_or, refl, sym, ap, ◌∙◌, subst, arith}
 use Rattle.std.specs.List.{All}
-use Rattle.std.specs.Prelude.{◌&&◌, OnErr, Result, Ok, Err, slice_set, if◌then◌else◌}
+use Rattle.std.specs.Prelude.{◌&&◌, is_none, OnErr, Result, Ok, Err, slice_set, if◌then◌else◌}
 use Rattle.std.proofs.lemmas.Bool.Decides.{nat_tests}
 use Rattle.wire_frame.specs.declared.fault.Fault.{Fault}
 use Rattle.wire_frame.specs.declared.fault.Fault.TheVariants.{BadMake}
 use Rattle.device.specs.Guests.{is_for_guests}
 use Rattle.device.specs.Events.{Event}
-use Rattle.std.proofs.lemmas.List.{get_or-set_other, length-map, length-set}
+use Rattle.std.proofs.lemmas.List.Elements.{All-cons, All-nil}
+use Rattle.std.proofs.lemmas.List.{append-nil, get_or-set_other, map-append, length-map, length-set}
 use Rattle.device.specs.declared.event.Event.TheVariants.{Flr, VfWrite}
-use Rattle.device.specs.Lone.{lone_after, lone_of}
-use Rattle.device.proofs.Unwinding.{isolated_state}
+use Rattle.device.specs.Lone.{lone_of}
+use Rattle.device.proofs.Append.{world_after_append}
 use Rattle.device.specs.World.{World, fresh, is_frame_limit, step, with_function, world_after}
 use Rattle.device.proofs.LiveLemmas.{length_told}
 use Rattle.device.proofs.Shape.{step_shape}
 use Rattle.device.specs.Live.{TracedWorld, told_world}
 use Rattle.live_memory.specs.Trace.{Access}
 use Rattle.mailbox.specs.declared.policy.Policy.{Policy}
-use Rattle.mailbox.specs.declared.slot.Slot.TheVariants.{Absent}
-use Rattle.mailbox.specs.Host.{host_admitting, host_dismissing, host_under, is_admitted}
-use Rattle.mailbox.specs.Isolation.{IsSameFor}
-use Rattle.mailbox.specs.Writes.{after_writes, writes_dismissing, writes_of, writes_under}
-use Rattle.mailbox.specs.declared.slot.Slot.{Slot}
+use Rattle.mailbox.specs.Address.{number_of}
+use Rattle.mailbox.specs.Host.{host_admitting, host_dismissing, host_freed, host_under, refusal}
+use Rattle.mailbox.specs.Writes.{writes_dismissing, writes_freeing, writes_under}
 use Rattle.mailbox.specs.declared.writes.Write.{Write}
-use Rattle.mailbox.proofs.Isolation.{slot_stays}
-use Rattle.pool_filter.specs.Settings.{Settings}
-use Rattle.mailbox.specs.State.{HostState, slot_at, with_slot}
+use Rattle.mailbox.specs.State.{HostState, slot_at}
 use Rattle.mailbox.specs.Within.{IsWithin}
 use Rattle.mailbox.specs.Words.{settings_of}
-use Rattle.mailbox_laws.specs.Turns.{Turn, sets_registers, events_of, write_events, host_at_end, host_of}
-use Rattle.mailbox.proofs.Rows.{Each}
-use Rattle.mailbox_laws.proofs.Kept.{IsTaken, event_stays, few_still, first_run, others_quiet, pool_taken, run_settles, writes_done}
+use Rattle.mailbox_laws.specs.Turns.{IsTurn, Turn, sets_registers, events_of, write_event, write_events, writes_admitting, writes_taken, host_at_end, host_of}
+use Rattle.mailbox_laws.proofs.Kept.{event_stays, few_still, first_run, run_settles}
 use Rattle.vf_unit.specs.Unit.{Closed, Function}
 use Rattle.mailbox.specs.Start.{first_writes}
 use Rattle.mailbox.specs.Host.{host_without}
 use Rattle.mailbox.specs.Mailbox.{MailboxState, after_reset, blank}
-use Rattle.mailbox_laws.specs.Turns.Turn.{Happens, Forgets}
+use Rattle.mailbox_laws.specs.Turns.Turn.{Admits, Dismisses, Forgets, Happens}
 use Rattle.pool_filter.specs.Own.{own}
-use Rattle.hosted.specs.Hosted.{HaveTaken, HostedState, IsBegun, IsHosted, LeavesOthers, mailbox_at, with_world}
+use Rattle.hosted.specs.Hosted.{HaveTaken, HostedState, IsBegun, IsHosted, LeavesOthers, LeavesUnconcerned, mailbox_at, with_world}
 use Rattle.hosted.specs.Turns.{mail_turns, mailed, reset_turns, takes, write_turns}
-use Rattle.hosted.proofs.Others.{IsOf, are_turns, box_stays, leaves_others, own_forget, own_reset, own_write}
+use Rattle.hosted.proofs.Others.{IsOf, are_turns, box_stays, leaves_others, own_dismiss, own_forget, own_reset, own_write}
 
 as_many : (w : World) (es : List Event) → length (world_after w es).functions ≡ length w.functions
 as_many w [] = refl
@@ -49,16 +45,19 @@ few_ids : (h : HostState) (ts : List Turn) → length h.ids ≤ 64 → length (h
 few_ids h [] few = few
 few_ids h (t ∷ ts) few = few_ids (host_of h t) ts (few_still h t few)
 
-pub stands : (p : ℕ) (old new : HostedState) (ts : List Turn) → p < 64 → IsHosted old → All (IsOf p) ts → HaveTaken ts old new → IsWithin new.host → length new.mailboxes ≡ length old.mailboxes → IsHosted new
-stands p old new ts below is all taken within boxes = record {
+stands_turns : (old new : HostedState) (ts : List Turn) → IsHosted old → All IsTurn ts → HaveTaken ts old new → IsWithin new.host → length new.mailboxes ≡ length old.mailboxes → IsHosted new
+stands_turns old new ts is all taken within boxes = record {
   settings =
-      ap (λ (w : World). w.settings) taken.world ∙ run_settles old.host old.device.world ts is.settings is.ids (are_turns p ts below all)
+      ap (λ (w : World). w.settings) taken.world ∙ run_settles old.host old.device.world ts is.settings is.ids all
       ∙ ap settings_of (sym taken.host);
   within = within;
   ids = subst (λ (h : HostState). length h.ids ≤ 64) (sym taken.host) (few_ids old.host ts is.ids);
   functions = subst (λ (n : ℕ). n ≤ 64) (sym (ap (λ (w : World). length w.functions) taken.world ∙ as_many old.device.world (events_of old.host ts))) is.functions;
   many = boxes ∙ is.many;
 }
+
+pub stands : (p : ℕ) (old new : HostedState) (ts : List Turn) → p < 64 → IsHosted old → All (IsOf p) ts → HaveTaken ts old new → IsWithin new.host → length new.mailboxes ≡ length old.mailboxes → IsHosted new
+stands p old new ts below is all taken within boxes = stands_turns old new ts is (are_turns p ts below all) taken within boxes
 
 -- and after an event of frames, which writes no register of the physical function, while guests write their memories
 pub stays_live : (old new : HostedState) (before now : List (List Access)) (e : Event) → IsHosted old → sets_registers e ≡ false → new.device.world ≡ (step (told_world before now old.device.world) e).world
@@ -160,46 +159,38 @@ few_guests limit sizes made device bad is = go (is_frame_limit limit && is_for_g
     go true good = grind (arith, nat_tests)
     go false none = absurd (let refused = bad none in cc)
 
--- p's slot is another, and the writes that follow are done
-placed : (p : ℕ) (old new : HostedState) (slot : Slot) (ws : List Write) → p < 64 → IsHosted old → new.host ≡ with_slot old.host p slot → ws ≡ writes_of (with_slot old.host p slot) p (slot_at old.host p)
-    → new.device.world ≡ world_after old.device.world (write_events ws) → after_writes (settings_of old.host) ws ≡ settings_of new.host
-    → ((q : ℕ) (done left : List Write) → q < 64 → q ≢ p → done ++ left ≡ ws → IsSameFor (settings_of old.host) (after_writes (settings_of old.host) done) q)
-    → IsWithin new.host → new.mailboxes ≡ old.mailboxes → Shows p old new
-placed p old new slot ws below is host listed world settles meanwhile within boxes = record {
-  hosted = record {
-    settings = ap (λ (w : World). w.settings) world ∙ writes_done old.device.world ws taken ∙ ap (λ (s : Settings). after_writes s ws) is.settings ∙ settles;
-    within = within;
-    ids = subst (λ (h : HostState). length h.ids ≤ 64) (sym host) is.ids;
-    functions = subst (λ (n : ℕ). n ≤ 64) (sym (ap (λ (w : World). length w.functions) world ∙ as_many old.device.world (write_events ws))) is.functions;
-    many = ap length boxes ∙ is.many;
-  };
-  others = record {
-    functions = λ q inside other.
-        ap (lone_of q) world ∙ isolated_state q old.device.world (write_events ws) inside is.functions
-        ∙ ap (lone_after (lone_of q old.device.world))
-        (others_quiet q old.host old.device.world ws is.settings taken (λ done left at. meanwhile q done left (let few = is.functions in omega (arith, inside, few)) other at));
-    slots = λ q other. ap (λ (h : HostState). slot_at h q) host ∙ slot_stays old.host p q slot other;
-    mailboxes = λ q other. ap (λ (ms : List MailboxState). get_or ms q blank) boxes;
-  };
+-- a policy was given, and the writes that follow are done
+pub admitted : (p : ℕ) (old new : HostedState) (policy : Policy) (lost own : List Write) (mid : World) → p < 64 → IsHosted old → is_none (refusal old.host p policy) ≡ true → new.host ≡ host_admitting old.host p policy
+    → lost ≡ writes_freeing old.host p (number_of policy.address) → own ≡ writes_under (host_freed old.host p (number_of policy.address)) p policy
+    → mid ≡ world_after old.device.world (write_events lost) → new.device.world ≡ world_after mid (write_events own) → HaveTaken (Admits p policy ∷ []) old new
+admitted p old new policy lost own mid below is taken host freed listed before after = record {
+  world =
+      after ∙ (λ i. world_after (before i) (write_events own))
+      ∙ sym (world_after_append old.device.world (write_events lost) (write_events own))
+      ∙ ap (world_after old.device.world)
+      (sym (map-append write_event lost own)
+      ∙ (λ i. write_events (freed i ++ listed i))
+      ∙ ap (λ (b : Bool). write_events (if b then writes_taken old.host p policy else [])) (sym taken)
+      ∙ sym (append-nil (write_events (writes_admitting old.host p policy))));
+  host = host;
 }
-  where
-    taken : Each IsTaken ws
-    taken = subst (Each IsTaken) (sym listed) (pool_taken (with_slot old.host p slot) p (slot_at old.host p) below is.ids)
 
-pub admitted : (p : ℕ) (old new : HostedState) (policy : Policy) (ws : List Write) → p < 64 → IsHosted old → is_admitted old.host p policy ≡ true → new.host ≡ host_admitting old.host p policy → ws ≡ writes_under old.host p policy
-    → new.device.world ≡ world_after old.device.world (write_events ws) → after_writes (settings_of old.host) ws ≡ settings_of new.host
-    → ((q : ℕ) (done left : List Write) → q < 64 → q ≢ p → done ++ left ≡ ws → IsSameFor (settings_of old.host) (after_writes (settings_of old.host) done) q)
-    → IsWithin new.host → new.mailboxes ≡ old.mailboxes → Shows p old new
-unfolding host_admitting host_under writes_under
-admitted p old new policy ws below is taken host listed world settles meanwhile within boxes =
-    placed p old new _ ws below is (host ∙ ap (λ (b : Bool). if b then host_under old.host p policy else old.host) taken) listed world settles meanwhile within boxes
+-- what stands between two calls stands after it
+pub stands_admitted : (p : ℕ) (old new : HostedState) (policy : Policy) → p < 64 → IsHosted old → HaveTaken (Admits p policy ∷ []) old new → IsWithin new.host → new.mailboxes ≡ old.mailboxes → IsHosted new
+stands_admitted p old new policy below is taken within boxes = stands_turns old new (Admits p policy ∷ []) is (All-cons IsTurn (Admits p policy) [] below (All-nil IsTurn)) taken within (ap length boxes)
 
-pub dismissed : (p : ℕ) (old new : HostedState) (ws : List Write) → p < 64 → IsHosted old → new.host ≡ host_dismissing old.host p → ws ≡ writes_dismissing old.host p
-    → new.device.world ≡ world_after old.device.world (write_events ws) → after_writes (settings_of old.host) ws ≡ settings_of new.host
-    → ((q : ℕ) (done left : List Write) → q < 64 → q ≢ p → done ++ left ≡ ws → IsSameFor (settings_of old.host) (after_writes (settings_of old.host) done) q)
-    → IsWithin new.host → new.mailboxes ≡ old.mailboxes → Shows p old new
-unfolding host_dismissing writes_dismissing
-dismissed p old new ws below is host listed world settles meanwhile within boxes = placed p old new Absent ws below is host listed world settles meanwhile within boxes
+pub dismissed : (p : ℕ) (old new : HostedState) (ws : List Write) → p < 64 → IsHosted old → new.host ≡ host_dismissing old.host p → ws ≡ writes_dismissing old.host p → new.device.world ≡ world_after old.device.world (write_events ws)
+    → HaveTaken (Dismisses p ∷ []) old new
+dismissed p old new ws below is host listed world = record {
+  world = world ∙ ap (world_after old.device.world) (ap write_events listed ∙ sym (append-nil (write_events (writes_dismissing old.host p))));
+  host = host;
+}
+
+pub shows_dismissed : (p : ℕ) (old new : HostedState) → p < 64 → IsHosted old → HaveTaken (Dismisses p ∷ []) old new → IsWithin new.host → new.mailboxes ≡ old.mailboxes → Shows p old new
+shows_dismissed p old new below is taken within boxes = record {
+  hosted = stands p old new (Dismisses p ∷ []) below is (own_dismiss p) taken within (ap length boxes);
+  others = leaves_others p old new (Dismisses p ∷ []) below is (own_dismiss p) taken (λ q other. ap (λ (ms : List MailboxState). get_or ms q blank) boxes);
+}
 
 -- nothing is as it was but p's mailbox
 pub told : (p : ℕ) (old new : HostedState) (m : MailboxState) → IsHosted old → new.device ≡ old.device → new.host ≡ old.host → new.mailboxes ≡ slice_set old.mailboxes p m → Shows p old new
@@ -219,13 +210,15 @@ told p old new m is device host boxes = record {
 }
 
 -- a policy that is refused changes nothing
-pub unchanged : (old : HostedState) (host : HostState) (p : ℕ) (policy : Policy) → is_admitted old.host p policy ≡ false → host ≡ host_admitting old.host p policy
+pub unchanged : (old : HostedState) (host : HostState) (p : ℕ) (policy : Policy) → is_none (refusal old.host p policy) ≡ false → host ≡ host_admitting old.host p policy
     → record { device = old.device; host = host; mailboxes = old.mailboxes } ≡ old
 unfolding host_admitting
-unchanged old host p policy refused is = ap (λ (h : HostState). record { device = old.device; host = h; mailboxes = old.mailboxes }) (is ∙ ap (λ (b : Bool). if b then host_under old.host p policy else old.host) refused)
+unchanged old host p policy refused is =
+    ap (λ (h : HostState). record { device = old.device; host = h; mailboxes = old.mailboxes })
+    (is ∙ ap (λ (b : Bool). if b then host_under (host_freed old.host p (number_of policy.address)) p policy else old.host) refused)
 
-pub itself : (p : ℕ) (h : HostedState) → LeavesOthers p h h
-itself p h = record { functions = λ q inside other. refl; slots = λ q other. refl; mailboxes = λ q other. refl }
+pub unconcerned_itself : (p : ℕ) (policy : Policy) (h : HostedState) → LeavesUnconcerned p policy h h
+unconcerned_itself p policy h = record { functions = λ q inside out. refl; slots = λ q out. refl; mailboxes = refl }
 
 pub on_err : {A E : Type 0} (r : Result A E) {P : Type 0} → P → OnErr r P
 on_err (Ok v) holds = tt

@@ -1,5 +1,5 @@
 -- A device whose physical function is driven by a host of mailboxes.
-use Rattle.std.specs.Prelude.{◌≡◌, ◌≢◌, ℕ, ◌<◌, ◌≤◌, List, Option, length, replicate, slice_index_or}
+use Rattle.std.specs.Prelude.{◌≡◌, ◌≢◌, false, ℕ, ◌<◌, ◌≤◌, List, Option, length, replicate, slice_index_or}
 use Rattle.device.specs.Live.{TracedWorld}
 use Rattle.device.specs.Lone.{lone_of}
 use Rattle.device.specs.World.{World, fresh, world_after}
@@ -9,7 +9,8 @@ use Rattle.mailbox.specs.Start.{first_writes}
 use Rattle.mailbox.specs.State.{HostState, slot_at}
 use Rattle.mailbox.specs.Within.{IsWithin}
 use Rattle.mailbox.specs.Words.{settings_of}
-use Rattle.mailbox_laws.specs.Turns.{Turn, events_of, host_at_end, write_events}
+use Rattle.mailbox.specs.declared.policy.Policy.{Policy}
+use Rattle.mailbox_laws.specs.Turns.{Turn, concerns, events_of, host_at_end, write_events}
 
 -- the device, the host, and the mailbox of each function, by its pool
 pub record HostedState : Type 0 where
@@ -54,3 +55,9 @@ pub record LeavesOthers (p : ℕ) (old new : HostedState) : Type 0 where
   pub functions : (q : ℕ) → q < length old.device.world.functions → q ≢ p → lone_of q new.device.world ≡ lone_of q old.device.world
   pub slots : (q : ℕ) → q ≢ p → slot_at new.host q ≡ slot_at old.host q
   pub mailboxes : (q : ℕ) → q ≢ p → mailbox_at new q ≡ mailbox_at old q
+
+-- every function that a policy of p doesn't concern is as it was: all but p, and but one that loses an address to it
+pub record LeavesUnconcerned (p : ℕ) (policy : Policy) (old new : HostedState) : Type 0 where
+  pub functions : (q : ℕ) → q < length old.device.world.functions → concerns old.host p policy q ≡ false → lone_of q new.device.world ≡ lone_of q old.device.world
+  pub slots : (q : ℕ) → concerns old.host p policy q ≡ false → slot_at new.host q ≡ slot_at old.host q
+  pub mailboxes : new.mailboxes ≡ old.mailboxes

@@ -1,31 +1,31 @@
 //! Policies of functions, and the host's own message.
-ghost use Rattle.std.specs.Prelude.{◌≡◌, slice_set, IfErr, OnErr, OnOk, is_ok};
-ghost use Rattle.device.specs.World.{world_after};
-ghost use Rattle.mailbox.specs.Host.{host_admitting, host_dismissing, is_admitted};
+ghost use Rattle.std.specs.Prelude.{◌≡◌, [], ◌∷◌, Some, is_none, slice_set, IfErr, IfOk, OnErr, OnOk, is_ok};
+ghost use Rattle.mailbox.specs.Address.{number_of};
+ghost use Rattle.mailbox.specs.Host.{refusal};
 ghost use Rattle.mailbox.specs.Mailbox.{notice_in};
 ghost use Rattle.mailbox.specs.Replies.{notified};
-ghost use Rattle.mailbox.specs.Writes.{writes_dismissing, writes_under};
-ghost use Rattle.mailbox_laws.specs.Turns.{write_events};
-ghost use Rattle.hosted.specs.Hosted.{LeavesOthers, mailbox_at};
+ghost use Rattle.mailbox.specs.State.{holder};
+ghost use Rattle.mailbox_laws.specs.Turns.Turn.{Admits, Dismisses};
+ghost use Rattle.hosted.specs.Hosted.{HaveTaken, LeavesOthers, LeavesUnconcerned, mailbox_at};
 
 use crate::doing::do_writes;
 use crate::hosted::HostedDevice;
 use live_memory::Dma;
-use mailbox::{Notice, Policy};
-use wire_frame::{Fault, PoolId};
+use mailbox::{NotAdmitted, Notice, Policy};
+use wire_frame::PoolId;
 
 impl<D: Dma<K>, K> HostedDevice<D, K> {
     /// Gives a function its policy, as [`Host::admit`](mailbox::Host::admit) says, and does the writes of the physical function's
-    /// registers that follow. [`Fault::BadMake`] where the policy is refused, and then nothing changes.
-    pub fn admit(&mut self, pool: PoolId, policy: &Policy) -> Result<(), Fault>
-        ensures host { self.new.host ≡ host_admitting self.old.host pool policy.now }
-        ensures variant { is_ok result ≡ is_admitted self.old.host pool policy.now }
-        ensures err { IfErr result (λ e. e ≡ Fault.BadMake) }
-        ensures world { OnOk result (self.new.device.world ≡ world_after self.old.device.world
-            (write_events (writes_under self.old.host pool policy.now))) }
+    /// registers that follow: first those of a function that had chosen the address, which is answered and is to be told
+    /// ([`notify`](HostedDevice::notify), [`reset`](HostedDevice::reset)), and then its own. Where the policy is not taken nothing changes.
+    pub fn admit(&mut self, pool: PoolId, policy: &Policy) -> Result<Option<PoolId>, NotAdmitted>
+        ensures variant { is_ok result ≡ is_none (refusal self.old.host pool policy.now) }
+        ensures err { IfErr result (λ e. refusal self.old.host pool policy.now ≡ Some e) }
+        ensures loser { IfOk result
+            (λ loser. loser ≡ holder self.old.host pool (number_of policy.now.address)) }
+        ensures taken { OnOk result (HaveTaken (Admits pool policy.now ∷ []) self.old self.new) }
         ensures accesses { self.new.device.accesses ≡ self.old.device.accesses }
-        ensures mailboxes { self.new.mailboxes ≡ self.old.mailboxes }
-        ensures others { LeavesOthers pool self.old self.new }
+        ensures others { LeavesUnconcerned pool policy.now self.old self.new }
         ensures unchanged { OnErr result (self.new ≡ self.old) }
     {
         let HostedDevice {
@@ -33,16 +33,15 @@ impl<D: Dma<K>, K> HostedDevice<D, K> {
             host,
             mailboxes: _,
         } = self;
-        let writes = host.admit(pool, policy)?;
-        do_writes(device, writes.as_slice());
-        Ok(())
+        let admission = host.admit(pool, policy)?;
+        do_writes(device, admission.lost.as_slice());
+        do_writes(device, admission.writes.as_slice());
+        Ok(admission.loser)
     }
 
     /// Takes a function's policy away, with all that its guest asked for, and does the writes that follow. Its mailbox stays.
     pub fn dismiss(&mut self, pool: PoolId)
-        ensures host { self.new.host ≡ host_dismissing self.old.host pool }
-        ensures world { self.new.device.world ≡ world_after self.old.device.world
-            (write_events (writes_dismissing self.old.host pool)) }
+        ensures taken { HaveTaken (Dismisses pool ∷ []) self.old self.new }
         ensures accesses { self.new.device.accesses ≡ self.old.device.accesses }
         ensures mailboxes { self.new.mailboxes ≡ self.old.mailboxes }
         ensures others { LeavesOthers pool self.old self.new }

@@ -1,7 +1,7 @@
 //! Drivers that ask by their mailboxes.
 use crate::support::{ask, policy, pool, vacant};
 use device::{Outcome, Queue};
-use mailbox::Notice;
+use mailbox::{NotAdmitted, Notice};
 use mapped_memory::LiveMem;
 use script_support::registers::{VFCTRL, VFMAILBOX, VFMBMEM};
 use std::test::Fail;
@@ -82,7 +82,7 @@ fn a_driver_is_notified_and_dismissed(rt: HostRuntime) -> Result<(), Fail> {
     let mut hosted = vacant(alloc)?;
     hosted.admit(pool(0)?, &policy(7))?;
     // another function can't have the same address
-    assert!(rt; hosted.admit(pool(1)?, &policy(7)) == Err(Fault::BadMake));
+    assert!(rt; hosted.admit(pool(1)?, &policy(7)) == Err(NotAdmitted::AddressOwned));
     assert!(rt; hosted.attach(0, LiveMem::for_guest(alloc, 4096)?).is_ok());
     assert!(rt; ask(&mut hosted, 0, RESET) == Some(GRANTED));
     // the driver hasn't looked since its message was answered
@@ -93,7 +93,7 @@ fn a_driver_is_notified_and_dismissed(rt: HostRuntime) -> Result<(), Fail> {
     // without its policy it is refused, and the address is free
     hosted.dismiss(pool(0)?);
     assert!(rt; ask(&mut hosted, 0, RESET) == Some(0x4000_0001));
-    assert!(rt; hosted.admit(pool(1)?, &policy(7)) == Ok(()));
+    assert!(rt; hosted.admit(pool(1)?, &policy(7)) == Ok(None));
     Ok(())
 }
 

@@ -14,7 +14,7 @@ use Rattle.mailbox.specs.declared.slot.Guest.{Guest}
 use Rattle.mailbox.specs.declared.slot.Slot.{Slot}
 use Rattle.mailbox.specs.declared.slot.Slot.TheVariants.{Absent, Admitted}
 use Rattle.mailbox.specs.Address.{number_of, is_number, is_unicast}
-use Rattle.mailbox.specs.Host.{host_dismissing, is_admitted, host_under, host_admitting}
+use Rattle.mailbox.specs.Host.{host_dismissing, host_under}
 use Rattle.mailbox.specs.Isolation.{IsSameFor, IsSameForAll}
 use Rattle.mailbox.specs.Keeping.{kept_address, kept_second, places_to_join, kept_multicast, kept_guest, under}
 use Rattle.mailbox.specs.Policy.{is_granted, is_port_at, may_join, is_placed}
@@ -29,7 +29,7 @@ use Rattle.mailbox.proofs.Turns.{some_is, none_is, IsAlike, settings_alike}
 
 -- ---- what a guest keeps is granted
 
-own_granted : (policy : Policy) → is_granted policy (number_of policy.address) ≡ true
+pub own_granted : (policy : Policy) → is_granted policy (number_of policy.address) ≡ true
 own_granted policy = ap (λ b. b || (policy.may_choose && is_unicast (number_of policy.address))) (itself (number_of policy.address))
 
 joins_kept : (vlans : VlanPolicy) (n k : ℕ) → has_bit (bit_and n (places_to_join vlans)) k ≡ true → may_join vlans k ≡ true
@@ -106,15 +106,6 @@ put_within h p policy small unicast free w = stands h p (under policy (slot_at h
   held = λ a there. ⊎_elim (λ before. inl before) (λ own. inr (ap (is_taken h p) (sym (eqb-true (number_of policy.address) a own)) ∙ free)) (under_held policy (slot_at h p) a there);
 })
 
-admitted : (h : HostState) (p : ℕ) (policy : Policy) → is_admitted h p policy ≡ true → (is_unicast (number_of policy.address) ≡ true) × (is_taken h p (number_of policy.address) ≡ false)
-unfolding is_admitted
-admitted h p policy is =
-    let a : (is_unicast (number_of policy.address) ≡ true) × ((not (is_taken h p (number_of policy.address)) && is_placed h.ids policy.vlans) ≡ true) = and_parts (is_unicast (number_of policy.address)) _ is in
-    (a.0, not-true (is_taken h p (number_of policy.address)) (and_parts (not (is_taken h p (number_of policy.address))) (is_placed h.ids policy.vlans) a.1).0)
-
-pub admit_within : (h : HostState) (p : ℕ) (policy : Policy) → p < 64 → is_admitted h p policy ≡ true → IsWithin h → IsWithin (host_under h p policy)
-admit_within h p policy small is w = put_within h p policy small (admitted h p policy is).0 (admitted h p policy is).1 w
-
 -- ---- a function that is not up makes no register
 
 down_alike : (s : Slot) (policy : Policy) → is_up s ≡ false → IsAlike s (under policy s)
@@ -164,9 +155,6 @@ unfolding host_under
 put_policies h p policy = others_policies h p (under policy (slot_at h p))
 
 -- ---- where nothing is changed
-
-pub same_itself : (s : Settings) (q : ℕ) → IsSameFor s s q
-same_itself s q = record { settings = refl; accepts = λ frame. refl; permitted = λ frame. refl }
 
 pub same_for_all : (s : Settings) → IsSameForAll s s
 same_for_all s = record { loopback = refl; filtering = refl; default_pool = refl; multicast = λ address. refl }

@@ -2,6 +2,8 @@ pub mod Admitted
 pub mod Alike
 pub mod Entries
 pub mod First
+pub mod Freed
+pub mod Holders
 pub mod Isolation
 pub mod Kept
 pub mod Masks

@@ -398,7 +398,7 @@ found_policy Absent message = refl
 found_policy (Admitted policy None) message = refl
 found_policy (Admitted policy (Some g)) message = refl
 
-policies_with : (h : HostState) (p : ℕ) (f : Slot) → policy_of (slot_at h p) ≡ policy_of f → KeepsPolicies h (with_slot h p f)
+pub policies_with : (h : HostState) (p : ℕ) (f : Slot) → policy_of (slot_at h p) ≡ policy_of f → KeepsPolicies h (with_slot h p f)
 policies_with h p f same q = go (at_place h p q f)
   where
     go : (slot_at (with_slot h p f) q ≡ slot_at h q) ⊎ ((q ≡ p) × (slot_at (with_slot h p f) q ≡ f)) → policy_of (slot_at h q) ≡ policy_of (slot_at (with_slot h p f) q)

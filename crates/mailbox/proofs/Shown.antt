@@ -25,7 +25,7 @@ use Rattle.mailbox.proofs.Policies.{number_is, address_held, second_held, alone}
 use Rattle.mailbox.proofs.Turns.{some_is, none_is}
 
 -- a test that some number of a range passes
-found : (t : ℕ → Bool) (a n : ℕ) → list_any t (range_with_len a n) ≡ true → (e : ℕ) × ((e < a + n) × (t e ≡ true))
+pub found : (t : ℕ → Bool) (a n : ℕ) → list_any t (range_with_len a n) ≡ true → (e : ℕ) × ((e < a + n) × (t e ≡ true))
 found t a zero is = absurd (true≢false (sym is))
 found t a (suc n) is = go (found t (a + 1) n) (t a) refl is
   where

@@ -104,6 +104,11 @@ unfoldable pub holds : Slot → ℕ → Bool
 holds Absent a = false
 holds (Admitted policy guest) a = number_of policy.address == a || (is_number (first_of guest) a || is_number (second_of guest) a)
 
+-- the address is its permanent one
+abbrev pub owns : Slot → ℕ → Bool
+owns Absent a = false
+owns (Admitted policy guest) a = number_of policy.address == a
+
 -- the function is up and in the VLAN at the place, by its port or since its driver joined
 abbrev pub has_joined : Slot → ℕ → Bool
 has_joined Absent k = false

@@ -11,8 +11,8 @@ use Rattle.mailbox.specs.declared.policy.Policy.{Policy}
 use Rattle.mailbox.specs.declared.writes.Write.{Write}
 use Rattle.mailbox.specs.Address.{is_number, low_part}
 use Rattle.mailbox.specs.Slot.{is_on, own_address, second_address, has_joined}
-use Rattle.mailbox.specs.State.{HostState, slot_at}
-use Rattle.mailbox.specs.Host.{host_after, host_without, host_dismissing, host_under}
+use Rattle.mailbox.specs.State.{HostState, slot_at, holder}
+use Rattle.mailbox.specs.Host.{host_after, host_without, host_dismissing, freed_by, host_under}
 use Rattle.mailbox.specs.Words.{valid, member_word, up_word, flags_word, port_word}
 
 -- a write of the row's word at a place
@@ -96,3 +96,12 @@ writes_dismissing h p = writes_of (host_dismissing h p) p (slot_at h p)
 -- the writes after the function of pool p came under a policy
 unfoldable pub writes_under : HostState → ℕ → Policy → List Write
 writes_under h p policy = writes_of (host_under h p policy) p (slot_at h p)
+
+-- the writes after that function, if there is one, has given the address up
+abbrev pub writes_freed_by : HostState → ℕ → Option ℕ → List Write
+writes_freed_by h a None = []
+writes_freed_by h a (Some q) = writes_of (freed_by h a (Some q)) q (slot_at h q)
+
+-- the writes after no other function than p holds the address
+unfoldable pub writes_freeing : HostState → ℕ → ℕ → List Write
+writes_freeing h p a = writes_freed_by h a (holder h p a)

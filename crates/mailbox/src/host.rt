@@ -2,7 +2,7 @@
 ghost use Rattle.std.specs.Prelude.{◌≡◌, ◌≢◌, ℕ, ◌+◌, ◌*◌, ◌<◌, ◌≤◌, ◌++◌, ◌&&◌, [], IfErr, IfSome, List, nat_le, is_some, length, replicate, is_ok, true, if◌then◌else◌};
 ghost use Rattle.mailbox.specs.declared.writes.Write.{Write};
 ghost use Rattle.mailbox.specs.State.{slot_at, with_slot, other_holds, is_taken};
-ghost use Rattle.mailbox.specs.Host.{outcome, host_after, host_without, is_admitted, host_admitting};
+ghost use Rattle.mailbox.specs.Host.{outcome, host_after, host_without};
 ghost use Rattle.mailbox.specs.Slot.{with_guest};
 ghost use Rattle.mailbox.specs.declared.slot.Slot.TheVariants.{Absent};
 ghost use Rattle.mailbox.specs.Isolation.{IsSameFor, IsSameForAll};
@@ -137,8 +137,8 @@ impl Host {
         taken
     }
 
-    // Whether function q is another than the pool's, and holds the address.
-    fn other_holds(&self, pool: PoolId, address: Address, q: usize) -> bool
+    /// Whether function q is another than the pool's, and holds the address.
+    pub(crate) fn other_holds(&self, pool: PoolId, address: Address, q: usize) -> bool
         requires { q < 64 }
         ensures { result ≡ other_holds self.now pool address q }
     {

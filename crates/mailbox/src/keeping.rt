@@ -1,7 +1,7 @@
 //! What a guest keeps under another policy.
 ghost use Rattle.std.specs.Prelude.{◌≡◌};
 ghost use Rattle.mailbox.specs.Policy.{is_granted};
-ghost use Rattle.mailbox.specs.Keeping.{kept_address, kept_second, places_to_join, kept_multicast, kept_guest, under};
+ghost use Rattle.mailbox.specs.Keeping.{kept_address, kept_second, places_to_join, kept_multicast, kept_guest, under, address_without, second_without, guest_without, without_address};
 
 use crate::address::Address;
 use crate::message::Multicast;
@@ -24,7 +24,57 @@ impl Slot {
     }
 }
 
+impl Slot {
+    /// The function after it gave an address up that its guest chose.
+    pub(crate) fn without_address(&self, address: Address) -> Slot
+        ensures { result ≡ without_address address self.now }
+    {
+        match *self {
+            Slot::Admitted {
+                policy,
+                guest: Some(guest),
+            } => {
+                let guest = Some(policy.guest_without(address, guest));
+                Slot::Admitted { policy, guest }
+            }
+            other => other,
+        }
+    }
+}
+
+// The second address, or none.
+fn second_without(address: Address, second: Option<Address>) -> Option<Address>
+    ensures { result ≡ second_without address second }
+{
+    match second {
+        None => None,
+        Some(used) => { if used.is(address) { None } else { second } }
+    }
+}
+
 impl Policy {
+    // The guest without an address that it chose.
+    fn guest_without(&self, address: Address, guest: Guest) -> Guest
+        ensures { result ≡ guest_without self.now address guest }
+    {
+        Guest {
+            address: self.address_without(address, guest.address),
+            second: second_without(address, guest.second),
+            ..guest
+        }
+    }
+
+    // The address in use, or the permanent one in its place.
+    fn address_without(&self, address: Address, used: Address) -> Address
+        ensures { result ≡ address_without self.now address used }
+    {
+        if used.is(address) {
+            Address::of(self.address)
+        } else {
+            used
+        }
+    }
+
     // What the guest keeps.
     fn kept_guest(&self, guest: Guest) -> Guest
         ensures { result ≡ kept_guest self.now guest }

@@ -1,7 +1,7 @@
 //! One function: its policy, and what its guest has asked for.
 ghost use Rattle.std.specs.Prelude.{◌≡◌, ◌<◌, ◌≤◌, IfSome, Some, length};
 ghost use Rattle.mailbox.specs.Address.{low_part, high_part};
-ghost use Rattle.mailbox.specs.Slot.{guest_of, is_up, has_link, is_on, has_port, only, begun, first_of, second_of, holds, joined_by, has_joined, with_guest, granted_to, has_queues, has_modes};
+ghost use Rattle.mailbox.specs.Slot.{guest_of, is_up, has_link, is_on, has_port, only, begun, first_of, second_of, holds, owns, joined_by, has_joined, with_guest, granted_to, has_queues, has_modes};
 
 use crate::address::{Address, high_part, is_number, low_part};
 use crate::message::{Api, Multicast};
@@ -193,6 +193,16 @@ impl Slot {
                     || is_number(self.address(), address)
                     || is_number(self.second(), address)
             }
+        }
+    }
+
+    /// Whether the address is its permanent one.
+    pub(crate) fn owns(&self, address: Address) -> bool
+        ensures { result ≡ owns self.now address }
+    {
+        match self {
+            Slot::Absent => false,
+            Slot::Admitted { policy, guest: _ } => policy.owns(address),
         }
     }
 

@@ -1,5 +1,5 @@
 -- The writes of one turn in a device: its settings are the host's after them, and another pool is left nothing.
-use Rattle.std.proofs.Common.{arith, ◌≡◌, ℕ, ◌+◌, ◌*◌, ◌%◌, ◌<◌, ◌≤◌, Bool, true, false, cond, not, ◌||◌, List, [], ◌∷◌, ◌++◌, length, Option, Some, None, refl, sym, ap, subst, ◌∙◌, true≢false, eqb, leb, ltb}
+use Rattle.std.proofs.Common.{arith, ◌≡◌, ℕ, ◌+◌, ◌*◌, ◌%◌, ◌<◌, ◌≤◌, Bool, true, false, cond, not, ◌||◌, List, [], ◌∷◌, ◌++◌, length, is_none, Option, Some, None, refl, sym, ap, subst, ◌∙◌, true≢false, eqb, leb, ltb}
 use Rattle.std.specs.Bool.{⊤}
 use Rattle.std.specs.List.{All, cons_option}
 use Rattle.std.proofs.lemmas.Bool.{eqb-false}
@@ -24,11 +24,11 @@ use Rattle.mailbox.specs.declared.slot.Slot.{Slot}
 use Rattle.mailbox.specs.declared.message.Message.{Message}
 use Rattle.mailbox.specs.declared.writes.Write.{Write}
 use Rattle.mailbox.specs.Slot.{with_guest}
-use Rattle.mailbox.specs.State.{HostState, slot_at, with_slot}
-use Rattle.mailbox.specs.Host.{slot_after, host_after, host_without}
+use Rattle.mailbox.specs.State.{HostState, slot_at, with_slot, holder}
+use Rattle.mailbox.specs.Host.{slot_after, host_after, host_without, host_dismissing, refusal, host_freed, host_under}
 use Rattle.mailbox.specs.Isolation.{IsSameFor}
 use Rattle.mailbox.specs.Words.{settings_of}
-use Rattle.mailbox.specs.Writes.{write_at, writes_of, after_writes, writes_after, writes_without}
+use Rattle.mailbox.specs.Writes.{write_at, writes_of, after_writes, writes_after, writes_without, writes_dismissing, writes_freed_by, writes_freeing, writes_under}
 use Rattle.mailbox.specs.declared.start.Register.{Register}
 use Rattle.mailbox.specs.declared.start.Register.TheVariants.{SourceChecks, LowAddress, HighAddress, AddressPools, MulticastTable, MulticastControl, VlanControl, VlanTable, VlanIds, VlanPools, PoolControl, PortVlans, Loopback, PoolFlags, ReceiveEnable, TransmitEnable}
 use Rattle.mailbox.specs.Start.{registers, row_of, word_of, register_writes, writes_to, first_writes}
@@ -37,7 +37,14 @@ use Rattle.mailbox.proofs.Others.{message_meanwhile, reset_meanwhile}
 use Rattle.mailbox.proofs.Turns.{after_message, after_reset}
 use Rattle.mailbox.proofs.Rows.{Each, each_append, each_where, Part, part_writes, writes_in, AllFit}
 use Rattle.mailbox.proofs.Settle.{parts, parts_fit, in_parts}
-use Rattle.mailbox_laws.specs.Turns.{Turn, Happens, Answers, Forgets, sets_registers, IsTurn, write_event, write_events, host_of, events_in, host_at_end, events_of, kept_in, kept_of_turns}
+use Rattle.mailbox.specs.declared.policy.Policy.{Policy}
+use Rattle.mailbox.specs.declared.slot.Slot.TheVariants.{Absent}
+use Rattle.mailbox.specs.Address.{number_of, is_number}
+use Rattle.mailbox.specs.Keeping.{under, without_address}
+use Rattle.mailbox.proofs.Freed.{holder_below}
+use Rattle.mailbox.proofs.Policies.{itself}
+use Rattle.mailbox_laws.proofs.Admissions.{after_dismissal, dismissal_meanwhile, few_freed, after_policy, policy_meanwhile, policy_ids}
+use Rattle.mailbox_laws.specs.Turns.{Turn, Happens, Answers, Forgets, Admits, Dismisses, writes_taken, writes_admitting, sets_registers, IsTurn, write_event, write_events, host_of, events_in, host_at_end, events_of, kept_in, kept_of_turns}
 
 -- ---- the device takes each write
 
@@ -112,6 +119,36 @@ reset_taken : (h : HostState) (p : ℕ) → p < 64 → length h.ids ≤ 64 → E
 unfolding writes_without host_without
 reset_taken h p small few = pool_taken (with_slot h p (with_guest (slot_at h p) None)) p (slot_at h p) small few
 
+dismissal_taken : (h : HostState) (p : ℕ) → p < 64 → length h.ids ≤ 64 → Each IsTaken (writes_dismissing h p)
+unfolding writes_dismissing host_dismissing
+dismissal_taken h p small few = pool_taken (with_slot h p Absent) p (slot_at h p) small few
+
+freed_taken : (h : HostState) (p a : ℕ) (o : Option ℕ) → holder h p a ≡ o → length h.ids ≤ 64 → Each IsTaken (writes_freed_by h a o)
+freed_taken h p a None is few = tt
+freed_taken h p a (Some q) is few = pool_taken (with_slot h q (without_address a (slot_at h q))) q (slot_at h q) (holder_below h p a q is) few
+
+freeing_taken : (h : HostState) (p a : ℕ) → length h.ids ≤ 64 → Each IsTaken (writes_freeing h p a)
+unfolding writes_freeing
+freeing_taken h p a few = freed_taken h p a (holder h p a) refl few
+
+under_taken : (k : HostState) (p : ℕ) (policy : Policy) → p < 64 → length k.ids ≤ 64 → Each IsTaken (writes_under k p policy)
+unfolding writes_under host_under
+under_taken k p policy small few = pool_taken (with_slot k p (under policy (slot_at k p))) p (slot_at k p) small few
+
+few_in : (h : HostState) (p a : ℕ) → length h.ids ≤ 64 → length (host_freed h p a).ids ≤ 64
+unfolding host_freed
+few_in h p a few = few_freed h a (holder h p a) few
+
+policy_taken : (h : HostState) (p : ℕ) (policy : Policy) → p < 64 → length h.ids ≤ 64 → Each IsTaken (writes_admitting h p policy)
+policy_taken h p policy small few = go (is_none (refusal h p policy))
+  where
+    go : (b : Bool) → Each IsTaken (cond b (writes_taken h p policy) [])
+    go true =
+        each_append IsTaken (writes_freeing h p (number_of policy.address)) (writes_under (host_freed h p (number_of policy.address)) p policy)
+        (freeing_taken h p (number_of policy.address) few)
+        (under_taken (host_freed h p (number_of policy.address)) p policy small (few_in h p (number_of policy.address) few))
+    go false = tt
+
 registers_taken : (h : HostState) (rs : List Register) → Each IsTaken (writes_to h rs)
 registers_taken h [] = tt
 registers_taken h (r ∷ rs) =
@@ -128,7 +165,7 @@ first_taken h = registers_taken h registers
 one_write : (w : World) (v : Write) → IsTaken v → (step w (write_event v)).world.settings ≡ settings_after w.settings v.offset v.value
 one_write w v is = ap (λ b. (cond b (refused w BadOffset) (replied (pf_written w v.offset v.value) Done)).world.settings) is
 
-pub writes_done : (w : World) (ws : List Write) → Each IsTaken ws → (world_after w (write_events ws)).settings ≡ after_writes w.settings ws
+writes_done : (w : World) (ws : List Write) → Each IsTaken ws → (world_after w (write_events ws)).settings ≡ after_writes w.settings ws
 writes_done w [] each = refl
 writes_done w (v ∷ ws) each = writes_done (step w (write_event v)).world ws each.1 ∙ ap (λ s. after_writes s ws) (one_write w v each.0)
 
@@ -191,11 +228,13 @@ event_stays w (Wire frame) none = go (ltb w.limit (length frame))
 
 -- ---- turns
 
-pub ids_stay : (h : HostState) (t : Turn) → (host_of h t).ids ≡ h.ids
-unfolding host_after host_without
+ids_stay : (h : HostState) (t : Turn) → (host_of h t).ids ≡ h.ids
+unfolding host_after host_without host_dismissing
 ids_stay h (Happens e) = refl
 ids_stay h (Answers p message) = refl
 ids_stay h (Forgets p) = refl
+ids_stay h (Admits p policy) = policy_ids h p policy
+ids_stay h (Dismisses p) = refl
 
 turn_settles : (h : HostState) (w : World) (t : Turn) → w.settings ≡ settings_of h → length h.ids ≤ 64 → IsTurn t → (world_after w (events_in h t)).settings ≡ settings_of (host_of h t)
 turn_settles h w (Happens e) is few none = event_stays w e none ∙ is
@@ -207,9 +246,17 @@ turn_settles h w (Forgets p) is few small =
     writes_done w (writes_without h p) (reset_taken h p small few)
     ∙ ap (λ s. after_writes s (writes_without h p)) is
     ∙ after_reset h p small few
+turn_settles h w (Admits p policy) is few small =
+    writes_done w (writes_admitting h p policy) (policy_taken h p policy small few)
+    ∙ ap (λ s. after_writes s (writes_admitting h p policy)) is
+    ∙ after_policy h p policy small few
+turn_settles h w (Dismisses p) is few small =
+    writes_done w (writes_dismissing h p) (dismissal_taken h p small few)
+    ∙ ap (λ s. after_writes s (writes_dismissing h p)) is
+    ∙ after_dismissal h p small few
 
 -- the writes of another pool leave nothing
-pub others_quiet : (q : ℕ) (h : HostState) (w : World) (ws : List Write) → w.settings ≡ settings_of h → Each IsTaken ws → ((done left : List Write) → done ++ left ≡ ws → IsSameFor (settings_of h) (after_writes (settings_of h) done) q) → keep q w (write_events ws) ≡ []
+others_quiet : (q : ℕ) (h : HostState) (w : World) (ws : List Write) → w.settings ≡ settings_of h → Each IsTaken ws → ((done left : List Write) → done ++ left ≡ ws → IsSameFor (settings_of h) (after_writes (settings_of h) done) q) → keep q w (write_events ws) ≡ []
 others_quiet q h w ws is each same = quiet q w ws each (λ done left at. ap (λ s. own (after_writes s done) q) is ∙ sym (same done left at).settings ∙ sym (ap (λ s. own s q) is))
 
 turn_keeps : (q : ℕ) (h : HostState) (w : World) (t : Turn) → q < 64 → w.settings ≡ settings_of h → length h.ids ≤ 64 → IsTurn t → keep q w (events_in h t) ≡ kept_in q h w t
@@ -226,6 +273,20 @@ turn_keeps q h w (Forgets p) q_small is few small = go (eqb p q) refl
     go true same = refl
     go false differs = others_quiet q h w (writes_without h p) is (reset_taken h p small few)
         (λ done left at. reset_meanwhile h p q done left small few q_small (λ same. eqb-false p q differs (sym same)) at)
+turn_keeps q h w (Admits p policy) q_small is few small = go (eqb p q) (is_number (holder h p (number_of policy.address)) q) refl refl
+  where
+    go : (b c : Bool) → eqb p q ≡ b → is_number (holder h p (number_of policy.address)) q ≡ c → keep q w (write_events (writes_admitting h p policy)) ≡ cond (b || c) (keep q w (write_events (writes_admitting h p policy))) []
+    go true c same lost = refl
+    go false true same lost = refl
+    go false false differs kept = others_quiet q h w (writes_admitting h p policy) is (policy_taken h p policy small few)
+        (λ done left at. policy_meanwhile h p q policy done left small few q_small (λ same. eqb-false p q differs (sym same))
+        (λ lost. true≢false (sym (ap (λ o. is_number o q) lost ∙ itself q) ∙ kept)) at)
+turn_keeps q h w (Dismisses p) q_small is few small = go (eqb p q) refl
+  where
+    go : (b : Bool) → eqb p q ≡ b → keep q w (write_events (writes_dismissing h p)) ≡ cond b (keep q w (write_events (writes_dismissing h p))) []
+    go true same = refl
+    go false differs = others_quiet q h w (writes_dismissing h p) is (dismissal_taken h p small few)
+        (λ done left at. dismissal_meanwhile h p q done left small few q_small (λ same. eqb-false p q differs (sym same)) at)
 
 -- ---- runs
 

@@ -1,1 +1,2 @@
+mod Admissions
 pub mod Kept

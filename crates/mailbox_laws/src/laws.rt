@@ -23,7 +23,8 @@ pub fn settings_stay_the_hosts()
 {}
 
 /// What is kept for a pool in such a run is its own events, the frames that are offered to it, and what the answers to its
-/// own messages and its own resets leave: another function's messages and resets leave nothing for it.
+/// own messages, its own resets and its own policies leave: another function's messages and resets leave nothing for it, and
+/// another's policy nothing, unless it takes an address from it that it chose.
 pub fn messages_stay_ones_own()
     ensures { (q : ℕ) (h : HostState) (w : World) (turns : List Turn) → q < 64
         → w.settings ≡ settings_of h → length h.ids ≤ 64 → All IsTurn turns →

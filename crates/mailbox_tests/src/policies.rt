@@ -1,9 +1,9 @@
 //! Policies that change and go while their functions are up.
 use crate::driver::{ask, host, policy};
-use mailbox::{Host, Mailbox, Policy, VlanPolicy, Write};
+use mailbox::{Host, Mailbox, NotAdmitted, Policy, VlanPolicy, Write};
 use script_support::registers::{PFVFRE, PFVFTE, RAH, RAL, VALID, VFMBMEM, VLVFB, VMOLR, VMVIR};
 use std::test::Fail;
-use wire_frame::PoolId;
+use wire_frame::{Mac, PoolId};
 
 /// Pool 7, whose driver chose the address 02:82:59:90:00:30 and a second one that ends in 40, and joined VLAN 100.
 fn busy(pool: PoolId, mailbox: &mut Mailbox) -> Result<Host, Fail> {
@@ -38,7 +38,7 @@ fn changes_while_up(rt: HostRuntime) -> Result<(), Fail> {
         vlans: VlanPolicy::Joins(1),
         ..policy(0x10)
     };
-    let writes = host.admit(pool, &fewer)?;
+    let writes = host.admit(pool, &fewer)?.writes;
     let wanted = [
         write(RAH + 8 * 7, 0),
         write(RAH + 8 * 7, VALID | 0x1000),
@@ -51,7 +51,7 @@ fn changes_while_up(rt: HostRuntime) -> Result<(), Fail> {
         vlans: VlanPolicy::Port(1),
         ..fewer
     };
-    let writes = host.admit(pool, &port)?;
+    let writes = host.admit(pool, &port)?.writes;
     let wanted = [
         write(VMOLR + 4 * 7, 0x0800_0000),
         write(VMVIR + 4 * 7, 0x4000_0064),
@@ -63,7 +63,7 @@ fn changes_while_up(rt: HostRuntime) -> Result<(), Fail> {
         link_up: false,
         ..port
     };
-    let writes = host.admit(pool, &down)?;
+    let writes = host.admit(pool, &down)?.writes;
     let wanted = [write(PFVFRE, 0), write(PFVFTE, 0)];
     assert!(rt; writes.as_slice() == wanted.as_slice());
     Ok(())
@@ -95,6 +95,68 @@ fn dismisses(rt: HostRuntime) -> Result<(), Fail> {
     assert!(rt; host.admit(other, &policy(0x10)).is_ok());
     let writes = host.dismiss(pool);
     assert_eq!(rt; writes.as_slice().len(), 0);
+    Ok(())
+}
+
+/// The administrator gives pool 8 the address that the driver of pool 7 uses, and then the one that is its second: pool 7 loses
+/// them, uses its permanent one again, and is named. Pool 8 is not up, so that nothing is written for it.
+#[test]
+fn takes_an_address_that_was_chosen(rt: HostRuntime) -> Result<(), Fail> {
+    let pool = PoolId::new(7).ok_or("no such pool")?;
+    let other = PoolId::new(8).ok_or("no such pool")?;
+    let mut mailbox = Mailbox::new();
+    let mut host = busy(pool, &mut mailbox)?;
+    let came = host.admit(other, &policy(0x30))?;
+    assert_eq!(rt; came.loser, Some(pool));
+    let wanted = [write(RAH + 8 * 7, 0), write(RAH + 8 * 7, VALID | 0x1000)];
+    assert!(rt; came.lost.as_slice() == wanted.as_slice());
+    assert_eq!(rt; came.writes.as_slice().len(), 0);
+    let came = host.admit(other, &policy(0x40))?;
+    assert_eq!(rt; came.loser, Some(pool));
+    let wanted = [write(RAH + 8 * 71, 0), write(RAL + 8 * 71, 0)];
+    assert!(rt; came.lost.as_slice() == wanted.as_slice());
+    let came = host.admit(other, &policy(0x50))?;
+    assert_eq!(rt; came.loser, None);
+    Ok(())
+}
+
+/// Why a policy is not taken: a group's address, none at all, another function's permanent one, and a port VLAN at a fourth place
+/// where there are three.
+#[test]
+fn not_admitted(rt: HostRuntime) -> Result<(), Fail> {
+    let pool = PoolId::new(7).ok_or("no such pool")?;
+    let mut mailbox = Mailbox::new();
+    let mut host = busy(pool, &mut mailbox)?;
+    let other = PoolId::new(8).ok_or("no such pool")?;
+    for (wrong, reason) in [
+        (
+            Policy {
+                address: Mac([1, 0, 0x5E, 0, 0, 1]),
+                ..policy(0x20)
+            },
+            NotAdmitted::NotUnicast,
+        ),
+        (
+            Policy {
+                address: Mac([0; 6]),
+                ..policy(0x20)
+            },
+            NotAdmitted::NotUnicast,
+        ),
+        (policy(0x10), NotAdmitted::AddressOwned),
+        (
+            Policy {
+                vlans: VlanPolicy::Port(3),
+                ..policy(0x20)
+            },
+            NotAdmitted::NoSuchPlace,
+        ),
+    ] {
+        match host.admit(other, &wrong) {
+            Err(why) => assert_eq!(rt; why, reason),
+            Ok(_) => return Err("it was taken".into()),
+        }
+    }
     Ok(())
 }
 

@@ -1,6 +1,6 @@
 -- The interrupt messages that the 64 pools got, for each pool a set of its vectors 0 to 2.
 -- A set is a number below 8, whose bit v is 1 where vector v is in it.
-use Rattle.std.specs.Prelude.{ℕ, ◌+◌, ◌*◌, List, map, replicate, slice_index}
+use Rattle.std.specs.Prelude.{ℕ, ◌+◌, ◌*◌, max, List, map, replicate, slice_index}
 use Rattle.std.specs.Int.{bit_at}
 use Rattle.std.specs.List.{range_with_len}
 
@@ -19,3 +19,11 @@ masks_of words = masks (slice_index words 0) (slice_index words 1) (slice_index 
 -- no pool got any
 unfoldable pub no_messages : List ℕ
 no_messages = replicate 64 0
+
+-- the vectors that are in one set or in the other
+abbrev pub either : ℕ → ℕ → ℕ
+either a b = max (bit_at a 0) (bit_at b 0) + 2 * max (bit_at a 1) (bit_at b 1) + 4 * max (bit_at a 2) (bit_at b 2)
+
+-- the messages of two, pool by pool
+unfoldable pub both : List ℕ → List ℕ → List ℕ
+both xs ys = map (λ p. either (slice_index xs p) (slice_index ys p)) (range_with_len 0 64)

@@ -5,7 +5,7 @@ ghost use Rattle.std.specs.Cmp.Lexicographic.{pointwise};
 ghost use Rattle.std.specs.Cmp.{partial_equiv_from_equiv};
 ghost use Rattle.std.proofs.lemmas.Cmp.{nat_list_eq_equiv};
 ghost use Rattle.wire_frame.specs.Bits.{has_bit};
-ghost use Rattle.irq_causes.specs.Messages.{masks_of, no_messages};
+ghost use Rattle.irq_causes.specs.Messages.{both, masks_of, no_messages};
 
 use crate::Vectors;
 use std::marker::Model;
@@ -137,6 +137,16 @@ impl Messages {
             vector_1,
             vector_2,
         }
+    }
+
+    /// Adds other messages: each pool has got the vectors of both.
+    #[inline]
+    pub fn unite(&mut self, more: &Messages)
+        ensures { self.new ≡ both self.old more.now }
+    {
+        let old = self.words();
+        let new = more.words();
+        *self = Messages::from_words([old[0] | new[0], old[1] | new[1], old[2] | new[2]]);
     }
 
     /// The set of each pool as a number, in rising order of the pools.

@@ -1,7 +1,7 @@
 -- A burst with one service more.
 use Rattle.std.proofs.Common.{◌≡◌, ℕ, zero, suc, ◌+◌, Bool, true, List, [], ◌∷◌, ◌++◌, Option, Some, None, length, refl, sym, ap, subst, ◌∙◌, add-one, arith}
 use Rattle.std.specs.List.{cons_option}
-use Rattle.irq_causes.specs.Messages.{no_messages}
+use Rattle.irq_causes.specs.Messages.{both, no_messages}
 use Rattle.vf_unit.specs.declared.registers.Queue.{Queue}
 use Rattle.device.specs.Events.{Event}
 use Rattle.device.specs.declared.event.Event.TheVariants.{Serve}
@@ -10,7 +10,7 @@ use Rattle.device.specs.Accesses.{accesses_by}
 use Rattle.device.specs.Live.{TracedWorld, told_world, AreMet, AreListed}
 use Rattle.device.specs.Outcome.{left_by}
 use Rattle.device.specs.World.{World, step}
-use Rattle.live_run.specs.Bursts.{services, both, united, live_left, goes_on, may_have_more}
+use Rattle.live_run.specs.Bursts.{services, united, live_left, goes_on, may_have_more}
 use Rattle.live_run.specs.Frames.{Room, with_left, with_frame, with_frames}
 use Rattle.live_run.specs.Live.{Noted, live_after, last_of}
 use Rattle.live_run.proofs.More.{SoFar, none_yet, one_more, one_more_noted}

@@ -4,6 +4,5 @@ mod FrameLemmas
 mod More
 mod Plain
 mod Runs
-mod Unite
 mod WithoutGroup
 mod Writes

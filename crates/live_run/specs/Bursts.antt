@@ -1,8 +1,7 @@
 -- Services of a queue one after another, in one call.
-use Rattle.std.specs.Prelude.{◌≡◌, ℕ, ◌+◌, ◌*◌, max, Bool, true, false, List, [], ◌∷◌, map, replicate, slice_index}
-use Rattle.std.specs.Int.{bit_at}
-use Rattle.std.specs.List.{cons_option, range_with_len}
-use Rattle.irq_causes.specs.Messages.{no_messages}
+use Rattle.std.specs.Prelude.{◌≡◌, ℕ, Bool, true, false, List, [], ◌∷◌, replicate}
+use Rattle.std.specs.List.{cons_option}
+use Rattle.irq_causes.specs.Messages.{both, no_messages}
 use Rattle.vf_unit.specs.declared.registers.Queue.{Queue}
 use Rattle.device.specs.Events.{Event}
 use Rattle.device.specs.declared.event.Event.TheVariants.{Serve}
@@ -19,14 +18,6 @@ use Rattle.live_run.specs.declared.bursts.Burst.{Burst}
 -- so many services of a queue
 abbrev pub services : ℕ → ℕ → Queue → List Event
 services n p q = replicate n (Serve p q)
-
--- the vectors that are in one set or in the other
-abbrev pub either : ℕ → ℕ → ℕ
-either a b = max (bit_at a 0) (bit_at b 0) + 2 * max (bit_at a 1) (bit_at b 1) + 4 * max (bit_at a 2) (bit_at b 2)
-
--- the messages of two, pool by pool
-unfoldable pub both : List ℕ → List ℕ → List ℕ
-both xs ys = map (λ p. either (slice_index xs p) (slice_index ys p)) (range_with_len 0 64)
 
 -- the messages of all answers, with those that were there before
 unfoldable pub united : List ℕ → List Answer → List ℕ

@@ -1,12 +1,12 @@
 //! Bursts: services of a queue one after another, in one call.
 ghost use Rattle.std.specs.Prelude.{◌≡◌, ◌≤◌, ◌⊎◌, true, false};
-ghost use Rattle.irq_causes.specs.Messages.{no_messages};
+ghost use Rattle.irq_causes.specs.Messages.{both, no_messages};
 ghost use Rattle.device.specs.declared.event.Event.{Event};
 ghost use Rattle.device.specs.Accesses.{accesses_by};
 ghost use Rattle.device.specs.Live.{told_world, AreListed, AreMet};
 ghost use Rattle.device.specs.Outcome.{left_by};
 ghost use Rattle.device.specs.World.{step};
-ghost use Rattle.live_run.specs.Bursts.{IsBurst, both, goes_on};
+ghost use Rattle.live_run.specs.Bursts.{IsBurst, goes_on};
 ghost use Rattle.live_run.specs.Frames.{has_room, with_left};
 
 use crate::frames::Frames;
@@ -82,20 +82,11 @@ fn serve_one<D: Dma<K>, K>(
         (step (told_world device.old.accesses device.new.accesses device.old.world) (Event.Serve pool queue)).answer.reply }
 {
     let served = device.serve_live(pool, queue, frame);
-    unite(messages, &served.messages);
+    messages.unite(&served.messages);
     if let Some(frame) = served.left {
         frames.push(frame);
     }
     may_go_on(served.outcome)
-}
-
-// Adds messages to messages.
-fn unite(messages: &mut Messages, more: &Messages)
-    ensures { messages.new ≡ both messages.old more.now }
-{
-    let old = messages.words();
-    let new = more.words();
-    *messages = Messages::from_words([old[0] | new[0], old[1] | new[1], old[2] | new[2]]);
 }
 
 // Whether the queue may have more after such a service.

@@ -6,9 +6,8 @@ use Rattle.std.specs.List.{range_with_len}
 use Rattle.std.proofs.lemmas.Nat.Bits.{bit_at_or}
 use Rattle.std.proofs.lemmas.List.{same_lists}
 use Rattle.std.proofs.lemmas.List.FromFn.{get_or-map-range_with_len, length-map-range_with_len}
-use Rattle.irq_causes.specs.Messages.{mask_at, masks}
+use Rattle.irq_causes.specs.Messages.{both, either, mask_at, masks}
 use Rattle.irq_causes.specs.Words.{mask_of_pool, bit_zero, bit_one, bit_two}
-use Rattle.live_run.specs.Bursts.{either, both}
 
 at_pool : (a b c x y z p : ℕ) → p < 64 → mask_at (bit_or a x) (bit_or b y) (bit_or c z) p ≡ either (slice_index (masks a b c) p) (slice_index (masks x y z) p)
 at_pool a b c x y z p below =

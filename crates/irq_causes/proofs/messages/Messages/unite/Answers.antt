@@ -1,8 +1,8 @@
 -- The words of both, bit by bit.
 use Rattle.std.proofs.Common.{get_or, ◌∙◌}
-use Rattle.live_run.specs.Bursts.{both}
-use Rattle.live_run.proofs.Unite.{of_words}
-use Rattle.live_run.proofs.bursts.unite.Goals as goal
+use Rattle.irq_causes.specs.Messages.{both}
+use Rattle.irq_causes.proofs.Unite.{of_words}
+use Rattle.irq_causes.proofs.messages.Messages.unite.Goals as goal
 
 pub returns : goal.returns
 returns c =

@@ -99,6 +99,37 @@ fn unmapped_bytes_are_the_lenders_again(rt: HostRuntime) -> Result<(), Fail> {
     Ok(())
 }
 
+#[test]
+fn regions_are_told_in_the_order_of_their_addresses(rt: HostRuntime) -> Result<(), Fail> {
+    let (mut first, mut second) = ([0; 8], [0; 3]);
+    let mut memory = LiveMem::new(rt.alloc(), 4096)?;
+    let none = memory.region_from(0);
+    memory.map(0x200, &mut second, true)?;
+    memory.map(0x100, &mut first, false)?;
+    let told = [
+        none,
+        memory.region_from(0x100),
+        memory.region_from(0x101),
+        memory.region_from(0x201),
+    ];
+    assert_equal(&rt, told, [None, Some((0x100, 8)), Some((0x200, 3)), None]);
+    Ok(())
+}
+
+// A memory as its next guest has it: nothing is mapped, and no access is told of. Its room is as before.
+#[test]
+fn nothing_of_a_memory_is_left_in_a_renewed_one(rt: HostRuntime) -> Result<(), Fail> {
+    let (mut first, mut second) = ([7; 8], [0; 8]);
+    let mut memory = LiveMem::new(rt.alloc(), 4096)?;
+    memory.map(0x100, &mut first, false)?;
+    let mut memory = memory.renewed();
+    assert_equal(&rt, memory.regions(), 0);
+    assert_equal(&rt, memory.extent(), 4096);
+    let mapped = memory.map(0x104, &mut second, false).is_ok();
+    assert_equal(&rt, mapped, true);
+    Ok(())
+}
+
 // The regions come in no order, each third goes again, and each is found by its addresses, whichever was accessed before. Behind each
 // is a hole.
 #[test]

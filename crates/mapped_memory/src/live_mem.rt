@@ -6,11 +6,13 @@ ghost use Rattle.live_memory.specs.Clearing.{clearing};
 ghost use Rattle.live_memory.specs.Trace.{Read, Wrote};
 ghost use Rattle.mapped_memory.specs.Regions.{bytes_at, is_space, written, cleared};
 ghost use Rattle.mapped_memory.specs.Whole.{bytes_whole};
-ghost use Rattle.mapped_memory.specs.Mapping.{AreMapped, refusal, with_part, bytes_from, parts_without};
+ghost use Rattle.mapped_memory.specs.Mapping.{AreMapped, next_from, refusal, with_part, bytes_from, parts_without};
 
 use crate::map_error::{MapError, Refused};
 use crate::region::Region;
-use crate::scans::{clear_all, home_of, is_any_met, place_behind, place_of, read_all, write_all};
+use crate::scans::{
+    clear_all, home_of, is_any_met, next_from, place_behind, place_of, read_all, write_all,
+};
 use guest_memory::is_memory_size;
 use live_memory::{Dma, Shared, Step, Trace};
 use std::alloc::Global;
@@ -90,6 +92,25 @@ impl<'a> LiveMem<'a> {
         LiveMem::over(alloc, size)
     }
 
+    /// The memory as it was made: no region is mapped, and no access was made. It keeps its room, so that the next guest's memory takes none.
+    #[tactic(auto, unfolding(crate::specs::Mapping::AreMapped, crate::specs::Known::with_accesses))]
+    pub fn renewed(self) -> LiveMem<'a>
+        ensures { result ≡ record { parts = []; seen = replicate (length self.entry.seen) 0; accesses = [] } }
+    {
+        let LiveMem {
+            size,
+            mut regions,
+            ..
+        } = self;
+        regions.clear();
+        LiveMem {
+            size,
+            regions,
+            last: 0,
+            accesses: Step::Begin.trace(),
+        }
+    }
+
     // A memory of so many bytes.
     #[tactic(auto, unfolding(crate::specs::Mapping::AreMapped, crate::specs::Known::with_accesses))]
     fn over(alloc: Global, size: u64) -> Result<LiveMem<'a>, Fault>
@@ -113,6 +134,14 @@ impl<'a> LiveMem<'a> {
         ensures mapped { AreMapped (length self.now.seen) self.now.parts }
     {
         self.regions.len()
+    }
+
+    /// The first region that begins at address `at` or behind it: where it begins, and how many bytes it has. So a host finds what is
+    /// still mapped, region by region.
+    pub fn region_from(&self, at: u64) -> Option<(u64, usize)>
+        ensures { result ≡ next_from at self.now.parts }
+    {
+        next_from(&self.regions, at)
     }
 
     /// Whether `count` bytes can be mapped from address `at` on, or the first reason why they can't.

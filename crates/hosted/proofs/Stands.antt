@@ -1,7 +1,7 @@
 -- What stands between two calls stands after turns of one function.
-use Rattle.std.proofs.Common.{◌≡◌, ℕ, ◌<◌, ◌≤◌, Bool, true, false, List, [], ◌∷◌, ◌++◌, ◌≢◌, length, get_or, refl, sym, ap, ◌∙◌, subst, arith}
+use Rattle.std.proofs.Common.{◌≡◌, ℕ, zero, suc, ◌<◌, ◌≤◌, Bool, true, false, List, [], ◌∷◌, ◌++◌, ◌≢◌, length, get_or, refl, sym, ap, ◌∙◌, subst, arith}
 use Rattle.std.specs.List.{All}
-use Rattle.std.specs.Prelude.{◌&&◌, is_none, OnErr, Result, Ok, Err, slice_set, if◌then◌else◌}
+use Rattle.std.specs.Prelude.{◌&&◌, Option, None, Some, is_none, OnErr, Result, Ok, Err, slice_set, if◌then◌else◌}
 use Rattle.std.proofs.lemmas.Bool.Decides.{nat_tests}
 use Rattle.wire_frame.specs.declared.fault.Fault.{Fault}
 use Rattle.wire_frame.specs.declared.fault.Fault.TheVariants.{BadMake}
@@ -19,19 +19,27 @@ use Rattle.device.specs.Live.{TracedWorld, told_world}
 use Rattle.live_memory.specs.Trace.{Access}
 use Rattle.mailbox.specs.declared.policy.Policy.{Policy}
 use Rattle.mailbox.specs.Address.{number_of}
-use Rattle.mailbox.specs.Host.{host_admitting, host_dismissing, host_freed, host_under, refusal}
+use Rattle.mailbox.specs.Host.{freed_by, host_admitting, host_after, host_dismissing, host_freed, host_under, refusal, slot_after}
 use Rattle.mailbox.specs.Writes.{writes_dismissing, writes_freeing, writes_under}
 use Rattle.mailbox.specs.declared.writes.Write.{Write}
-use Rattle.mailbox.specs.State.{HostState, slot_at}
+use Rattle.mailbox.specs.Keeping.{under, without_address}
+use Rattle.mailbox.specs.Slot.{with_guest}
+use Rattle.mailbox.specs.State.{HostState, holder, slot_at}
+use Rattle.mailbox.specs.declared.slot.Slot.TheVariants.{Absent}
 use Rattle.mailbox.specs.Within.{IsWithin}
 use Rattle.mailbox.specs.Words.{settings_of}
 use Rattle.mailbox_laws.specs.Turns.{IsTurn, Turn, sets_registers, events_of, write_event, write_events, writes_admitting, writes_taken, host_at_end, host_of}
 use Rattle.mailbox_laws.proofs.Kept.{event_stays, few_still, first_run, run_settles}
 use Rattle.vf_unit.specs.Unit.{Closed, Function}
+use Rattle.vf_unit.specs.declared.registers.Queue.{Queue}
+use Rattle.live_run.specs.Bursts.{IsBurst, services}
+use Rattle.live_run.specs.declared.bursts.Burst.{Burst}
+use Rattle.live_run.specs.Frames.{Room}
+use Rattle.live_run.specs.Live.{Noted, live_after}
 use Rattle.mailbox.specs.Start.{first_writes}
 use Rattle.mailbox.specs.Host.{host_without}
 use Rattle.mailbox.specs.Mailbox.{MailboxState, after_reset, blank}
-use Rattle.mailbox_laws.specs.Turns.Turn.{Admits, Dismisses, Forgets, Happens}
+use Rattle.mailbox_laws.specs.Turns.Turn.{Admits, Answers, Dismisses, Forgets, Happens}
 use Rattle.pool_filter.specs.Own.{own}
 use Rattle.hosted.specs.Hosted.{HaveTaken, HostedState, IsBegun, IsHosted, LeavesOthers, LeavesUnconcerned, mailbox_at, with_world}
 use Rattle.hosted.specs.Turns.{mail_turns, mailed, reset_turns, takes, write_turns}
@@ -45,6 +53,37 @@ few_ids : (h : HostState) (ts : List Turn) → length h.ids ≤ 64 → length (h
 few_ids h [] few = few
 few_ids h (t ∷ ts) few = few_ids (host_of h t) ts (few_still h t few)
 
+-- how many functions the host has room for
+abbrev many : HostState → ℕ
+many h = length h.slots
+
+many_freed : (h : HostState) (a : ℕ) (q : Option ℕ) → many (freed_by h a q) ≡ many h
+many_freed h a None = refl
+many_freed h a (Some q) = length-set h.slots q (without_address a (slot_at h q))
+
+many_admitted : (h : HostState) (p : ℕ) (policy : Policy) → many (host_admitting h p policy) ≡ many h
+unfolding host_admitting host_under host_freed
+many_admitted h p policy = go (is_none (refusal h p policy))
+  where
+    a : ℕ
+    a = number_of policy.address
+
+    go : (b : Bool) → many (if b then host_under (host_freed h p a) p policy else h) ≡ many h
+    go true = length-set (host_freed h p a).slots p (under policy (slot_at (host_freed h p a) p)) ∙ many_freed h a (holder h p a)
+    go false = refl
+
+many_after : (h : HostState) (t : Turn) → many (host_of h t) ≡ many h
+unfolding host_after host_without host_dismissing
+many_after h (Happens e) = refl
+many_after h (Answers p message) = length-set h.slots p (slot_after h p message)
+many_after h (Forgets p) = length-set h.slots p (with_guest (slot_at h p) None)
+many_after h (Admits p policy) = many_admitted h p policy
+many_after h (Dismisses p) = length-set h.slots p Absent
+
+many_slots : (h : HostState) (ts : List Turn) → many (host_at_end h ts) ≡ many h
+many_slots h [] = refl
+many_slots h (t ∷ ts) = many_slots (host_of h t) ts ∙ many_after h t
+
 stands_turns : (old new : HostedState) (ts : List Turn) → IsHosted old → All IsTurn ts → HaveTaken ts old new → IsWithin new.host → length new.mailboxes ≡ length old.mailboxes → IsHosted new
 stands_turns old new ts is all taken within boxes = record {
   settings =
@@ -52,6 +91,7 @@ stands_turns old new ts is all taken within boxes = record {
       ∙ ap settings_of (sym taken.host);
   within = within;
   ids = subst (λ (h : HostState). length h.ids ≤ 64) (sym taken.host) (few_ids old.host ts is.ids);
+  slots = ap (λ (h : HostState). length h.slots) taken.host ∙ many_slots old.host ts ∙ is.slots;
   functions = subst (λ (n : ℕ). n ≤ 64) (sym (ap (λ (w : World). length w.functions) taken.world ∙ as_many old.device.world (events_of old.host ts))) is.functions;
   many = boxes ∙ is.many;
 }
@@ -66,17 +106,19 @@ stays_live old new before now e is none world host boxes = record {
   settings = ap (λ (w : World). w.settings) world ∙ event_stays (told_world before now old.device.world) e none ∙ is.settings ∙ ap settings_of (sym host);
   within = subst IsWithin (sym host) is.within;
   ids = subst (λ (h : HostState). length h.ids ≤ 64) (sym host) is.ids;
+  slots = ap (λ (h : HostState). length h.slots) host ∙ is.slots;
   functions = subst (λ (n : ℕ). n ≤ 64)
       (sym (ap (λ (w : World). length w.functions) world ∙ (step_shape (told_world before now old.device.world) e).functions ∙ length_told before now old.device.world.functions)) is.functions;
   many = ap length boxes ∙ is.many;
 }
 
 -- as it is made
-pub begins : (h : HostedState) (host : HostState) (sizes : List ℕ) → IsBegun host sizes h → IsWithin host → length host.ids ≤ 64 → length sizes ≤ 64 → IsHosted h
-begins h host sizes is within ids few = record {
+pub begins : (h : HostedState) (host : HostState) (sizes : List ℕ) → IsBegun host sizes h → IsWithin host → length host.ids ≤ 64 → length host.slots ≡ 64 → length sizes ≤ 64 → IsHosted h
+begins h host sizes is within ids slots few = record {
   settings = ap (λ (w : World). w.settings) is.world ∙ first_run host host.limit sizes ∙ ap settings_of (sym is.host);
   within = subst IsWithin (sym is.host) within;
   ids = subst (λ (k : HostState). length k.ids ≤ 64) (sym is.host) ids;
+  slots = ap (λ (k : HostState). length k.slots) is.host ∙ slots;
   functions = subst (λ (n : ℕ). n ≤ 64)
       (sym (ap (λ (w : World). length w.functions) is.world ∙ as_many (fresh host.limit sizes) (write_events (first_writes host)) ∙ length-map sizes Closed)) few;
   many = ap length is.mailboxes;
@@ -143,6 +185,7 @@ moved old new p mid below is (f, at) world host within boxes =
       settings = ap (λ (w : World). w.settings) at ∙ is.settings;
       within = is.within;
       ids = is.ids;
+      slots = is.slots;
       functions = subst (λ (n : ℕ). n ≤ 64) (sym many) is.functions;
       many = is.many;
     }
@@ -199,6 +242,7 @@ told p old new m is device host boxes = record {
     settings = ap (λ (d : TracedWorld). d.world.settings) device ∙ is.settings ∙ ap settings_of (sym host);
     within = subst IsWithin (sym host) is.within;
     ids = subst (λ (h : HostState). length h.ids ≤ 64) (sym host) is.ids;
+    slots = ap (λ (h : HostState). length h.slots) host ∙ is.slots;
     functions = subst (λ (d : TracedWorld). length d.world.functions ≤ 64) (sym device) is.functions;
     many = ap length boxes ∙ length-set old.mailboxes p m ∙ is.many;
   };
@@ -223,3 +267,54 @@ unconcerned_itself p policy h = record { functions = λ q inside out. refl; slot
 pub on_err : {A E : Type 0} (r : Result A E) {P : Type 0} → P → OnErr r P
 on_err (Ok v) holds = tt
 on_err (Err e) holds = holds
+
+-- p's function is another, and nothing else is
+pub remade : (p : ℕ) (old new : HostedState) (f : Function) → IsHosted old → new.device.world ≡ with_function old.device.world p f → new.host ≡ old.host → new.mailboxes ≡ old.mailboxes → Shows p old new
+remade p old new f is world host boxes = record {
+  hosted = record {
+    settings = ap (λ (w : World). w.settings) world ∙ is.settings ∙ ap settings_of (sym host);
+    within = subst IsWithin (sym host) is.within;
+    ids = subst (λ (h : HostState). length h.ids ≤ 64) (sym host) is.ids;
+    slots = ap (λ (h : HostState). length h.slots) host ∙ is.slots;
+    functions = subst (λ (n : ℕ). n ≤ 64) (sym (ap (λ (w : World). length w.functions) world ∙ length-set old.device.world.functions p f)) is.functions;
+    many = ap length boxes ∙ is.many;
+  };
+  others = record {
+    functions = λ q inside other. ap (lone_of q) world ∙ ap (λ (g : Function). record { limit = old.device.world.limit; function = g; settings = own old.device.world.settings q }) (get_or-set_other old.device.world.functions p q f (Closed 0) other);
+    slots = λ q other. ap (λ (h : HostState). slot_at h q) host;
+    mailboxes = λ q other. ap (λ (ms : List MailboxState). get_or ms q blank) boxes;
+  };
+}
+
+-- events that write no register of the physical function
+abbrev pub AreSilent : List Event → Type 0
+AreSilent [] = Unit {0}
+AreSilent (e ∷ es) = (sets_registers e ≡ false) × AreSilent es
+
+services_silent : (n p : ℕ) (q : Queue) → AreSilent (services n p q)
+services_silent zero p q = tt
+services_silent (suc n) p q = (refl, services_silent n p q)
+
+-- leave its settings and its functions, while guests write their memories
+run_stays : (w : World) (b : Noted) (es : List Event) (ts : List Noted) → AreSilent es → (live_after w b es ts).settings ≡ w.settings
+unfolding live_after
+run_stays w b [] ts none = refl
+run_stays w b (e ∷ es) [] none = refl
+run_stays w b (e ∷ es) (t ∷ ts) none = run_stays (step (told_world b t w) e).world t es ts none.1 ∙ event_stays (told_world b t w) e none.0
+
+run_as_many : (w : World) (b : Noted) (es : List Event) (ts : List Noted) → length (live_after w b es ts).functions ≡ length w.functions
+unfolding live_after
+run_as_many w b [] ts = refl
+run_as_many w b (e ∷ es) [] = refl
+run_as_many w b (e ∷ es) (t ∷ ts) = run_as_many (step (told_world b t w) e).world t es ts ∙ (step_shape (told_world b t w) e).functions ∙ length_told b t w.functions
+
+-- a burst leaves what stands between two calls
+pub burst_stands : (shared : Bool) (p : ℕ) (q : Queue) (old new : HostedState) (room filled : Room) (done : Burst) → IsHosted old → IsBurst shared p q old.device room new.device filled done → new.host ≡ old.host → new.mailboxes ≡ old.mailboxes → IsHosted new
+burst_stands shared p q old new room filled done is burst host boxes = record {
+  settings = ap (λ (w : World). w.settings) burst.run.world ∙ run_stays old.device.world old.device.accesses (services done.taken p q) burst.run.noted (services_silent done.taken p q) ∙ is.settings ∙ ap settings_of (sym host);
+  within = subst IsWithin (sym host) is.within;
+  ids = subst (λ (h : HostState). length h.ids ≤ 64) (sym host) is.ids;
+  slots = ap (λ (h : HostState). length h.slots) host ∙ is.slots;
+  functions = subst (λ (n : ℕ). n ≤ 64) (sym (ap (λ (w : World). length w.functions) burst.run.world ∙ run_as_many old.device.world old.device.accesses (services done.taken p q) burst.run.noted)) is.functions;
+  many = ap length boxes ∙ is.many;
+}

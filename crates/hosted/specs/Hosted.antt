@@ -30,6 +30,7 @@ pub record IsHosted (h : HostedState) : Type 0 where
   pub settings : h.device.world.settings ≡ settings_of h.host
   pub within : IsWithin h.host
   pub ids : length h.host.ids ≤ 64
+  pub slots : length h.host.slots ≡ 64
   pub functions : length h.device.world.functions ≤ 64
   pub many : length h.mailboxes ≡ 64
 

@@ -1,15 +1,18 @@
 //! Frames: what a function sends, and what comes from the wire.
-ghost use Rattle.std.specs.Prelude.{◌≡◌};
+ghost use Rattle.std.specs.Prelude.{◌≡◌, ◌≤◌, ◌⊎◌, true, false};
 ghost use Rattle.device.specs.Accesses.{accesses_by};
 ghost use Rattle.device.specs.declared.event.Event.TheVariants.{Serve, Wire};
 ghost use Rattle.device.specs.Live.{AreListed, AreMet, TakesLive, told_world};
 ghost use Rattle.device.specs.Outcome.{messages_or_refused};
 ghost use Rattle.device.specs.World.{step};
+ghost use Rattle.live_run.specs.Bursts.{IsBurst};
+ghost use Rattle.live_run.specs.Frames.{has_room};
 
 use crate::hosted::HostedDevice;
 use device::{Queue, Response};
 use irq_causes::Messages;
 use live_memory::Dma;
+use live_run::{Burst, Frames, serve_burst};
 use wire_frame::{Fault, FrameBuf};
 
 impl<D: Dma<K>, K> HostedDevice<D, K> {
@@ -45,5 +48,25 @@ impl<D: Dma<K>, K> HostedDevice<D, K> {
         ensures mailboxes { self.new.mailboxes ≡ self.old.mailboxes }
     {
         self.device.wire_live(frame)
+    }
+
+    /// Takes descriptors of a transmit queue one after another, as [`live_run::serve_burst`] says: `most` at most.
+    pub fn serve_burst(
+        &mut self,
+        pool: u8,
+        queue: Queue,
+        most: usize,
+        frames: &mut Frames,
+        frame: &mut FrameBuf,
+    ) -> Burst
+        ensures burst { IsBurst D.shared pool queue self.old.device frames.old
+            self.new.device frames.new result }
+        ensures most { result.taken ≤ most }
+        ensures why { result.goes_on ≡ true
+            → (result.taken ≡ most) ⊎ (has_room frames.new ≡ false) }
+        ensures host { self.new.host ≡ self.old.host }
+        ensures mailboxes { self.new.mailboxes ≡ self.old.mailboxes }
+    {
+        serve_burst(&mut self.device, pool, queue, most, frames, frame)
     }
 }

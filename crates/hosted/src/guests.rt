@@ -1,6 +1,6 @@
 //! Guests that come to a function and go.
 ghost use Rattle.std.specs.Prelude.{◌≡◌, [], ◌∷◌, true, false, length, set, slice_set, Some, None, IfErr, IfOk, OnErr, OnOk};
-ghost use Rattle.device.specs.Guests.{attach_refusal, attached, detached, is_vacant};
+ghost use Rattle.device.specs.Guests.{attach_refusal, attached, detached, is_vacant, over_memory, replace_refusal};
 ghost use Rattle.device.specs.Live.{trace_of};
 ghost use Rattle.device.specs.World.{function_of};
 ghost use Rattle.mailbox.specs.Mailbox.{blank};
@@ -83,5 +83,34 @@ impl<D: Dma<K>, K> HostedDevice<D, K> {
         mailboxes[usize::from(pool.get())].clear();
         forget(device, host, pool);
         Ok(former)
+    }
+
+    /// Gives a function another memory of as many bytes, and hands out its own, as
+    /// [`Device::replace_memory`](device::Device::replace_memory) says. Nothing else changes.
+    ///
+    /// [`Fault::NoSuchVf`](wire_frame::Fault::NoSuchVf), then [`Fault::BadMake`](wire_frame::Fault::BadMake) where the memory has another
+    /// number of bytes: nothing changes, and it comes back.
+    pub fn replace_memory(&mut self, pool: u8, memory: D) -> Result<Traced<D, K>, NotTaken<D>>
+        ensures taken { OnOk result
+            (replace_refusal self.old.device.world pool (length (D.seen memory)) ≡ None) }
+        ensures world { OnOk result (self.new.device.world
+            ≡ over_memory self.old.device.world pool (D.seen memory)) }
+        ensures host { self.new.host ≡ self.old.host }
+        ensures mailboxes { self.new.mailboxes ≡ self.old.mailboxes }
+        ensures untouched { OnOk result (self.new.device.accesses
+            ≡ set self.old.device.accesses pool (D.noted memory)) }
+        ensures others { LeavesOthers pool self.old self.new }
+        ensures former { IfOk result (λ kept.
+            IsFormer (function_of pool self.old.device.world) (D.seen kept.memory)) }
+        ensures size { IfOk result (λ kept.
+            length (D.seen kept.memory) ≡ length (D.seen memory)) }
+        ensures listed { IfOk result (λ kept.
+            kept.accesses ≡ trace_of self.old.device.accesses pool) }
+        ensures why { IfErr result (λ e.
+            replace_refusal self.old.device.world pool (length (D.seen memory)) ≡ Some e.why) }
+        ensures given_back { IfErr result (λ e. e.memory ≡ memory) }
+        ensures unchanged { OnErr result (self.new ≡ self.old) }
+    {
+        self.device.replace_memory(pool, memory)
     }
 }

@@ -5,7 +5,7 @@ ghost use Rattle.device.specs.World.{fresh, world_after};
 ghost use Rattle.mailbox.specs.Mailbox.{blank};
 ghost use Rattle.mailbox.specs.Start.{first_writes};
 ghost use Rattle.mailbox_laws.specs.Turns.{write_events};
-ghost use Rattle.hosted.specs.Hosted.{IsBegun, host_of_ids};
+ghost use Rattle.hosted.specs.Hosted.{IsBegun, IsHosted, host_of_ids};
 
 use device::Device;
 use live_memory::Dma;
@@ -40,7 +40,8 @@ impl<D: Dma<K>, K> Model for HostedDevice<D, K> {
 impl<D: Dma<K>, K> HostedDevice<D, K> {
     /// A device of closed functions, each over one of the memories, 1 to 64, where one of no bytes is vacant, and a host whose policies
     /// may name these VLAN ids, at most 64. Every register of the physical function has the word that it has for this host: no function
-    /// may receive or send, until a policy admits it and its driver asks. The pool, if one is given, takes what no pool accepts.
+    /// may receive or send, until a policy admits it and its driver asks. The pool, if one is given, takes what no pool accepts. No byte of a
+    /// memory is read or written.
     ///
     /// [`Fault::BadMake`] comes exactly where there are more than 64 ids, no memories or more than 64, or one has more than 2^46 bytes;
     /// [`Fault::NoMemory`] only where the host refused the room.
@@ -53,6 +54,7 @@ impl<D: Dma<K>, K> HostedDevice<D, K> {
     ) -> Result<HostedDevice<D, K>, Fault>
         ensures begun { IfOk result (IsBegun (host_of_ids ids.now default_pool limit)
             (map (λ m. length (D.seen m)) memories.items)) }
+        ensures untouched { IfOk result (λ h. h.device.accesses ≡ map (λ m. D.noted m) memories.items) }
         ensures bad_make { (nat_le (length ids.now) 64 && is_for_guests
             (map (λ m. length (D.seen m)) memories.items)) ≡ false → result ≡ Err Fault.BadMake }
         ensures no_memory { IfErr result (λ e.
@@ -73,10 +75,12 @@ impl<D: Dma<K>, K> HostedDevice<D, K> {
         })
     }
 
-    /// How many functions there are, at most 64.
+    /// How many functions there are, at most 64. Its contract says besides what stands between any two calls: the device's settings are
+    /// those of the host, and no function has more than its policy grants.
     pub fn functions(&self) -> usize
         ensures count { result ≡ length self.now.device.world.functions }
         ensures few { result ≤ 64 }
+        ensures stands { IsHosted self.now }
     {
         self.device.functions()
     }

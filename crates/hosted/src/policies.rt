@@ -17,7 +17,7 @@ use wire_frame::PoolId;
 impl<D: Dma<K>, K> HostedDevice<D, K> {
     /// Gives a function its policy, as [`Host::admit`](mailbox::Host::admit) says, and does the writes of the physical function's
     /// registers that follow: first those of a function that had chosen the address, which is answered and is to be told
-    /// ([`notify`](HostedDevice::notify), [`reset`](HostedDevice::reset)), and then its own. Where the policy is not taken nothing changes.
+    /// ([`notify`](HostedDevice::notify), [`flr`](HostedDevice::flr)), and then its own. Where the policy is not taken nothing changes.
     pub fn admit(&mut self, pool: PoolId, policy: &Policy) -> Result<Option<PoolId>, NotAdmitted>
         ensures variant { is_ok result ≡ is_none (refusal self.old.host pool policy.now) }
         ensures err { IfErr result (λ e. refusal self.old.host pool policy.now ≡ Some e) }

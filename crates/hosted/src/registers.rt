@@ -64,7 +64,7 @@ impl<D: Dma<K>, K> HostedDevice<D, K> {
     /// registers become initial, the host forgets what its guest asked for, and the mailbox tells the driver (RSTD).
     ///
     /// [`Fault::NoSuchVf`], then [`Fault::NotOpen`].
-    pub fn reset(&mut self, pool: u8) -> Result<(), Fault>
+    pub fn flr(&mut self, pool: u8) -> Result<(), Fault>
         ensures answer { silently (done_or_refused result)
             ≡ (step self.old.device.world (Flr pool)).answer }
         ensures taken { HaveTaken (reset_turns self.old pool) self.old self.new }

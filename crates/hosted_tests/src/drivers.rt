@@ -1,4 +1,5 @@
 //! Drivers that ask by their mailboxes.
+use crate::compare::assert_equal;
 use crate::support::{ask, policy, pool, vacant};
 use device::{Outcome, Queue};
 use mailbox::{NotAdmitted, Notice};
@@ -18,14 +19,14 @@ fn a_driver_gets_the_address_of_its_policy(rt: HostRuntime) -> Result<(), Fail> 
     let mut hosted = vacant(alloc)?;
     hosted.admit(pool(1)?, &policy(7))?;
     let came = hosted.attach(1, LiveMem::for_guest(alloc, 4096)?).is_ok();
-    assert!(rt; came);
-    assert!(rt; ask(&mut hosted, 1, RESET) == Some(GRANTED));
+    assert_equal(&rt, came, true);
+    assert_equal(&rt, ask(&mut hosted, 1, RESET), Some(GRANTED));
     // the address stands in the next two words, its first byte lowest
-    assert!(rt; hosted.vf_read(1, VFMBMEM + 4) == Ok(0x9059_8202));
-    assert!(rt; hosted.vf_read(1, VFMBMEM + 8) == Ok(0x0000_0700));
+    assert_equal(&rt, hosted.vf_read(1, VFMBMEM + 4), Ok(0x9059_8202));
+    assert_equal(&rt, hosted.vf_read(1, VFMBMEM + 8), Ok(0x0000_0700));
     // PFSTS and PFACK, which a read clears; the driver gave the mailbox back as it rang
-    assert!(rt; hosted.vf_read(1, VFMAILBOX) == Ok(0x30));
-    assert!(rt; hosted.vf_read(1, VFMAILBOX) == Ok(0));
+    assert_equal(&rt, hosted.vf_read(1, VFMAILBOX), Ok(0x30));
+    assert_equal(&rt, hosted.vf_read(1, VFMAILBOX), Ok(0));
     Ok(())
 }
 
@@ -33,9 +34,13 @@ fn a_driver_gets_the_address_of_its_policy(rt: HostRuntime) -> Result<(), Fail> 
 fn a_function_without_a_policy_is_refused(rt: HostRuntime) -> Result<(), Fail> {
     let alloc = rt.alloc();
     let mut hosted = vacant(alloc)?;
-    assert!(rt; hosted.attach(0, LiveMem::for_guest(alloc, 4096)?).is_ok());
+    assert_equal(
+        &rt,
+        hosted.attach(0, LiveMem::for_guest(alloc, 4096)?).is_ok(),
+        true,
+    );
     // NACK, without CTS
-    assert!(rt; ask(&mut hosted, 0, RESET) == Some(0x4000_0001));
+    assert_equal(&rt, ask(&mut hosted, 0, RESET), Some(0x4000_0001));
     Ok(())
 }
 
@@ -43,12 +48,24 @@ fn a_function_without_a_policy_is_refused(rt: HostRuntime) -> Result<(), Fail> {
 fn a_vacant_function_has_no_mailbox(rt: HostRuntime) -> Result<(), Fail> {
     let alloc = rt.alloc();
     let mut hosted = vacant(alloc)?;
-    assert!(rt; hosted.vf_read(0, VFMBMEM) == Err(Fault::NotOpen));
-    assert!(rt; hosted.vf_write(0, VFMBMEM, 1).err() == Some(Fault::NotOpen));
-    assert!(rt; hosted.vf_write(2, VFMBMEM, 1).err() == Some(Fault::NoSuchVf));
-    assert!(rt; hosted.vf_write(64, VFMAILBOX, 1).err() == Some(Fault::NoSuchVf));
-    assert!(rt; hosted.reset(0) == Err(Fault::NotOpen));
-    assert!(rt; hosted.functions() == 2);
+    assert_equal(&rt, hosted.vf_read(0, VFMBMEM), Err(Fault::NotOpen));
+    assert_equal(
+        &rt,
+        hosted.vf_write(0, VFMBMEM, 1).err(),
+        Some(Fault::NotOpen),
+    );
+    assert_equal(
+        &rt,
+        hosted.vf_write(2, VFMBMEM, 1).err(),
+        Some(Fault::NoSuchVf),
+    );
+    assert_equal(
+        &rt,
+        hosted.vf_write(64, VFMAILBOX, 1).err(),
+        Some(Fault::NoSuchVf),
+    );
+    assert_equal(&rt, hosted.flr(0), Err(Fault::NotOpen));
+    assert_equal(&rt, hosted.functions(), 2);
     Ok(())
 }
 
@@ -57,22 +74,34 @@ fn a_reset_is_told_to_the_driver(rt: HostRuntime) -> Result<(), Fail> {
     let alloc = rt.alloc();
     let mut hosted = vacant(alloc)?;
     hosted.admit(pool(0)?, &policy(7))?;
-    assert!(rt; hosted.attach(0, LiveMem::for_guest(alloc, 4096)?).is_ok());
-    assert!(rt; ask(&mut hosted, 0, RESET) == Some(GRANTED));
+    assert_equal(
+        &rt,
+        hosted.attach(0, LiveMem::for_guest(alloc, 4096)?).is_ok(),
+        true,
+    );
+    assert_equal(&rt, ask(&mut hosted, 0, RESET), Some(GRANTED));
     // from outside: RSTD, and a first word without CTS
-    assert!(rt; hosted.reset(0) == Ok(()));
-    assert!(rt; hosted.vf_read(0, VFMAILBOX) == Ok(0x80));
-    assert!(rt; hosted.vf_read(0, VFMBMEM) == Ok(0x4000_0100));
+    assert_equal(&rt, hosted.flr(0), Ok(()));
+    assert_equal(&rt, hosted.vf_read(0, VFMAILBOX), Ok(0x80));
+    assert_equal(&rt, hosted.vf_read(0, VFMBMEM), Ok(0x4000_0100));
     // by the driver: all words are 0
-    assert!(rt; ask(&mut hosted, 0, RESET) == Some(GRANTED));
-    assert!(rt; hosted.vf_write(0, VFCTRL, 1 << 26).is_ok());
-    assert!(rt; hosted.vf_read(0, VFMBMEM) == Ok(0));
+    assert_equal(&rt, ask(&mut hosted, 0, RESET), Some(GRANTED));
+    assert_equal(&rt, hosted.vf_write(0, VFCTRL, 1 << 26).is_ok(), true);
+    assert_equal(&rt, hosted.vf_read(0, VFMBMEM), Ok(0));
     // and a new guest sees nothing of it
-    assert!(rt; ask(&mut hosted, 0, RESET) == Some(GRANTED));
-    assert!(rt; hosted.detach(0, LiveMem::for_guest(alloc, 0)?).is_ok());
-    assert!(rt; hosted.attach(0, LiveMem::for_guest(alloc, 4096)?).is_ok());
-    assert!(rt; hosted.vf_read(0, VFMBMEM) == Ok(0));
-    assert!(rt; hosted.vf_read(0, VFMAILBOX) == Ok(0));
+    assert_equal(&rt, ask(&mut hosted, 0, RESET), Some(GRANTED));
+    assert_equal(
+        &rt,
+        hosted.detach(0, LiveMem::for_guest(alloc, 0)?).is_ok(),
+        true,
+    );
+    assert_equal(
+        &rt,
+        hosted.attach(0, LiveMem::for_guest(alloc, 4096)?).is_ok(),
+        true,
+    );
+    assert_equal(&rt, hosted.vf_read(0, VFMBMEM), Ok(0));
+    assert_equal(&rt, hosted.vf_read(0, VFMAILBOX), Ok(0));
     Ok(())
 }
 
@@ -82,18 +111,26 @@ fn a_driver_is_notified_and_dismissed(rt: HostRuntime) -> Result<(), Fail> {
     let mut hosted = vacant(alloc)?;
     hosted.admit(pool(0)?, &policy(7))?;
     // another function can't have the same address
-    assert!(rt; hosted.admit(pool(1)?, &policy(7)) == Err(NotAdmitted::AddressOwned));
-    assert!(rt; hosted.attach(0, LiveMem::for_guest(alloc, 4096)?).is_ok());
-    assert!(rt; ask(&mut hosted, 0, RESET) == Some(GRANTED));
+    assert_equal(
+        &rt,
+        hosted.admit(pool(1)?, &policy(7)),
+        Err(NotAdmitted::AddressOwned),
+    );
+    assert_equal(
+        &rt,
+        hosted.attach(0, LiveMem::for_guest(alloc, 4096)?).is_ok(),
+        true,
+    );
+    assert_equal(&rt, ask(&mut hosted, 0, RESET), Some(GRANTED));
     // the driver hasn't looked since its message was answered
-    assert!(rt; hosted.notify(pool(0)?) == Notice::Waits);
-    assert!(rt; hosted.vf_read(0, VFMAILBOX) == Ok(0x30));
-    assert!(rt; hosted.notify(pool(0)?) == Notice::Raises);
-    assert!(rt; hosted.vf_read(0, VFMAILBOX) == Ok(0x10));
+    assert_equal(&rt, hosted.notify(pool(0)?), Notice::Waits);
+    assert_equal(&rt, hosted.vf_read(0, VFMAILBOX), Ok(0x30));
+    assert_equal(&rt, hosted.notify(pool(0)?), Notice::Raises);
+    assert_equal(&rt, hosted.vf_read(0, VFMAILBOX), Ok(0x10));
     // without its policy it is refused, and the address is free
     hosted.dismiss(pool(0)?);
-    assert!(rt; ask(&mut hosted, 0, RESET) == Some(0x4000_0001));
-    assert!(rt; hosted.admit(pool(1)?, &policy(7)) == Ok(None));
+    assert_equal(&rt, ask(&mut hosted, 0, RESET), Some(0x4000_0001));
+    assert_equal(&rt, hosted.admit(pool(1)?, &policy(7)), Ok(None));
     Ok(())
 }
 
@@ -101,13 +138,17 @@ fn a_driver_is_notified_and_dismissed(rt: HostRuntime) -> Result<(), Fail> {
 fn frames_reach_nobody_who_was_not_admitted(rt: HostRuntime) -> Result<(), Fail> {
     let alloc = rt.alloc();
     let mut hosted = vacant(alloc)?;
-    assert!(rt; hosted.attach(0, LiveMem::for_guest(alloc, 4096)?).is_ok());
+    assert_equal(
+        &rt,
+        hosted.attach(0, LiveMem::for_guest(alloc, 4096)?).is_ok(),
+        true,
+    );
     let broadcast = FrameBuf::from_bytes(&[0xFF; 60])?;
     let came = hosted.wire(&broadcast).map(|messages| messages.to_masks());
-    assert!(rt; came == Ok([0; 64]));
+    assert_equal(&rt, came, Ok([0; 64]));
     // its queue is off
     let mut frame = FrameBuf::blank();
     let taken = hosted.serve(0, Queue::Q0, &mut frame);
-    assert!(rt; matches!(taken.outcome, Outcome::Idle));
+    assert_equal(&rt, matches!(taken.outcome, Outcome::Idle), true);
     Ok(())
 }

@@ -2,7 +2,7 @@
 use Rattle.std.proofs.Common.{rules, set, subst}
 use Rattle.hosted.specs.Hosted.{HostedState, LeavesOthers}
 use Rattle.hosted.proofs.Stands.{Shows, was_reset}
-use Rattle.hosted.proofs.hosted.HostedDevice.reset.Goals as goal
+use Rattle.hosted.proofs.hosted.HostedDevice.flr.Goals as goal
 
 pub invariant_of-self-2 : goal.invariant_of-self-2
 invariant_of-self-2 g c =

@@ -43,6 +43,7 @@ fn mark(alloc: Global) -> Came {
 fn make_all<R: Wait>(rt: &R, alloc: Global, sheet: &mut Sheet) {
     sheet.tell("FlatMem::new", makers::flat_mem(alloc));
     sheet.tell("LiveMem::new", makers::live_mem(alloc));
+    sheet.tell("Card::for_guests", makers::card(alloc));
     sheet.tell("Device::new", makers::device_new(alloc));
     sheet.tell("Device::run", makers::device_run(alloc));
     sheet.tell("irq_line::make", makers::line(alloc));

@@ -3,6 +3,7 @@ ghost use Rattle.std.specs.Prelude.{◌≡◌, IfOk};
 ghost use Rattle.recorder.specs.Made.{IsFresh};
 
 use crate::sheet::{Came, Sheet};
+use card::Card;
 use device::{Answer, Device, Event, Reply};
 use device_lock::{LockedDevice, Recorded, Share};
 use guest_memory::{FlatMem, GuestMem};
@@ -17,7 +18,7 @@ use std::alloc::Global;
 use std::sync::Wait;
 use std::sync::ledger::{Blank, Ledger};
 use test_support::memories;
-use wire_frame::{Fault, PoolId};
+use wire_frame::{Fault, FrameLimit, PoolId, Vid};
 use wire_pump::channel;
 
 /// Raises the vectors of a mask for the pool of that number.
@@ -37,6 +38,28 @@ pub fn flat_mem(alloc: Global) -> Came {
 pub fn live_mem(alloc: Global) -> Came {
     match LiveMem::new(alloc, 4096) {
         Ok(memory) => Came::whole(memory.regions() == 0),
+        Err(fault) => Came::refused(fault, true),
+    }
+}
+
+pub fn card(alloc: Global) -> Came {
+    let mut memories = Vec::new(alloc);
+    for _ in 0..3 {
+        let Ok(memory) = LiveMem::for_guest(alloc, 0) else {
+            return Came::NotTried;
+        };
+        if memories.push(memory).is_err() {
+            return Came::NotTried;
+        }
+    }
+    match Card::for_guests(
+        alloc,
+        memories,
+        &[Vid::of_tag(0)],
+        None,
+        FrameLimit::standard(),
+    ) {
+        Ok(card) => Came::whole(card.functions() == 3),
         Err(fault) => Came::refused(fault, true),
     }
 }

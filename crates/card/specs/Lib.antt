@@ -1,0 +1,6 @@
+pub mod Card
+pub mod Told
+pub mod Steps
+pub mod Served
+pub mod Alike
+pub mod Life

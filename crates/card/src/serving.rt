@@ -1,0 +1,162 @@
+//! Frames: what a function sends, and what comes from the wire; and the vectors that are raised by them.
+ghost use Rattle.std.specs.Prelude.{◌≡◌, ℕ, ◌<◌, [], ◌∷◌, length, nat_lt, slice_index, slice_set};
+ghost use Rattle.wire_frame.specs.Bits.{has_bit};
+ghost use Rattle.device.specs.Accesses.{accesses_by};
+ghost use Rattle.device.specs.declared.event.Event.TheVariants.{Wire};
+ghost use Rattle.device.specs.Live.{AreListed, AreMet, told_world};
+ghost use Rattle.device.specs.World.{step};
+ghost use Rattle.card.specs.Card.{LeavesAlone, end_at};
+ghost use Rattle.card.specs.Life.{HasLived, HaveServed, Signals, live_deeds};
+ghost use Rattle.card.specs.Served.{AreServed, IsServed, RaisedOrRefused, armed_set, is_busy, signalled, with_busy};
+
+use crate::card::{Card, End};
+use device::Queue;
+use irq_causes::Vectors;
+use live_memory::Dma;
+use live_run::Frames;
+use vfio_session::Session;
+use wire_frame::{Fault, FrameBuf, PoolId, PoolSet};
+
+/// How many descriptors of a transmit queue one call takes at most.
+pub const MOST_SERVICES: usize = 128;
+
+impl<D: Dma<K>, K> Card<D, K> {
+    /// Takes descriptors of a function's busy transmit queues, [`MOST_SERVICES`] of each at most, first those of queue 0, and tells whether
+    /// one may have more. A frame that leaves for the wire stands behind those that are in `frames`; where these have no room for one, no
+    /// descriptor is taken. Each frame is put together in `frame`.
+    pub fn more(&mut self, pool: PoolId, frames: &mut Frames, frame: &mut FrameBuf) -> bool
+        ensures served { AreServed D.shared pool self.old frames.old self.new frames.new }
+        ensures lived { HaveServed D.shared pool self.old self.new }
+        ensures busy { result ≡ is_busy (end_at self.new pool) }
+    {
+        self.raised.masks_are_small();
+        self.serve_busy(pool, frames, frame);
+        self.is_busy(pool)
+    }
+
+    // Takes descriptors of the busy queues.
+    fn serve_busy(&mut self, pool: PoolId, frames: &mut Frames, frame: &mut FrameBuf)
+        ensures served { AreServed D.shared pool self.old frames.old self.new frames.new }
+        ensures ends { length self.old.ends ≡ 64 }
+        ensures below { pool < 64 }
+    {
+        if self.ends[usize::from(pool.get())].busy_0 {
+            self.serve(pool, Queue::Q0, frames, frame);
+        }
+        if self.ends[usize::from(pool.get())].busy_1 {
+            self.serve(pool, Queue::Q1, frames, frame);
+        }
+    }
+
+    /// Whether a transmit queue of a function may have descriptors that were not taken.
+    pub fn is_busy(&self, pool: PoolId) -> bool
+        ensures { result ≡ is_busy (end_at self.now pool) }
+    {
+        let end = &self.ends[usize::from(pool.get())];
+        end.busy_0 || end.busy_1
+    }
+
+    // Takes descriptors of one queue.
+    fn serve(&mut self, pool: PoolId, queue: Queue, frames: &mut Frames, frame: &mut FrameBuf)
+        ensures { IsServed D.shared pool queue self.old frames.old self.new frames.new }
+    {
+        let done = self
+            .hosted
+            .serve_burst(pool.get(), queue, MOST_SERVICES, frames, frame);
+        self.raised.unite(&done.messages);
+        set_busy(&mut self.ends[usize::from(pool.get())], queue, done.goes_on);
+    }
+
+    /// Takes a frame from the wire, as [`HostedDevice::wire`](hosted::HostedDevice::wire) says. Refused where it is longer than the card's
+    /// limit.
+    pub fn wire(&mut self, frame: &FrameBuf) -> Result<(), Fault>
+        ensures lived { HasLived (live_deeds self.old (Wire frame.now ∷ [])
+            (self.new.hosted.device.accesses ∷ [])) self.old self.new }
+        ensures world { self.new.hosted.device.world
+            ≡ (step (told_world self.old.hosted.device.accesses self.new.hosted.device.accesses
+            self.old.hosted.device.world) (Wire frame.now)).world }
+        ensures answer { RaisedOrRefused result self.old.raised self.new.raised
+            (step (told_world self.old.hosted.device.accesses self.new.hosted.device.accesses
+            self.old.hosted.device.world) (Wire frame.now)).answer }
+        ensures listed { AreListed
+            (accesses_by (told_world self.old.hosted.device.accesses
+            self.new.hosted.device.accesses self.old.hosted.device.world) (Wire frame.now))
+            self.old.hosted.device.accesses self.new.hosted.device.accesses }
+        ensures met { AreMet D.shared self.old.hosted.device.accesses
+            self.new.hosted.device.accesses self.old.hosted.device.world }
+        ensures host { self.new.hosted.host ≡ self.old.hosted.host }
+        ensures mailboxes { self.new.hosted.mailboxes ≡ self.old.hosted.mailboxes }
+        ensures ends { self.new.ends ≡ self.old.ends }
+    {
+        self.raised.masks_are_small();
+        self.take_frame(frame)
+    }
+
+    // Takes it.
+    fn take_frame(&mut self, frame: &FrameBuf) -> Result<(), Fault>
+        ensures world { self.new.hosted.device.world
+            ≡ (step (told_world self.old.hosted.device.accesses self.new.hosted.device.accesses
+            self.old.hosted.device.world) (Wire frame.now)).world }
+        ensures answer { RaisedOrRefused result self.old.raised self.new.raised
+            (step (told_world self.old.hosted.device.accesses self.new.hosted.device.accesses
+            self.old.hosted.device.world) (Wire frame.now)).answer }
+        ensures listed { AreListed
+            (accesses_by (told_world self.old.hosted.device.accesses
+            self.new.hosted.device.accesses self.old.hosted.device.world) (Wire frame.now))
+            self.old.hosted.device.accesses self.new.hosted.device.accesses }
+        ensures met { AreMet D.shared self.old.hosted.device.accesses
+            self.new.hosted.device.accesses self.old.hosted.device.world }
+        ensures host { self.new.hosted.host ≡ self.old.hosted.host }
+        ensures mailboxes { self.new.hosted.mailboxes ≡ self.old.hosted.mailboxes }
+        ensures ends { self.new.ends ≡ self.old.ends }
+    {
+        let messages = self.hosted.wire(frame)?;
+        self.raised.unite(&messages);
+        Ok(())
+    }
+
+    /// Hands out the vectors of a function that were raised since the last time, and that have a file: each of these files is to be
+    /// written once. A vector without a file is not signalled, now or later.
+    #[tactic(auto, using(irq_causes::proofs::Bounds::and_below_eight, crate::proofs::Calls::signal_lives))]
+    pub fn signal(&mut self, pool: PoolId) -> Vectors
+        ensures vectors { result ≡ signalled (slice_index self.old.raised pool)
+            (end_at self.old pool).session.armed }
+        ensures lived { HasLived (Signals pool ∷ []) self.old self.new }
+        ensures raised { self.new.raised ≡ slice_set self.old.raised pool 0 }
+        ensures hosted { self.new.hosted ≡ self.old.hosted }
+        ensures ends { self.new.ends ≡ self.old.ends }
+        ensures others { LeavesAlone pool self.old self.new }
+    {
+        let raised = self.raised.to(pool);
+        self.raised.set(pool, Vectors::none());
+        let armed = armed_set(&self.ends[usize::from(pool.get())].session);
+        Vectors::from_bits(raised.bits() & armed)
+    }
+
+    /// The functions of which vectors were raised that were not handed out.
+    pub fn raised(&self) -> PoolSet
+        ensures { (p : ℕ) → p < 64 → has_bit result p ≡ nat_lt 0 (slice_index self.now.raised p) }
+    {
+        self.raised.pools()
+    }
+}
+
+// A queue may have more descriptors, or it may not.
+fn set_busy(end: &mut End, queue: Queue, is_busy: bool)
+    ensures { end.new ≡ with_busy end.old queue is_busy }
+{
+    match queue {
+        Queue::Q0 => end.busy_0 = is_busy,
+        Queue::Q1 => end.busy_1 = is_busy,
+    }
+}
+
+// The vectors that have a file.
+fn armed_set(session: &Session) -> u8
+    ensures value { result ≡ armed_set session.now.armed }
+    ensures below { result < 8 }
+{
+    u8::from(session.is_armed(0))
+        + 2 * u8::from(session.is_armed(1))
+        + 4 * u8::from(session.is_armed(2))
+}

@@ -1,0 +1,97 @@
+//! Frames from the wire, and a memory that is exchanged. (Guests that send each other frames are in the tests of the archive, by C and Rust.)
+use crate::client::{Clients, Seen, arm_message, policy, pool};
+use crate::compare::assert_equal;
+use mapped_memory::LiveMem;
+use script_support::registers::{
+    ADVANCED, ENABLE, RDBAL0, RDLEN0, RDT0, RXDCTL0, SRRCTL0, VTEIMS, VTIVAR,
+};
+use std::alloc::Global;
+use std::test::Fail;
+use wire_frame::{Fault, FrameBuf, PoolId};
+
+// RESET, and the reply that grants it.
+const RESET: u32 = 1;
+
+const GRANTED: u32 = 0x8000_0001;
+
+// How many bytes of a guest's memory are mapped.
+const SIZE: usize = 0x3000;
+
+// Where a guest has its ring, and its frame or its buffer.
+const RING: usize = 0x1000;
+
+const BUFFER: usize = 0x2000;
+
+// What a driver writes so that its function receives into one buffer, and gets vector 1 for it.
+const RECEIVES: [(u32, u32); 7] = [
+    (VTIVAR, 0x81),
+    (VTEIMS, 2),
+    (RDBAL0, RING as u32),
+    (RDLEN0, 1024),
+    (SRRCTL0, ADVANCED | 2),
+    (RXDCTL0, ENABLE),
+    (RDT0, 1),
+];
+
+// What a guest's memory has at first: a descriptor of a buffer.
+fn receiving(bytes: &mut [u8; SIZE]) {
+    bytes[RING..RING + 8].copy_from_slice(&[0, 0x20, 0, 0, 0, 0, 0, 0]);
+}
+
+// A guest with a memory of 16 KiB comes to a function, and its driver is answered.
+fn come<'a>(
+    clients: &mut Clients<'a>,
+    pool: PoolId,
+    bytes: &'a mut [u8],
+    alloc: Global,
+) -> Result<bool, Fail> {
+    let mut memory = LiveMem::for_guest(alloc, 16384)?;
+    let is_mapped = memory.map(0, bytes, false).is_ok();
+    let has_come = clients.attach(pool, memory);
+    let has_begun = clients.begin(pool) == Seen::Answered;
+    Ok(is_mapped && has_come && has_begun && clients.ask(pool, RESET) == Some(GRANTED))
+}
+
+// It goes, and its memory's bytes come back.
+fn go<'a>(clients: &mut Clients<'a>, pool: PoolId, alloc: Global) -> Result<&'a mut [u8], Fail> {
+    Ok(
+        clients
+            .detach(pool, alloc)?
+            .unmap(0)
+            .ok_or("nothing was mapped")?,
+    )
+}
+
+/// A frame that is too long is refused, and a broadcast stands in the memory that the guest has by then.
+#[test]
+fn a_frame_comes_from_the_wire(rt: HostRuntime) -> Result<(), Fail> {
+    let alloc = rt.alloc();
+    let first = pool(0)?;
+    let (mut early, mut late) = ([0; SIZE], [0; SIZE]);
+    receiving(&mut late);
+    let mut clients = Clients::vacant(alloc, 1)?;
+    clients.admit(first, &policy(1));
+    let came = come(&mut clients, first, &mut early, alloc)?;
+    assert_equal(&rt, came, true);
+    assert_equal(&rt, clients.write_all(first, &RECEIVES), true);
+    clients.say(first, &arm_message(2), 2);
+    // its memory is exchanged for another of as many bytes
+    let mut memory = LiveMem::for_guest(alloc, 16384)?;
+    let is_mapped = memory.map(0, &mut late, false).is_ok();
+    assert_equal(&rt, is_mapped, true);
+    let mut former = clients.replace_memory(first, memory)?;
+    let early = former.unmap(0).ok_or("nothing was mapped")?;
+    // a frame of 1,519 bytes, and a broadcast of 60
+    let frame = FrameBuf::from_bytes(&[0xFF; 1519])?;
+    assert_equal(&rt, clients.wire(&frame), Err(Fault::BadFrame));
+    assert_equal(&rt, clients.raised(), 0);
+    let mut bytes = [0xFF; 60];
+    bytes[12..].copy_from_slice(&[0x5A; 48]);
+    let frame = FrameBuf::from_bytes(&bytes)?;
+    assert_equal(&rt, clients.wire(&frame), Ok(()));
+    assert_equal(&rt, clients.signal(first), 2);
+    let late = go(&mut clients, first, alloc)?;
+    assert_equal(&rt, late.get(BUFFER..BUFFER + 60), Some(bytes.as_slice()));
+    assert_equal(&rt, early.iter().all(|byte| *byte == 0), true);
+    Ok(())
+}

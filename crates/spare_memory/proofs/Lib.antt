@@ -1,0 +1,3 @@
+mod Exchanged
+mod Remapped
+mod Places

@@ -21,11 +21,11 @@ none_makeable true can = true≢false (sym can)
 none_makeable false can = true≢false (sym can)
 
 -- what holds of one holds of each of as many
-all_same : (test : ℕ → Bool) (x n : ℕ) → test x ≡ true → list_all test (replicate n x) ≡ true
+pub all_same : (test : ℕ → Bool) (x n : ℕ) → test x ≡ true → list_all test (replicate n x) ≡ true
 all_same test x zero is = refl
 all_same test x (suc n) is = rw is (all_same test x n is)
 
-length_same : (x n : ℕ) → length (replicate {A = ℕ} n x) ≡ n
+pub length_same : (x n : ℕ) → length (replicate {A = ℕ} n x) ≡ n
 length_same x zero = refl
 length_same x (suc n) = ap suc (length_same x n)
 

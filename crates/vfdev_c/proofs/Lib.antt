@@ -1,3 +1,4 @@
+mod CardLemmas
 mod HandleLemmas
 mod LentLemmas
 mod RecordedLemmas

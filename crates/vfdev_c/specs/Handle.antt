@@ -20,13 +20,13 @@ use Rattle.history.specs.Entries.{Entry, is_cap, events, given}
 use Rattle.history.specs.Recording.{made_like}
 use Rattle.vfdev_c.specs.declared.reply.VfdevReply.{VfdevReply}
 use Rattle.vfdev_c.specs.declared.handle_state.HandleState.{HandleState}
-use Rattle.vfdev_c.specs.declared.handle_state.HandleState.TheVariants.{Lending, Made, Kept, Lent}
+use Rattle.vfdev_c.specs.declared.handle_state.HandleState.TheVariants.{Lending, Made, Kept, Lent, Card}
 use Rattle.vfdev_c.specs.LentWorld.{untouched, met_by, taken_by, AreOnce, AreAllListed}
 use Rattle.vfdev_c.specs.Recorded.{is_full, taking}
 use Rattle.vfdev_c.specs.Spans.{Lent as Blocks, none_lent, no_access, span, overlaps_one}
 
--- what a handle leads to: nothing, blocks that were lent for a device, a device over memories of its own, one whose calls are kept,
--- or a device over lent blocks
+-- what a handle leads to: nothing, blocks that were lent for a device, a device over memories of its own, one whose calls are kept, a
+-- device over lent blocks, or a card
 abbrev pub Held : Type 0
 Held = Option HandleState
 
@@ -256,11 +256,12 @@ is_lent_twice held address bytes = overlaps_one (span address (length bytes)) (l
 abbrev pub made_over : ℕ → List (List ℕ) → Held
 made_over limit blocks = Some (Lent (untouched (fresh limit (map length blocks)) (map no_access blocks)))
 
--- a device is there
+-- a device is there, or a card
 abbrev pub is_made : Held → Bool
 is_made (Some (Made w)) = true
 is_made (Some (Kept r)) = true
 is_made (Some (Lent l)) = true
+is_made (Some (Card c)) = true
 is_made held = false
 
 -- ---- kept calls

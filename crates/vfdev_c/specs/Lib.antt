@@ -1,3 +1,5 @@
+pub mod CardCalls
+pub mod Cards
 pub mod Handle
 pub mod LentWorld
 pub mod Ownership

@@ -16,7 +16,7 @@ use std::alloc::Global;
 use std::mem::replace;
 
 /// What C holds of a device: it leads to nothing, to blocks that were lent for a device, to a device over memories of its own, to one
-/// whose calls are kept, or to a device over lent blocks.
+/// whose calls are kept, to a device over lent blocks, or to a card.
 #[repr(C)]
 #[derive(Drop)]
 pub struct Vfdev {
@@ -89,7 +89,10 @@ impl Vfdev {
                 let (reply, raised) = device.take(request);
                 (reply, raised)
             }
-            HandleState::Lending(_) => (VfdevReply::no_device(), Messages::none()),
+            HandleState::Lending(_) | HandleState::Card(_) => (
+                VfdevReply::no_device(),
+                Messages::none(),
+            ),
         };
         self.put(state);
         given
@@ -117,7 +120,10 @@ impl Vfdev {
                 let (reply, raised) = device.wire(bytes);
                 (reply, raised)
             }
-            HandleState::Lending(_) => (VfdevReply::no_device(), Messages::none()),
+            HandleState::Lending(_) | HandleState::Card(_) => (
+                VfdevReply::no_device(),
+                Messages::none(),
+            ),
         };
         self.put(state);
         given
@@ -145,7 +151,7 @@ impl Vfdev {
             HandleState::Made(running) => running.mem_read(function, at, out),
             HandleState::Kept(recorder) => recorder.mem_read(function, at, out),
             HandleState::Lent(device) => device.mem_read(function, at, out),
-            HandleState::Lending(_) => VfdevReply::no_device(),
+            HandleState::Lending(_) | HandleState::Card(_) => VfdevReply::no_device(),
         };
         self.put(state);
         reply
@@ -187,7 +193,10 @@ impl Vfdev {
                 let (reply, raised) = device.serve(function, queue, out, left);
                 (reply, raised)
             }
-            HandleState::Lending(_) => (VfdevReply::no_device(), Messages::none()),
+            HandleState::Lending(_) | HandleState::Card(_) => (
+                VfdevReply::no_device(),
+                Messages::none(),
+            ),
         };
         self.put(state);
         given

@@ -10,6 +10,7 @@ ghost use Rattle.device.specs.Outcome.{left_by, done_or_refused, value_or_refuse
 ghost use Rattle.history.specs.Entries.{events, given};
 ghost use Rattle.vfdev_c.specs.Handle.{shown, bytes_shown, frame_in, length_in, IsolatedStep};
 
+use crate::card_held::CardHeld;
 use crate::lending::LentBlocks;
 use crate::lent_device::LentDevice;
 use crate::recorder::Recorder;
@@ -36,6 +37,8 @@ pub enum HandleState {
     Kept(Recorder),
     /// A device over blocks that guests write meanwhile.
     Lent(LentDevice),
+    /// A card.
+    Card(CardHeld),
 }
 
 /// A device, with room for a frame that comes or goes.

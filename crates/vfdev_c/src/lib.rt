@@ -1,7 +1,8 @@
 //! The device for C: each event is a call over a handle.
 //!
-//! C holds a [`Vfdev`], which leads to nothing, to memories that were lent for a device, to a device, or to a device whose
-//! calls are kept. Each call says what the handle leads to after it, what is replied, which messages were issued and which
+//! C holds a [`Vfdev`], which leads to nothing, to memories that were lent for a device, to a device, to a device whose
+//! calls are kept, or to a card (`include/vfdev_card.h`), which has calls of its own: to those of a device it is none, and the other way
+//! round. Each call says what the handle leads to after it, what is replied, which messages were issued and which
 //! bytes were handed out, whatever the handle led to before; the isolation law stands on each call that takes an event. No call
 //! has a premise: an argument that is out of range is refused by its name before the device is asked. What C owes stands in
 //! `include/vfdev.h`: pointers that lead to what their lengths say, and one call at a time. A handle may go from thread to
@@ -11,6 +12,13 @@
 #![tactic(auto)]
 
 pub mod block;
+pub mod card_frames;
+pub mod card_guests;
+pub mod card_held;
+pub mod card_making;
+pub mod card_messages;
+pub mod card_policies;
+pub mod card_step;
 pub mod events;
 pub mod handle;
 pub mod handle_state;

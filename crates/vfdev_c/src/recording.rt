@@ -65,7 +65,10 @@ pub extern "C" fn vfdev_kept(alloc: Global, handle: &mut Vfdev) -> usize
     };
     let kept = match &*state {
         HandleState::Kept(recorder) => recorder.kept(),
-        HandleState::Made(_) | HandleState::Lending(_) | HandleState::Lent(_) => 0,
+        HandleState::Made(_)
+        | HandleState::Lending(_)
+        | HandleState::Lent(_)
+        | HandleState::Card(_) => 0,
     };
     handle.put(state);
     kept
@@ -95,7 +98,10 @@ pub extern "C" fn vfdev_replay(alloc: Global, handle: &mut Vfdev, other: &mut Vf
     };
     let answer = match &*state {
         HandleState::Kept(recorder) => replay_on(alloc, recorder, other),
-        HandleState::Made(_) | HandleState::Lending(_) | HandleState::Lent(_) => NOT_RECORDED,
+        HandleState::Made(_)
+        | HandleState::Lending(_)
+        | HandleState::Lent(_)
+        | HandleState::Card(_) => NOT_RECORDED,
     };
     handle.put(state);
     answer
@@ -119,7 +125,10 @@ fn replay_on(alloc: Global, recorder: &Recorder, other: &mut Vfdev) -> u32
     };
     let answer = match &mut *state {
         HandleState::Made(running) => said(recorder.replays(running)),
-        HandleState::Kept(_) | HandleState::Lending(_) | HandleState::Lent(_) => NO_OTHER,
+        HandleState::Kept(_)
+        | HandleState::Lending(_)
+        | HandleState::Lent(_)
+        | HandleState::Card(_) => NO_OTHER,
     };
     other.put(state);
     answer

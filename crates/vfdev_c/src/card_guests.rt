@@ -1,0 +1,198 @@
+//! Guests of a card, and regions of their memories.
+ghost use Rattle.std.specs.Prelude.{◌≡◌, length};
+ghost use Rattle.card.specs.Card.{LeavesAlone};
+ghost use Rattle.vfdev_c.specs.CardCalls.{Attaches, Detaches, Maps, OnCard, OthersStay, Unmaps, reason_number};
+
+use crate::block::Block;
+use crate::card_held::CardHeld;
+use crate::handle::Vfdev;
+use crate::handle_state::HandleState;
+use mapped_memory::MapError;
+use spare_memory::NotMapped;
+use std::alloc::Global;
+use wire_frame::{Fault, PoolId};
+
+/// What a call answers where it was done.
+pub const DONE: u32 = 0;
+/// Where the handle leads to no card.
+pub const NO_CARD: u32 = 32;
+/// Where 64 regions are mapped already.
+pub const TOO_MANY: u32 = 33;
+/// Where no region begins at the address.
+pub const NOT_THERE: u32 = 34;
+/// Where a region passes the end of the guest's addresses.
+pub const PAST_END: u32 = 35;
+/// Where a region has an address of another.
+pub const OVERLAPS: u32 = 13;
+
+/// A guest comes to a vacant function.
+#[unsafe(no_mangle)]
+pub extern "C" fn vfdev_card_attach(alloc: Global, handle: &mut Vfdev, function: u8) -> u32
+    ensures called { OnCard 32 (Attaches function) handle.old.owner.held handle.new.owner.held result }
+    ensures others { OthersStay function handle.old.owner.held handle.new.owner.held }
+{
+    let Some(mut state) = handle.take(alloc) else {
+        return NO_CARD;
+    };
+    let answer = match &mut *state {
+        HandleState::Card(held) => held.attach(function),
+        HandleState::Lending(_)
+        | HandleState::Made(_)
+        | HandleState::Kept(_)
+        | HandleState::Lent(_) => NO_CARD,
+    };
+    handle.put(state);
+    answer
+}
+
+/// A guest goes.
+#[unsafe(no_mangle)]
+pub extern "C" fn vfdev_card_detach(alloc: Global, handle: &mut Vfdev, function: u8) -> u32
+    ensures called { OnCard 32 (Detaches function) handle.old.owner.held handle.new.owner.held result }
+    ensures others { OthersStay function handle.old.owner.held handle.new.owner.held }
+{
+    let Some(mut state) = handle.take(alloc) else {
+        return NO_CARD;
+    };
+    let answer = match &mut *state {
+        HandleState::Card(held) => held.detach(function),
+        HandleState::Lending(_)
+        | HandleState::Made(_)
+        | HandleState::Kept(_)
+        | HandleState::Lent(_) => NO_CARD,
+    };
+    handle.put(state);
+    answer
+}
+
+/// A block is memory of a function's guest from an address on.
+#[unsafe(no_mangle)]
+pub extern "C" fn vfdev_card_map(
+    alloc: Global,
+    handle: &mut Vfdev,
+    function: u8,
+    at: u64,
+    block: Block,
+    is_read_only: bool,
+) -> u32
+    ensures called { OnCard 32 (Maps function at (length block.bytes)) handle.old.owner.held handle.new.owner.held result }
+    ensures others { OthersStay function handle.old.owner.held handle.new.owner.held }
+{
+    let cells = block.into_cells();
+    let Some(mut state) = handle.take(alloc) else {
+        return NO_CARD;
+    };
+    let answer = match &mut *state {
+        HandleState::Card(held) => held.map(function, at, cells, is_read_only),
+        HandleState::Lending(_)
+        | HandleState::Made(_)
+        | HandleState::Kept(_)
+        | HandleState::Lent(_) => NO_CARD,
+    };
+    handle.put(state);
+    answer
+}
+
+/// The region that begins at an address is mapped no more.
+#[unsafe(no_mangle)]
+pub extern "C" fn vfdev_card_unmap(alloc: Global, handle: &mut Vfdev, function: u8, at: u64) -> u32
+    ensures called { OnCard 32 (Unmaps function) handle.old.owner.held handle.new.owner.held result }
+    ensures others { OthersStay function handle.old.owner.held handle.new.owner.held }
+{
+    let Some(mut state) = handle.take(alloc) else {
+        return NO_CARD;
+    };
+    let answer = match &mut *state {
+        HandleState::Card(held) => held.unmap(function, at),
+        HandleState::Lending(_)
+        | HandleState::Made(_)
+        | HandleState::Kept(_)
+        | HandleState::Lent(_) => NO_CARD,
+    };
+    handle.put(state);
+    answer
+}
+
+impl CardHeld {
+    // A guest comes.
+    #[tactic(auto, using(crate::proofs::CardLemmas::none_past))]
+    fn attach(&mut self, function: u8) -> u32
+        ensures called { Attaches function self.old self.new result }
+        ensures others { LeavesAlone function self.old.card self.new.card }
+    {
+        let Some(pool) = PoolId::new(function) else {
+            // the proof knows then that there are at most 64
+            let _functions = self.card.functions();
+            return u32::from(Fault::NoSuchVf.number());
+        };
+        match self.spares.attach(&mut self.card, pool) {
+            Ok(()) => DONE,
+            Err(fault) => u32::from(fault.number()),
+        }
+    }
+
+    // A guest goes.
+    fn detach(&mut self, function: u8) -> u32
+        ensures called { Detaches function self.old self.new result }
+        ensures others { LeavesAlone function self.old.card self.new.card }
+    {
+        let Some(pool) = PoolId::new(function) else {
+            return u32::from(Fault::NoSuchVf.number());
+        };
+        match self.spares.detach(&mut self.card, pool) {
+            Ok(()) => DONE,
+            Err(fault) => u32::from(fault.number()),
+        }
+    }
+
+    // A region comes.
+    #[tactic(auto, using(crate::proofs::CardLemmas::no_guest_past, crate::proofs::CardLemmas::map_answer, crate::proofs::CardLemmas::remapped_leaves, crate::proofs::CardLemmas::leaves_itself))]
+    fn map(&mut self, function: u8, at: u64, cells: &'static mut [u8], is_read_only: bool) -> u32
+        ensures called { Maps function at (length cells.old) self.old self.new result }
+        ensures others { LeavesAlone function self.old.card self.new.card }
+    {
+        let Some(pool) = PoolId::new(function) else {
+            let _functions = self.card.functions();
+            return u32::from(Fault::NoSuchVf.number());
+        };
+        match self
+            .spares
+            .map(&mut self.card, pool, at, cells, is_read_only)
+        {
+            Ok(()) => DONE,
+            Err(why) => number_of(why),
+        }
+    }
+
+    // A region goes.
+    #[tactic(auto, using(crate::proofs::CardLemmas::no_guest_past, crate::proofs::CardLemmas::unmap_answer, crate::proofs::CardLemmas::remapped_leaves, crate::proofs::CardLemmas::leaves_itself))]
+    fn unmap(&mut self, function: u8, at: u64) -> u32
+        ensures called { Unmaps function self.old self.new result }
+        ensures others { LeavesAlone function self.old.card self.new.card }
+    {
+        let Some(pool) = PoolId::new(function) else {
+            let _functions = self.card.functions();
+            return u32::from(Fault::NoSuchVf.number());
+        };
+        match self.spares.unmap(&mut self.card, pool, at) {
+            Ok(_) => DONE,
+            Err(why) => number_of(why),
+        }
+    }
+}
+
+// The number of a reason.
+fn number_of(why: NotMapped) -> u32
+    ensures { result ≡ reason_number why }
+{
+    match why {
+        NotMapped::NoSuchVf => u32::from(Fault::NoSuchVf.number()),
+        NotMapped::Vacant | NotMapped::Refused(MapError::NoBytes) => u32::from(
+            Fault::BadMake.number(),
+        ),
+        NotMapped::Refused(MapError::PastEnd) => PAST_END,
+        NotMapped::Refused(MapError::Overlaps) => OVERLAPS,
+        NotMapped::Refused(MapError::TooMany) => TOO_MANY,
+        NotMapped::NotThere => NOT_THERE,
+    }
+}

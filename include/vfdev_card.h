@@ -1,0 +1,211 @@
+/* vfdev_card: a whole network card for guests whose QEMU attaches by vfio-user.
+ *
+ * A card is the device of vfdev.h together with its host, which alone writes the physical function's registers and answers the drivers'
+ * mailboxes, and for each virtual function the end of the connection on which its client speaks: a session of vfio-user with its
+ * configuration space, which vectors have files, which transmit queues are busy, and which vectors wait to be signalled.
+ *
+ * It has no socket, no file and no memory of a guest's but what it is given. Around it stands a shell, as vfdev-server, which reads whole
+ * messages, maps files and writes eventfds. What is proved of the card is in docs/proof/CARD.md.
+ *
+ * The caller's obligations are those of vfdev.h: a handle begins as VFDEV_CARD_NONE, pointers lead to what their lengths say, one call at a
+ * time for one handle, which may go from thread to thread.
+ *
+ * No call takes memory but vfdev_card_make. No call blocks, prints or ends the process.
+ */
+#ifndef VFDEV_CARD_H
+#define VFDEV_CARD_H
+
+#include "vfdev.h"
+
+#ifdef __cplusplus
+extern "C" {
+#endif
+
+/* The room for a reply, in bytes: the longest that there is. */
+#define VFDEV_CARD_ROOM 4128u
+/* The longest message that a client may send, in bytes: a longer one ends its connection. A header is 16 bytes, and its size, a number of
+ * 32 bits in the byte order of the machine at offset 4, counts it too. */
+#define VFDEV_CARD_MESSAGE 4128u
+/* How many addresses a guest's memory has: 64 TiB. */
+#define VFDEV_CARD_SPACE (UINT64_C(1) << 46)
+/* How many regions of it may be mapped at once. */
+#define VFDEV_CARD_REGIONS 64u
+/* How many vectors a function has. */
+#define VFDEV_CARD_VECTORS 3u
+/* No function, where one may be named. */
+#define VFDEV_CARD_NOBODY 255u
+
+/* A handle. It is empty, or holds a card. */
+typedef struct vfdev_card {
+    bool live;
+    void *owner;
+} vfdev_card;
+/* An empty handle. */
+#define VFDEV_CARD_NONE { false, NULL }
+
+/* What the calls below answer beside the faults of vfdev.h. */
+enum vfdev_card_fault {
+    VFDEV_CARD_NO_CARD = 32,   /* the handle is empty */
+    VFDEV_CARD_TOO_MANY = 33,  /* 64 regions are mapped already */
+    VFDEV_CARD_NOT_THERE = 34, /* no region begins at that address */
+    VFDEV_CARD_PAST_END = 35   /* the region passes the end of the guest's addresses */
+};
+
+/* What is to be done with a message. */
+enum vfdev_card_step_kind {
+    VFDEV_STEP_ANSWERED = 0, /* nothing more than to send the reply, if there is one */
+    VFDEV_STEP_MAP = 1,      /* the file that came with the message is memory at these guest addresses */
+    VFDEV_STEP_UNMAP = 2,    /* there is no memory at these guest addresses any more; that there was none is no error */
+    VFDEV_STEP_ARM = 3,      /* the files that came with the message are those of these vectors, one for each in their order */
+    VFDEV_STEP_DISARM = 4,   /* these vectors have no file any more */
+    VFDEV_STEP_ENDS = 5,     /* the connection is to be closed, and its guest detached */
+    VFDEV_STEP_NO_CARD = 6,  /* the handle is empty; nothing was done */
+    VFDEV_STEP_NO_SUCH_VF = 7 /* the number is no function's, which are below 64; nothing was done */
+};
+
+/* Why a connection ends. */
+enum vfdev_card_breach {
+    VFDEV_BREACH_NO_HEADER = 1,      /* no header can be made out */
+    VFDEV_BREACH_WRONG_SIZE = 2,     /* the message isn't as long as its header says */
+    VFDEV_BREACH_NO_VERSION = 3,     /* the first message proposes no version */
+    VFDEV_BREACH_OTHER_VERSION = 4,  /* the major version isn't 0 */
+    VFDEV_BREACH_SECOND_VERSION = 5, /* a version is proposed a second time */
+    VFDEV_BREACH_STRAY_FILES = 6     /* files came with a version */
+};
+
+/* What a device may do with memory. */
+enum vfdev_card_access { VFDEV_ACCESS_READ = 1, VFDEV_ACCESS_WRITE = 2, VFDEV_ACCESS_BOTH = 3 };
+
+/* What a message came to. Fields that a kind doesn't name are 0. */
+typedef struct vfdev_card_step {
+    uint32_t kind;    /* an enum vfdev_card_step_kind */
+    uint32_t reply;   /* how many bytes of the room are the reply; 0 where the client wants none */
+    uint32_t access;  /* MAP: an enum vfdev_card_access */
+    uint32_t breach;  /* ENDS: an enum vfdev_card_breach */
+    uint64_t offset;  /* MAP: how many bytes of the file stand in front of the memory */
+    uint64_t address; /* MAP, UNMAP: the first guest address */
+    uint64_t size;    /* MAP, UNMAP: how many addresses there are */
+    uint32_t first;   /* ARM, DISARM: the first vector */
+    uint32_t count;   /* ARM, DISARM: how many */
+} vfdev_card_step;
+
+/* What the administrator grants a function. */
+typedef struct vfdev_card_policy {
+    uint8_t address[6];    /* its permanent address */
+    uint8_t may_choose;    /* 1: its driver may choose another address, and one more */
+    uint8_t all_multicast; /* 1: its driver may ask for all multicast */
+    uint8_t link_up;       /* 0: its driver is told that the link is down, and it neither receives nor sends */
+    uint8_t has_port;      /* 1: it has one VLAN, at place `port` of the ids, whose tag is inserted into each frame that it sends */
+    uint8_t port;          /* of has_port 1: the place */
+    uint64_t joins;        /* of has_port 0: the VLANs that its driver may join, bit k for place k of the ids */
+} vfdev_card_policy;
+
+/* Why a policy is not taken. */
+enum vfdev_card_refusal {
+    VFDEV_ADMITTED = 0,
+    VFDEV_NOT_UNICAST = 1,   /* its address is not one station's: it is a group's, or 0 */
+    VFDEV_ADDRESS_OWNED = 2, /* its address is the permanent one of another function */
+    VFDEV_NO_SUCH_PLACE = 3, /* the place of its port VLAN is none of the ids' */
+    VFDEV_ADMIT_NO_CARD = 4, /* the handle is empty */
+    VFDEV_ADMIT_NO_SUCH_VF = 5 /* the number is no function's, which are below 64 */
+};
+
+/* What came of a policy. */
+typedef struct vfdev_card_admission {
+    uint32_t refusal; /* an enum vfdev_card_refusal */
+    uint32_t loser;   /* the function that had chosen the address and lost it, or VFDEV_CARD_NOBODY; its driver learns of it by vfdev_card_flr */
+} vfdev_card_admission;
+
+/* What came of descriptors that were taken. */
+typedef struct vfdev_card_more_result {
+    size_t frames;    /* how many frames left for the wire: vfdev_card_frame has them until the next call of vfdev_card_more */
+    uint32_t goes_on; /* 1: a queue may have more, also where there was no room for more frames; the next call goes on with it */
+} vfdev_card_more_result;
+
+/* ---- makers */
+
+/* Makes a card of so many vacant functions, 1 to 64. Policies may name the VLAN ids by their places, at most 64 ids of 0 to 4095. Frames that
+ * nobody accepts go to the default function, a number below 64; they are dropped where it is VFDEV_CARD_NOBODY, or one that the card doesn't
+ * have. Frames have up to `limit` bytes, 1518 to 9018.
+ * VFDEV_HELD where the handle holds a card; VFDEV_BAD_MAKE exactly where a number is outside its limits; VFDEV_NO_MEMORY only where the host
+ * refused. Some 500 KB are taken, and 5 KB for each function. */
+VFDEV_LOOK uint32_t vfdev_card_make(vfdev_card *card, uint32_t functions, const uint16_t *ids, size_t ids_len, uint8_t default_function,
+                                    uint16_t limit);
+
+/* Frees what the handle holds. Blocks that were mapped are the caller's again. */
+void vfdev_card_free(vfdev_card *card);
+
+/* How many functions there are; 0 where the handle is empty. */
+uint32_t vfdev_card_functions(vfdev_card *card);
+
+/* ---- guests */
+
+/* A guest comes to a vacant function: no byte of its memory is mapped, its registers are initial, and its client has said nothing.
+ * VFDEV_NO_SUCH_VF, VFDEV_ALREADY_OPEN, VFDEV_CARD_NO_CARD. */
+VFDEV_LOOK uint32_t vfdev_card_attach(vfdev_card *card, uint8_t function);
+
+/* A guest goes: nothing of it or of its client is left, and the blocks that were mapped are the caller's again.
+ * VFDEV_NO_SUCH_VF, VFDEV_NOT_OPEN where it is vacant, VFDEV_CARD_NO_CARD. */
+VFDEV_LOOK uint32_t vfdev_card_detach(vfdev_card *card, uint8_t function);
+
+/* The block is memory of the function's guest from the address on: the order VFDEV_STEP_MAP. It stays mapped until vfdev_card_unmap,
+ * vfdev_card_detach or vfdev_card_free, and its guest may read and write it at any time. Writes to a read-only one are dropped.
+ * VFDEV_NO_SUCH_VF; VFDEV_BAD_MAKE where the function is vacant, or the block is empty; VFDEV_CARD_PAST_END; VFDEV_OVERLAPS where a region has
+ * one of these guest addresses; VFDEV_CARD_TOO_MANY; VFDEV_CARD_NO_CARD. Then nothing is mapped. */
+VFDEV_LOOK uint32_t vfdev_card_map(vfdev_card *card, uint8_t function, uint64_t at, vfdev_block block, bool read_only);
+
+/* The region that begins at the address is mapped no more. VFDEV_NO_SUCH_VF; VFDEV_BAD_MAKE where the function is vacant;
+ * VFDEV_CARD_NOT_THERE; VFDEV_CARD_NO_CARD. */
+VFDEV_LOOK uint32_t vfdev_card_unmap(vfdev_card *card, uint8_t function, uint64_t at);
+
+/* ---- messages */
+
+/* A whole message of a function's client, with the number of files that came beside it. Registers are read and written before the call
+ * returns. The reply is laid at the front of the room, and the rest of the room stays as it was.
+ *
+ * The reply is the one that the client gets once the order is done: the shell does the order first, and where it can't, it closes the
+ * connection in place of sending it. Files that no order names are to be closed. No descriptor is taken: vfdev_card_more takes them. */
+void vfdev_card_receive(vfdev_card *card, uint8_t function, const uint8_t *message, size_t len, size_t files, uint8_t room[VFDEV_CARD_ROOM],
+                        vfdev_card_step *step);
+
+/* ---- frames and interrupts */
+
+/* Takes descriptors of a function's busy transmit queues, 128 of each at most. */
+VFDEV_LOOK vfdev_card_more_result vfdev_card_more(vfdev_card *card, uint8_t function);
+
+/* The frame of that number, of those that left at the last vfdev_card_more: its length, and its bytes at the front of `out`. 0 where there is
+ * none, or `out` is shorter. */
+VFDEV_LOOK size_t vfdev_card_frame(vfdev_card *card, uint32_t number, uint8_t *out, size_t out_len);
+
+/* Whether a transmit queue of the function may have descriptors that were not taken. */
+bool vfdev_card_is_busy(vfdev_card *card, uint8_t function);
+
+/* A frame comes from the wire. VFDEV_DONE; VFDEV_REFUSED with VFDEV_BAD_FRAME; VFDEV_NO_DEVICE where the handle is empty. */
+vfdev_reply vfdev_card_wire(vfdev_card *card, const uint8_t *frame, size_t len);
+
+/* The functions that have vectors which were raised and not handed out: bit p for function p. */
+uint64_t vfdev_card_raised(vfdev_card *card);
+
+/* Hands out the vectors of a function that were raised since the last time and have a file: bit v for vector v. */
+uint32_t vfdev_card_signal(vfdev_card *card, uint8_t function);
+
+/* ---- the administrator */
+
+/* Gives a function a policy, its first or another one. What the new one doesn't grant goes. Where it is refused nothing changes. */
+VFDEV_LOOK vfdev_card_admission vfdev_card_admit(vfdev_card *card, uint8_t function, const vfdev_card_policy *policy);
+
+/* Takes its policy away: it neither receives nor sends. VFDEV_OK, VFDEV_NO_SUCH_VF, VFDEV_CARD_NO_CARD. */
+uint32_t vfdev_card_dismiss(vfdev_card *card, uint8_t function);
+
+/* Puts the host's own message into a function's mailbox, so that its driver asks anew. 1: it stands there; 0: the driver has the mailbox, so
+ * that it is to be given again later, or the number is no function's, or there is no card. */
+uint32_t vfdev_card_notify(vfdev_card *card, uint8_t function);
+
+/* Resets a function from outside (function-level reset); its driver is told. VFDEV_OK, VFDEV_NO_SUCH_VF, VFDEV_CARD_NO_CARD. */
+uint32_t vfdev_card_flr(vfdev_card *card, uint8_t function);
+
+#ifdef __cplusplus
+}
+#endif
+
+#endif

@@ -5,15 +5,14 @@
  *   LD_BIND_NOW=1 ./embed
  *
  * The word `own` lets the device be over memories of the archive's own, and `kept` lets its calls be kept besides. */
+#include "measure.h"
 #include "vfdev.h"
 #include "vfdev_regs.h"
 #include <stdio.h>
 #include <stdlib.h>
 #include <string.h>
-#include <time.h>
-#include <ucontext.h>
 
-enum { CALLS = 2000, ROUNDS = 2000, MEMORY = 65536, FRAME = 60, STACK = 1 << 18 };
+enum { ROUNDS = 2000, MEMORY = 65536, FRAME = 60 };
 /* So many rounds of two calls fit into a history of the most calls, beside those of the setup; so many histories are filled. */
 enum { KEPT_ROUNDS = 16, HISTORIES = 40 };
 
@@ -21,9 +20,7 @@ static enum { LENT, OWN, KEPT } how;
 
 static uint8_t memory[2][MEMORY];
 static uint8_t messages[VFDEV_POOLS], out[VFDEV_MOST_FRAME], bytes[16], frame[FRAME];
-static uint8_t stack[STACK] __attribute__((aligned(64)));
 static vfdev device = VFDEV_NONE;
-static ucontext_t here, there;
 static size_t left;
 static uint32_t turn;
 static vfdev_reply last;
@@ -35,7 +32,6 @@ static void vf(uint8_t function, uint32_t offset, uint32_t value)
 
 /* ---- the calls, and what has to come before each so that it does its work */
 
-static void nothing(void) {}
 static void vf_read(void) { last = vfdev_vf_read(&device, 0, 8); }
 static void vf_write(void) { vf(0, VFDEV_VTEIMS, 1); }
 static void pf_read(void) { last = vfdev_pf_read(&device, VFDEV_PFVFRE(0)); }
@@ -46,11 +42,7 @@ static void wire(void) { vfdev_wire(&device, frame, FRAME, messages, sizeof mess
 static void more_frames(void) { vf(1, VFDEV_TDT(0), ++turn & 7); }
 static void serve(void) { last = vfdev_serve(&device, 1, 0, out, sizeof out, &left, messages, sizeof messages); }
 
-static const struct workload {
-    const char *name;
-    void (*before)(void);
-    void (*call)(void);
-} WORKLOADS[] = {
+static const struct workload WORKLOADS[] = {
     {"register read of a function", nothing, vf_read},
     {"register write of a function", nothing, vf_write},
     {"register read of the physical function", nothing, pf_read},
@@ -59,30 +51,6 @@ static const struct workload {
     {"frame of 60 bytes from the wire to a guest", more_buffers, wire},
     {"service that sends 60 bytes to the wire", more_frames, serve},
 };
-
-static double now(void)
-{
-    struct timespec t;
-    clock_gettime(CLOCK_MONOTONIC, &t);
-    return (double)t.tv_sec * 1e9 + (double)t.tv_nsec;
-}
-
-/* The shortest round, a call. */
-static double shortest_of(int rounds, void (*first)(void), void (*second)(void))
-{
-    double best = 1e9;
-    for (int round = 0; round < rounds; round++) {
-        double start = now();
-        for (int i = 0; i < CALLS; i++) {
-            first();
-            second();
-        }
-        double took = (now() - start) / CALLS;
-        if (took < best)
-            best = took;
-    }
-    return best;
-}
 
 static void set_up(void);
 
@@ -99,22 +67,6 @@ static double shortest(void (*first)(void), void (*second)(void))
             best = took;
     }
     return best;
-}
-
-/* How much of a fresh stack a call writes. */
-static size_t stack_of(void (*call)(void))
-{
-    memset(stack, 0xa5, sizeof stack);
-    getcontext(&there);
-    there.uc_stack.ss_sp = stack;
-    there.uc_stack.ss_size = sizeof stack;
-    there.uc_link = &here;
-    makecontext(&there, call, 0);
-    swapcontext(&here, &there);
-    size_t blank = 0;
-    while (blank < sizeof stack && stack[blank] == 0xa5)
-        blank++;
-    return sizeof stack - blank;
 }
 
 static void must(enum vfdev_fault answer)

@@ -16,18 +16,9 @@
  *     but the device could have written there.
  * At the end it prints how often what came up, on one line, and wants a least number of each. It ends with 0 where all is well. */
 #define _GNU_SOURCE
+#include "stress.h"
 #include "vfdev.h"
 #include "vfdev_regs.h"
-
-#include <inttypes.h>
-#include <pthread.h>
-#include <stdatomic.h>
-#include <stdio.h>
-#include <stdlib.h>
-#include <string.h>
-#include <sys/mman.h>
-#include <time.h>
-#include <unistd.h>
 
 enum {
     OPEN = 3,       /* functions that are opened */
@@ -38,7 +29,6 @@ enum {
     SENDS = 0x000,  /* the ring of transmit descriptors */
     RECEIVES = 0x80, /* the ring of receive descriptors */
     KEPT = 0x3000,  /* of function 2, what nobody writes from here to the end */
-    PATTERN = 0xA5,
     PORT_TAG = 5
 };
 
@@ -46,56 +36,17 @@ enum {
 static const uint32_t frames[] = {0x100, 0x180, 0x200, 0x800};
 static const uint32_t buffers[] = {0x1000, 0x1400, 0x1800, 0x1C00};
 
-#define COUNT(array) (sizeof(array) / sizeof *(array))
-#define WANT(holds) want(__LINE__, (holds), #holds)
-
 static vfdev device = VFDEV_NONE;
 static uint8_t *block[BLOCKS];
 static bool is_open[BLOCKS];
 static uint8_t messages[VFDEV_POOLS + 8];
 static uint8_t out[VFDEV_MOST_FRAME + 64];
-static atomic_bool is_over;
 
-/* What came up: replies by their kinds, frames that left, calls with messages, frames that the wire gave, and calls. */
+/* What came up: replies by their kinds, frames that left, calls with messages, and frames that the wire gave. */
 static uint64_t kinds[VFDEV_HISTORY_FULL + 1];
-static uint64_t left_count, messages_count, wire_count, calls;
-
-static void want(int line, bool holds, const char *what)
-{
-    if (!holds) {
-        fprintf(stderr, "stress.c:%d: after %" PRIu64 " calls not so: %s\n", line, calls, what);
-        exit(1);
-    }
-}
-
-/* The next number of a source (xorshift64). */
-static uint64_t next(uint64_t *state)
-{
-    *state ^= *state << 13;
-    *state ^= *state >> 7;
-    *state ^= *state << 17;
-    return *state >> 8;
-}
-
-static uint32_t below(uint64_t *state, uint32_t bound)
-{
-    return (uint32_t)(next(state) % bound);
-}
+static uint64_t left_count, messages_count, wire_count;
 
 /* ---- the guests' processors ---------------------------------------------------------------------------------------- */
-
-/* Writes a byte as another processor does: one store, whatever else goes on. */
-static void store(uint8_t *at, uint64_t byte)
-{
-    __atomic_store_n(at, (uint8_t)byte, __ATOMIC_RELAXED);
-}
-
-/* Writes a number of 8 bytes, lowest first. */
-static void store_word(uint8_t *at, uint64_t word)
-{
-    for (unsigned i = 0; i < 8; i++)
-        store(at + i, word >> (8 * i));
-}
 
 /* The last byte of a source: the function's own, or another's. */
 static unsigned source_of(uint64_t *chance, unsigned guest)
@@ -168,42 +119,7 @@ static void scribble(uint64_t *chance, unsigned guest)
         store(block[guest] + SENDS + below(chance, 16 * SLOTS), next(chance));
 }
 
-/* A thread: what it does all the time, to one open function and then to another. */
-struct writer {
-    pthread_t thread;
-    void (*write)(uint64_t *chance, unsigned guest);
-    uint64_t chance;
-    uint64_t writes;
-};
-
-static void *write_on(void *of)
-{
-    struct writer *writer = of;
-    while (!atomic_load_explicit(&is_over, memory_order_relaxed)) {
-        writer->write(&writer->chance, below(&writer->chance, OPEN));
-        writer->writes++;
-    }
-    return NULL;
-}
-
 /* ---- the host ------------------------------------------------------------------------------------------------------ */
-
-/* A block between two pages that nobody may touch. */
-static uint8_t *guarded(void)
-{
-    size_t page = (size_t)sysconf(_SC_PAGESIZE);
-    WANT(MEMORY % page == 0);
-    uint8_t *all = mmap(NULL, MEMORY + 2 * page, PROT_NONE, MAP_PRIVATE | MAP_ANONYMOUS, -1, 0);
-    WANT(all != MAP_FAILED);
-    WANT(mprotect(all + page, MEMORY, PROT_READ | PROT_WRITE) == 0);
-    return all + page;
-}
-
-/* Whether so many bytes are all the pattern. */
-static bool is_pattern(const uint8_t *bytes, size_t count)
-{
-    return count == 0 || (bytes[0] == PATTERN && memcmp(bytes, bytes + 1, count - 1) == 0);
-}
 
 static void pf(uint32_t offset, uint32_t value)
 {
@@ -290,7 +206,7 @@ static void set_up(void)
 {
     WANT(vfdev_version() == VFDEV_VERSION);
     for (unsigned guest = 0; guest < BLOCKS; guest++) {
-        block[guest] = guarded();
+        block[guest] = guarded(MEMORY);
         memset(block[guest], PATTERN, MEMORY);
         WANT(vfdev_lend(&device, (vfdev_block){block[guest], MEMORY}) == VFDEV_OK);
     }
@@ -421,13 +337,6 @@ static void event(uint64_t *chance)
 
 /* ---- the run ------------------------------------------------------------------------------------------------------- */
 
-static double seconds(void)
-{
-    struct timespec now;
-    WANT(clock_gettime(CLOCK_MONOTONIC, &now) == 0);
-    return (double)now.tv_sec + (double)now.tv_nsec / 1e9;
-}
-
 /* Prints how often what came up, and wants a least number of each: one in a thousand calls, of which there are 10,000 at least. */
 static void report(double began, const struct writer *writers, size_t count)
 {
@@ -456,7 +365,7 @@ int main(int count, char **words)
         return 2;
     }
     uint64_t most = strtoull(words[2], NULL, 10), chance = 88172645463325252u;
-    struct writer writers[] = {{.write = forge, .chance = 1}, {.write = describe, .chance = 2}, {.write = scribble, .chance = 3}};
+    struct writer writers[] = {{.guests = OPEN, .write = forge, .chance = 1}, {.guests = OPEN, .write = describe, .chance = 2}, {.guests = OPEN, .write = scribble, .chance = 3}};
     set_up();
     for (size_t at = 0; at < COUNT(writers); at++)
         WANT(pthread_create(&writers[at].thread, NULL, write_on, &writers[at]) == 0);

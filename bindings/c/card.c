@@ -1,0 +1,186 @@
+/* The calls of vfdev_card.h, by numbers worked out by hand: makers and freeing, guests and their regions, messages of a client, frames, and
+ * policies. It writes nothing, and ends with 0, where all is as it should be. */
+#include "client.h"
+
+static uint8_t memory[0x3000], other[0x3000], frame[VFDEV_MOST_FRAME];
+static const uint16_t ids[] = {0, 7};
+
+static void makers(vfdev_card *card)
+{
+    const uint16_t past[] = {4096};
+    EQUAL(vfdev_card_functions(card), 0);
+    EQUAL(vfdev_card_make(card, 0, ids, 2, VFDEV_CARD_NOBODY, 1518), VFDEV_BAD_MAKE);
+    EQUAL(vfdev_card_make(card, 65, ids, 2, VFDEV_CARD_NOBODY, 1518), VFDEV_BAD_MAKE);
+    EQUAL(vfdev_card_make(card, 2, past, 1, VFDEV_CARD_NOBODY, 1518), VFDEV_BAD_MAKE);
+    EQUAL(vfdev_card_make(card, 2, ids, 2, 64, 1518), VFDEV_BAD_MAKE);
+    EQUAL(vfdev_card_make(card, 2, ids, 2, VFDEV_CARD_NOBODY, 1517), VFDEV_BAD_MAKE);
+    EQUAL(vfdev_card_attach(card, 0), VFDEV_CARD_NO_CARD);
+    EQUAL(say(card, 0, version, 0).kind, VFDEV_STEP_NO_CARD);
+    EQUAL(vfdev_card_make(card, 2, ids, 2, VFDEV_CARD_NOBODY, 1518), VFDEV_OK);
+    EQUAL(vfdev_card_make(card, 2, ids, 2, VFDEV_CARD_NOBODY, 1518), VFDEV_HELD);
+    EQUAL(vfdev_card_functions(card), 2);
+}
+
+static void guests(vfdev_card *card)
+{
+    const vfdev_block block = {memory, sizeof memory}, none = {memory, 0};
+    EQUAL(vfdev_card_attach(card, 2), VFDEV_NO_SUCH_VF);
+    EQUAL(vfdev_card_attach(card, 64), VFDEV_NO_SUCH_VF);
+    EQUAL(vfdev_card_detach(card, 0), VFDEV_NOT_OPEN);
+    EQUAL(vfdev_card_map(card, 0, 0, block, false), VFDEV_BAD_MAKE);
+    EQUAL(vfdev_card_attach(card, 0), VFDEV_OK);
+    EQUAL(vfdev_card_attach(card, 0), VFDEV_ALREADY_OPEN);
+    EQUAL(vfdev_card_map(card, 0, 0, none, false), VFDEV_BAD_MAKE);
+    EQUAL(vfdev_card_map(card, 0, VFDEV_CARD_SPACE, block, false), VFDEV_CARD_PAST_END);
+    EQUAL(vfdev_card_map(card, 0, 0x1000, block, false), VFDEV_OK);
+    EQUAL(vfdev_card_map(card, 0, 0x3FFF, block, false), VFDEV_OVERLAPS);
+    EQUAL(vfdev_card_unmap(card, 0, 0x2000), VFDEV_CARD_NOT_THERE);
+    EQUAL(vfdev_card_unmap(card, 0, 0x1000), VFDEV_OK);
+    EQUAL(vfdev_card_map(card, 0, 0, block, false), VFDEV_OK);
+}
+
+static void policies(vfdev_card *card)
+{
+    vfdev_card_policy first = policy(1), group = policy(2), placed = policy(2);
+    group.address[0] = 3;
+    placed.has_port = 1;
+    placed.port = 2;
+    EQUAL(vfdev_card_admit(card, 64, &first).refusal, VFDEV_ADMIT_NO_SUCH_VF);
+    EQUAL(vfdev_card_admit(card, 0, &first).refusal, VFDEV_ADMITTED);
+    EQUAL(vfdev_card_admit(card, 1, &first).refusal, VFDEV_ADDRESS_OWNED);
+    EQUAL(vfdev_card_admit(card, 1, &group).refusal, VFDEV_NOT_UNICAST);
+    EQUAL(vfdev_card_admit(card, 1, &placed).refusal, VFDEV_NO_SUCH_PLACE);
+    EQUAL(vfdev_card_admit(card, 1, &(vfdev_card_policy){.address = {2}}).loser, VFDEV_CARD_NOBODY);
+    EQUAL(vfdev_card_dismiss(card, 1), VFDEV_OK);
+    EQUAL(vfdev_card_dismiss(card, 64), VFDEV_NO_SUCH_VF);
+}
+
+/* A client: a version, memory that the shell maps, vectors with files; what has no header ends the connection. */
+static void client(vfdev_card *card)
+{
+    uint8_t map[48] = {7, 0, 2, 0, 48}, arm[36] = {7, 0, 8, 0, 36};
+    vfdev_card_step step = say(card, 0, version, 0);
+    EQUAL(step.kind, VFDEV_STEP_ANSWERED);
+    EQUAL(step.reply, 114);
+    EQUAL(room[114], 0xA5);
+    map[16] = 32;
+    map[20] = 1;
+    map[25] = 0x10; /* offset 0x1000 */
+    map[34] = 1;    /* address 0x10000 */
+    map[41] = 0x20; /* size 0x2000 */
+    step = say(card, 0, map, 1);
+    EQUAL(step.kind, VFDEV_STEP_MAP);
+    EQUAL(step.reply, 16);
+    EQUAL(step.access, VFDEV_ACCESS_READ);
+    EQUAL(step.offset, 0x1000);
+    EQUAL(step.address, 0x10000);
+    EQUAL(step.size, 0x2000);
+    arm[16] = 20;
+    arm[20] = 0x24;
+    arm[24] = 2;
+    arm[32] = 2;
+    step = say(card, 0, arm, 2);
+    EQUAL(step.kind, VFDEV_STEP_ARM);
+    EQUAL(step.first, 0);
+    EQUAL(step.count, 2);
+    step = say(card, 0, version, 0);
+    EQUAL(step.kind, VFDEV_STEP_ENDS);
+    EQUAL(step.breach, VFDEV_BREACH_SECOND_VERSION);
+    EQUAL(say(card, 64, map, 0).kind, VFDEV_STEP_NO_SUCH_VF);
+}
+
+/* Function 1 has a guest too, which receives into one buffer, and gets vector 0 for it: function 0 sends it a frame. */
+static void guest_to_guest(vfdev_card *card)
+{
+    const vfdev_card_policy second = policy(2);
+    const uint32_t driver[][2] = {{0x200, 1},      {0x2FC, 4},          {0x2FC, 1},          {0x120, 0x80}, {0x108, 1}, {0x1000, 0x1000},
+                                  {0x1008, 128},   {0x1014, 0x2000002}, {0x1028, 0x2000000}, {0x1018, 1}};
+    const uint8_t arm[36] = {7, 0, 8, 0, 36, [16] = 20, [20] = 0x24, [24] = 2, [32] = 1};
+    const uint8_t sent[16] = {0, 0x20, [8] = 60, [10] = 0x30, 0x29};
+
+    EQUAL(vfdev_card_admit(card, 1, &second).refusal, VFDEV_ADMITTED);
+    EQUAL(vfdev_card_attach(card, 1), VFDEV_OK);
+    EQUAL(vfdev_card_map(card, 1, 0, (vfdev_block){other, sizeof other}, false), VFDEV_OK);
+    say(card, 1, version, 0);
+    EQUAL(say(card, 1, arm, 1).kind, VFDEV_STEP_ARM);
+    other[0x1001] = 0x28;
+    for (size_t at = 0; at < sizeof driver / sizeof *driver; at++) {
+        write_register(card, 1, driver[at][0], driver[at][1]);
+    }
+    memcpy(memory + 0x1110, sent, sizeof sent);
+    memcpy(memory + 0x2000, (uint8_t[6]){0x02, 0x82, 0x59, 0, 0, 2}, 6);
+    memory[0x203B] = 0x77;
+    write_register(card, 0, 0x2018, 2);
+    EQUAL(vfdev_card_more(card, 0).frames, 0);
+    EQUAL(vfdev_card_raised(card), 2);
+    EQUAL(vfdev_card_signal(card, 1), 1);
+    EQUAL(other[0x2805], 2);
+    EQUAL(other[0x283B], 0x77);
+    EQUAL(other[0x100C], 60);
+}
+
+/* A driver that the host answers sends a frame, which leaves, and gets one; vector 1 tells of it, once. */
+static void frames(vfdev_card *card)
+{
+    const uint8_t arm[36] = {7, 0, 8, 0, 36, [16] = 20, [20] = 0x24, [24] = 2, [32] = 2};
+    const uint32_t driver[][2] = {{0x200, 1},      {0x2FC, 4},    {0x2FC, 1},  {0x120, 0x81}, {0x108, 2},    {0x1000, 0x1000},
+                                  {0x1008, 128},   {0x1014, 0x2000002}, {0x1028, 0x2000000}, {0x1018, 1},
+                                  {0x2000, 0x1100}, {0x2008, 128}, {0x2028, 0x2000000}, {0x2018, 1}};
+    const uint8_t sent[16] = {0, 0x20, [8] = 60, [10] = 0x30, 0x29};
+    vfdev_card_more_result more;
+    vfdev_reply reply;
+
+    say(card, 0, version, 0);
+    EQUAL(say(card, 0, arm, 2).kind, VFDEV_STEP_ARM);
+    memset(memory, 0, sizeof memory);
+    memory[0x1001] = 0x28;
+    memcpy(memory + 0x1100, sent, sizeof sent);
+    memcpy(memory + 0x2000, (uint8_t[14]){2, 0, 0, 0, 0, 9, 0x02, 0x82, 0x59, 0, 0, 1, 8, 0}, 14);
+    EQUAL(vfdev_card_is_busy(card, 0), 0);
+    for (size_t at = 0; at < sizeof driver / sizeof *driver; at++) {
+        write_register(card, 0, driver[at][0], driver[at][1]);
+    }
+    EQUAL(read_register(card, 0, 0x200), 0x80000001);
+    EQUAL(vfdev_card_is_busy(card, 0), 1);
+    more = vfdev_card_more(card, 0);
+    EQUAL(more.frames, 1);
+    EQUAL(more.goes_on, 0);
+    EQUAL(vfdev_card_frame(card, 0, frame, 59), 0);
+    EQUAL(vfdev_card_frame(card, 0, frame, sizeof frame), 60);
+    EQUAL(frame[5], 9);
+    EQUAL(vfdev_card_frame(card, 1, frame, sizeof frame), 0);
+    reply = vfdev_card_wire(card, frame, 13);
+    EQUAL(reply.kind, VFDEV_REFUSED);
+    EQUAL(reply.value, VFDEV_BAD_FRAME);
+    memset(frame, 0xFF, 6);
+    EQUAL(vfdev_card_wire(card, frame, 60).kind, VFDEV_DONE);
+    EQUAL(vfdev_card_raised(card), 1);
+    EQUAL(vfdev_card_signal(card, 0), 2);
+    EQUAL(vfdev_card_signal(card, 0), 0);
+    EQUAL(memory[0x2800], 0xFF);
+    EQUAL(memory[0x100C], 60);
+}
+
+int main(void)
+{
+    vfdev_card card = VFDEV_CARD_NONE;
+    makers(&card);
+    guests(&card);
+    policies(&card);
+    client(&card);
+    frames(&card);
+    guest_to_guest(&card);
+    /* the host's message waits until the driver has looked at its mailbox */
+    EQUAL(vfdev_card_notify(&card, 0), 0);
+    EQUAL(read_register(&card, 0, 0x2FC) & 0x10, 0x10);
+    EQUAL(vfdev_card_notify(&card, 0), 1);
+    EQUAL(vfdev_card_flr(&card, 0), VFDEV_OK);
+    EQUAL(read_register(&card, 0, 0x200), 0x40000100);
+    EQUAL(vfdev_card_detach(&card, 0), VFDEV_OK);
+    EQUAL(vfdev_card_attach(&card, 0), VFDEV_OK);
+    vfdev_card_free(&card);
+    EQUAL(vfdev_card_flr(&card, 0), VFDEV_CARD_NO_CARD);
+    EQUAL(vfdev_card_wire(&card, frame, 60).kind, VFDEV_NO_DEVICE);
+    vfdev_card_free(&card);
+    return 0;
+}

@@ -1,5 +1,5 @@
 //! Links the archive: `VFDEV_NATIVE` names its folder, seen from the folder of the crate. Where it is unset, `lib` of an unpacked release has
-//! it, or `bindings/native` of a clone. An installed vfdev and a release have one archive, `libvfdev.a`; a clone has its two parts.
+//! it, or `bindings/native` of a clone. An installed vfdev and a release have one archive, `libvfdev.a`; a clone has its parts.
 use std::env;
 use std::path::PathBuf;
 

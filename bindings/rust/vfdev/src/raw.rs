@@ -1,5 +1,5 @@
-//! The functions of the archive, as `include/vfdev.h` declares them. No tool compares these declarations with the archive: they are read
-//! and tested.
+//! The functions of the archives, as `include/vfdev.h` and `include/vfdev_card.h` declare them. No tool compares these declarations with
+//! the archives: they are read and tested.
 
 /// What C holds of a device.
 #[repr(C)]
@@ -30,6 +30,65 @@ pub struct Block {
 pub struct Reply {
     pub kind: u32,
     pub value: u32,
+}
+
+/// What C holds of a card.
+#[repr(C)]
+#[derive(Debug)]
+pub struct VfdevCard {
+    live: bool,
+    owner: *mut u8,
+}
+
+impl VfdevCard {
+    /// It leads to nothing.
+    pub const NONE: VfdevCard = VfdevCard {
+        live: false,
+        owner: std::ptr::null_mut(),
+    };
+}
+
+/// What a message came to.
+#[repr(C)]
+#[derive(Clone, Copy, Default)]
+pub struct CardStep {
+    pub kind: u32,
+    pub reply: u32,
+    pub access: u32,
+    pub breach: u32,
+    pub offset: u64,
+    pub address: u64,
+    pub size: u64,
+    pub first: u32,
+    pub count: u32,
+}
+
+/// What the administrator grants a function.
+#[repr(C)]
+pub struct CardPolicy {
+    pub address: [u8; 6],
+    pub may_choose: u8,
+    pub all_multicast: u8,
+    pub link_up: u8,
+    pub has_port: u8,
+    pub port: u8,
+    pub joins: u64,
+}
+
+/// What came of a policy.
+#[repr(C)]
+#[derive(Clone, Copy)]
+pub struct CardAdmission {
+    pub refusal: u32,
+    pub loser: u32,
+}
+
+/// What came of descriptors that were taken.
+#[repr(C)]
+#[derive(Clone, Copy)]
+pub struct CardMore {
+    pub frames: usize,
+    pub goes_on: u32,
 }
 
 extern "C" {
@@ -87,4 +146,44 @@ extern "C" {
     ) -> Reply;
     pub fn vfdev_kept(d: &mut Vfdev) -> usize;
     pub fn vfdev_replay(d: &mut Vfdev, other: &mut Vfdev) -> u32;
+
+    pub fn vfdev_card_make(
+        c: &mut VfdevCard,
+        functions: u32,
+        ids: *const u16,
+        ids_len: usize,
+        default_function: u8,
+        limit: u16,
+    ) -> u32;
+    pub fn vfdev_card_free(c: &mut VfdevCard);
+    pub fn vfdev_card_functions(c: &mut VfdevCard) -> u32;
+    pub fn vfdev_card_attach(c: &mut VfdevCard, function: u8) -> u32;
+    pub fn vfdev_card_detach(c: &mut VfdevCard, function: u8) -> u32;
+    pub fn vfdev_card_map(
+        c: &mut VfdevCard,
+        function: u8,
+        at: u64,
+        block: Block,
+        read_only: bool,
+    ) -> u32;
+    pub fn vfdev_card_unmap(c: &mut VfdevCard, function: u8, at: u64) -> u32;
+    pub fn vfdev_card_receive(
+        c: &mut VfdevCard,
+        function: u8,
+        message: *const u8,
+        len: usize,
+        files: usize,
+        room: &mut [u8; 4128],
+        step: &mut CardStep,
+    );
+    pub fn vfdev_card_more(c: &mut VfdevCard, function: u8) -> CardMore;
+    pub fn vfdev_card_frame(c: &mut VfdevCard, number: u32, out: *mut u8, out_len: usize) -> usize;
+    pub fn vfdev_card_is_busy(c: &mut VfdevCard, function: u8) -> bool;
+    pub fn vfdev_card_wire(c: &mut VfdevCard, frame: *const u8, len: usize) -> Reply;
+    pub fn vfdev_card_raised(c: &mut VfdevCard) -> u64;
+    pub fn vfdev_card_signal(c: &mut VfdevCard, function: u8) -> u32;
+    pub fn vfdev_card_admit(c: &mut VfdevCard, function: u8, policy: &CardPolicy) -> CardAdmission;
+    pub fn vfdev_card_dismiss(c: &mut VfdevCard, function: u8) -> u32;
+    pub fn vfdev_card_notify(c: &mut VfdevCard, function: u8) -> u32;
+    pub fn vfdev_card_flr(c: &mut VfdevCard, function: u8) -> u32;
 }

@@ -1,0 +1,215 @@
+//! Random and mutated sessions on some sockets, while two guests on others go on: nothing of theirs changes, and the program keeps nothing.
+//! It lasts a second, or as many as VFDEV_FUZZ_SECONDS says.
+
+use crate::client::{map_body, message, words, Client, READ, REGION_READ, REGION_WRITE, WRITE};
+use crate::driver::Guest;
+use crate::os::{self, Memory};
+use crate::program::{wait_until, Server};
+use std::fs::{self, File};
+use std::io::{ErrorKind, Read};
+use std::os::fd::{AsFd, BorrowedFd, OwnedFd};
+use std::sync::atomic::{AtomicBool, AtomicU64, Ordering};
+use std::time::{Duration, Instant};
+
+// Numbers by chance, the same in each run.
+struct Chance(u64);
+
+impl Chance {
+    fn below(&mut self, most: u64) -> u64 {
+        self.0 = self.0.wrapping_mul(6_364_136_223_846_793_005);
+        self.0 = self.0.wrapping_add(1_442_695_040_888_963_407);
+        (self.0 >> 33) % most
+    }
+
+    fn is_one_in(&mut self, count: u64) -> bool {
+        self.below(count) == 0
+    }
+
+    fn pick<'a, T>(&mut self, all: &'a [T]) -> &'a T {
+        &all[self.below(all.len() as u64) as usize]
+    }
+}
+
+// What can come beside a message.
+struct Files {
+    memories: Vec<Memory>,
+    event: OwnedFd,
+    stray: File,
+}
+
+impl Files {
+    fn new() -> Files {
+        let seals = [libc::F_SEAL_SHRINK, libc::F_SEAL_SHRINK, libc::F_SEAL_GROW];
+        Files {
+            memories: seals.map(|seals| Memory::sealed(1 << 20, seals)).into(),
+            event: os::eventfd(),
+            stray: File::open("/dev/null").expect("a file"),
+        }
+    }
+
+    // Some of them: as many as the command wants, most times.
+    fn some(&self, chance: &mut Chance, command: u16) -> Vec<BorrowedFd<'_>> {
+        let due = match command {
+            2 => 1,
+            8 => chance.below(4),
+            _ => 0,
+        };
+        let count = match chance.is_one_in(32) {
+            true => chance.below(12),
+            false => due,
+        };
+        let one = |chance: &mut Chance| match chance.below(64) {
+            0 => self.stray.as_fd(),
+            _ if command == 8 => self.event.as_fd(),
+            _ => chance.pick(&self.memories).file.as_fd(),
+        };
+        (0..count).map(|_| one(chance)).collect()
+    }
+}
+
+// The body of a command, as a client could say it.
+fn body(chance: &mut Chance, command: u16) -> Vec<u8> {
+    let page = |chance: &mut Chance, most| 4096 * chance.below(most);
+    let offset = 4 * chance.below(0x1000) as u32;
+    match command {
+        1 => vec![0; 4],
+        2 => {
+            let flags = *chance.pick(&[READ, READ | WRITE, READ | WRITE]);
+            let (offset, address) = (page(chance, 64), page(chance, 4096));
+            map_body(flags, offset, address, page(chance, 64))
+        }
+        3 => {
+            let numbers = [page(chance, 4096), page(chance, 4096)];
+            [words(&[24, 0]), numbers.map(u64::to_le_bytes).concat()].concat()
+        }
+        8 => words(&[
+            20,
+            0x24,
+            2,
+            chance.below(3) as u32,
+            1 + chance.below(3) as u32,
+        ]),
+        REGION_READ => words(&[offset, 0, 0, 4]),
+        REGION_WRITE => words(&[offset, 0, 0, 4, chance.below(1 << 31) as u32]),
+        _ => words(&[32, 0, chance.below(9) as u32, 0, 0, 0, 0, 0]),
+    }
+}
+
+// A message, which one time in eight isn't as it should be.
+fn mutated(chance: &mut Chance, command: u16) -> Vec<u8> {
+    let flags = *chance.pick(&[0, 0x10]);
+    let body = body(chance, command);
+    let mut bytes = message(chance.below(1 << 16) as u16, command, flags, &body);
+    if chance.is_one_in(8) {
+        for _ in 0..=chance.below(3) {
+            let place = chance.below(bytes.len() as u64) as usize;
+            bytes[place] = chance.below(256) as u8;
+        }
+    }
+    if chance.is_one_in(64) {
+        bytes.truncate(chance.below(bytes.len() as u64) as usize + 1);
+    }
+    bytes
+}
+
+// One client's life. It takes its replies, whatever they are, and goes at any moment.
+fn live(server: &Server, function: u8, chance: &mut Chance, files: &Files) -> u64 {
+    let mut client = match chance.is_one_in(8) {
+        true => server.silent_client(function),
+        false => server.client(function),
+    };
+    client.socket.set_nonblocking(true).expect("a socket");
+    let mut sent = 0;
+    for _ in 0..chance.below(64) {
+        let commands = [1, 2, 2, 3, 4, 5, 7, 8, 9, 10, 10, 10, 10, 13, 15, 99];
+        let command = match chance.is_one_in(16) {
+            true => *chance.pick(&commands),
+            false => *chance.pick(&commands[1..14]),
+        };
+        let bytes = mutated(chance, command);
+        let some = files.some(chance, command);
+        match os::send(&client.socket, &bytes, &some) {
+            Ok(()) => sent += 1,
+            Err(error) if error.kind() == ErrorKind::WouldBlock => {}
+            Err(_) => break,
+        }
+        if !drain(&mut client) {
+            break;
+        }
+    }
+    sent
+}
+
+// Takes what has come. False: the server has closed the connection.
+fn drain(client: &mut Client) -> bool {
+    let mut room = [0; 8192];
+    loop {
+        match client.socket.read(&mut room) {
+            Ok(0) => return false,
+            Ok(_) => {}
+            Err(error) => return error.kind() == ErrorKind::WouldBlock,
+        }
+    }
+}
+
+// How many files the server has open, how many threads, and how many KiB of its own memory are in use.
+fn held(server: &Server) -> (usize, u64, u64) {
+    let folder = format!("/proc/{}", server.process());
+    let files = fs::read_dir(format!("{folder}/fd"))
+        .expect("its files")
+        .count();
+    let status = fs::read_to_string(format!("{folder}/status")).expect("its status");
+    let number = |head: &str| {
+        let line = status.lines().find_map(|line| line.strip_prefix(head));
+        let word = line.and_then(|rest| rest.split_whitespace().next());
+        word.and_then(|word| word.parse().ok()).unwrap_or(0)
+    };
+    (files, number("Threads:"), number("RssAnon:"))
+}
+
+#[test]
+fn chance_disturbs_nobody() {
+    let seconds = std::env::var("VFDEV_FUZZ_SECONDS").ok();
+    let seconds = seconds.and_then(|word| word.parse().ok()).unwrap_or(1);
+    let server = Server::quiet(4);
+    let (mut one, mut two) = (Guest::attach(&server, 0), Guest::attach(&server, 1));
+    let before = held(&server);
+    let (is_over, messages) = (AtomicBool::new(false), AtomicU64::new(0));
+    std::thread::scope(|scope| {
+        for function in 2..4 {
+            let (server, is_over, messages) = (&server, &is_over, &messages);
+            scope.spawn(move || {
+                let (mut chance, files) = (Chance(function.into()), Files::new());
+                while !is_over.load(Ordering::Relaxed) {
+                    let sent = live(server, function, &mut chance, &files);
+                    messages.fetch_add(sent, Ordering::Relaxed);
+                }
+            });
+        }
+        let begun = Instant::now();
+        let mut number = 0u32;
+        while begun.elapsed() < Duration::from_secs(seconds) {
+            number += 1;
+            let frame = one.frame(two.mac, &number.to_le_bytes());
+            one.send(&frame);
+            assert!(two.wait() == frame, "frame {number}");
+        }
+        is_over.store(true, Ordering::Relaxed);
+        assert_eq!(one.client.read(vfdev::regs::VFGPTC), number);
+        assert_eq!(two.client.read(vfdev::regs::VFGPRC), number);
+    });
+    let sent = messages.into_inner();
+    assert!(sent > 0);
+    wait_until("the others have gone", || {
+        (2..4).all(|function| server.is_vacant(function))
+    });
+    let after = held(&server);
+    println!("{sent} messages; files, threads and KiB before {before:?}, after {after:?}");
+    assert_eq!((before.0, before.1), (after.0, after.1), "files, threads");
+    assert!(
+        after.2 < before.2 + 4096,
+        "{} KiB, then {}",
+        before.2,
+        after.2
+    );
+}

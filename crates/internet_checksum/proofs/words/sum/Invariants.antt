@@ -1,0 +1,13 @@
+-- What is left gives the rest of the sum.
+use Rattle.std.proofs.Common.{◌≡◌, ◌+◌, ◌*◌, ◌≤◌, ◌^◌, length}
+use Rattle.internet_checksum.specs.Sum.{word_sum, folded}
+use Rattle.internet_checksum.proofs.words.sum.Given as goal
+
+abbrev pub invariant-loop-rest : goal.invariant-loop-rest
+invariant-loop-rest l = record {
+  few : l.total + 2 ^ 64 * length l.rest ≤ 65535 + 2 ^ 64 * length l.fn.bytes;
+  whole : folded (l.total + word_sum l.rest) ≡ folded (l.fn.start + word_sum l.fn.bytes);
+}
+
+abbrev pub decreases-loop-rest : goal.decreases-loop-rest
+decreases-loop-rest l = length l.rest

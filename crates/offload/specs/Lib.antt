@@ -1,0 +1,5 @@
+pub mod Words
+pub mod Context
+pub mod Sums
+pub mod Cut
+pub mod Segment

@@ -1,0 +1,228 @@
+//! The segments of a frame.
+ghost use Rattle.std.specs.Prelude.{◌≡◌, ◌+◌, ◌-◌, ◌*◌, ◌/◌, ◌<◌, ◌≤◌, ◌++◌, ◌==◌, ◌^◌, ℕ, true, length, drop, take, slice_range, slice_index};
+ghost use Rattle.internet_checksum.specs.Sum.{word_sum, folded};
+ghost use Rattle.offload.specs.Context.{transport_at, payload_at};
+ghost use Rattle.offload.specs.Cut.{IsCut, ip_least, longest, segment_count};
+ghost use Rattle.offload.specs.Segment.{ip_of, pseudo_header, with_sequence, flags_of, with_flags, tcp_of, finished, pseudo_of, with_ip_of, with_tcp_of, piece, segment_of};
+
+use crate::context::{Context, Ip};
+use crate::cut::segment_count;
+use crate::store::store_word;
+use crate::sums::{sum_header, sum_tcp};
+use byteorder::{BigEndian, ByteOrder};
+use internet_checksum::sum;
+
+/// Where the total length of an IPv4 header stands (RFC 791, 3.1).
+const IPV4_TOTAL: usize = 2;
+/// Where its identification stands.
+const IPV4_IDENTIFICATION: usize = 4;
+/// Where its addresses stand.
+const IPV4_ADDRESSES: usize = 12;
+
+const IPV4_ADDRESSES_END: usize = 20;
+/// How long an IPv6 header is without extension headers (RFC 8200, 3).
+const IPV6_LEAST: usize = 40;
+/// Where its payload length stands.
+const IPV6_PAYLOAD: usize = 4;
+/// Where its addresses stand.
+const IPV6_ADDRESSES: usize = 8;
+
+const IPV6_ADDRESSES_END: usize = 40;
+/// The number of TCP as a protocol (RFC 9293, 3.1).
+const TCP: u16 = 6;
+/// Where the sequence number of a TCP header stands.
+const TCP_SEQUENCE: usize = 4;
+/// Where its flags stand.
+const TCP_FLAGS: usize = 13;
+/// Where its checksum stands.
+const TCP_CHECKSUM: usize = 16;
+/// Congestion window reduced.
+const CWR: u8 = 0x80;
+/// Push.
+const PSH: u8 = 0x08;
+/// Finish.
+const FIN: u8 = 0x01;
+
+/// Writes segment `number` of a frame into the front of a room, and tells how many bytes it has.
+#[tactic(auto, unfolding(crate::specs::Segment::segment_of))]
+pub(crate) fn lay_segment(context: &Context, frame: &[u8], number: usize, room: &mut [u8]) -> usize
+    requires cut { IsCut context.now (length frame.now) }
+    requires number { number < segment_count context.now (length frame.now) }
+    requires room { longest context.now (length frame.now) ≤ length room.old }
+    ensures bytes { room.new ≡ segment_of context.now frame.now number ++ drop result room.old }
+    ensures length { result ≡ length (segment_of context.now frame.now number) }
+    ensures most { result ≤ longest context.now (length frame.now) }
+{
+    let count = segment_count(context, frame.len());
+    let headers = &frame[..context.payload_at()];
+    let piece = piece(context, frame, number);
+    let size = headers.len() + piece.len();
+    lay_two(room, headers, piece);
+    finish(&mut room[..size], context, number, number + 1 == count);
+    size
+}
+
+// The payload of a segment.
+fn piece<'a>(context: &Context, frame: &'a [u8], number: usize) -> &'a [u8]
+    requires cut { IsCut context.now (length frame.now) }
+    requires number { number < segment_count context.now (length frame.now) }
+    ensures bytes { result.now ≡ piece context.now frame.now number }
+    ensures most { payload_at context.now + length result.now ≤ longest context.now (length frame.now) }
+    ensures before { number * context.now.mss < 2 ^ 64 }
+{
+    let rest = &frame[piece_at(context, frame.len(), number)..];
+    &rest[..usize::from(context.mss).min(rest.len())]
+}
+
+// Where it begins in a frame of that size.
+#[inline]
+fn piece_at(context: &Context, size: usize, number: usize) -> usize
+    requires cut { IsCut context.now size }
+    requires number { number < segment_count context.now size }
+    ensures place { result ≡ payload_at context.now + number * context.now.mss }
+    ensures inside { result < size }
+{
+    context.payload_at() + number * usize::from(context.mss)
+}
+
+// Lays two parts into the front of a room.
+fn lay_two(room: &mut [u8], first: &[u8], second: &[u8])
+    requires { length first.now + length second.now ≤ length room.old }
+    ensures { room.new ≡ (first.now ++ second.now) ++ drop (length first.now + length second.now) room.old }
+{
+    room[..first.len()].copy_from_slice(first);
+    room[first.len()..first.len() + second.len()].copy_from_slice(second);
+}
+
+// Makes a copy of the headers, with a payload behind them, a segment.
+#[tactic(auto, unfolding(crate::specs::Segment::finished))]
+fn finish(bytes: &mut [u8], context: &Context, number: usize, is_last: bool)
+    requires ip { ip_least context.now.ip ≤ context.now.iplen }
+    requires tcp { transport_at context.now + 20 ≤ length bytes.old }
+    requires few { length bytes.old ≤ 65535 }
+    requires before { number * context.now.mss < 2 ^ 64 }
+    ensures { bytes.new ≡ finished context.now number is_last bytes.old }
+{
+    let behind = (bytes.len() - context.transport_at()) as u16;
+    let partial = pseudo_sum_within(bytes, context, behind);
+    finish_ip(bytes, context, number, behind);
+    finish_tcp(bytes, context, number, is_last, partial);
+}
+
+// The sum of the pseudo header of a segment.
+fn pseudo_sum_within(bytes: &[u8], context: &Context, behind: u16) -> u16
+    requires ip { ip_least context.now.ip ≤ context.now.iplen }
+    requires inside { transport_at context.now ≤ length bytes.now }
+    requires behind { behind ≡ length bytes.now - transport_at context.now }
+    requires few { length bytes.now ≤ 65535 }
+    ensures { result ≡ folded (word_sum (pseudo_of context.now bytes.now)) }
+{
+    pseudo_sum(
+        &bytes[usize::from(context.maclen)..context.transport_at()],
+        context.ip,
+        behind,
+    )
+}
+
+// The sum of a pseudo header.
+fn pseudo_sum(header: &[u8], ip: Ip, behind: u16) -> u16
+    requires least { ip_least ip ≤ length header.now }
+    requires few { behind < 65530 }
+    ensures { result ≡ folded (word_sum (pseudo_header ip header.now behind)) }
+{
+    let start = TCP + behind;
+    match ip {
+        Ip::V4 => sum(&header[IPV4_ADDRESSES..IPV4_ADDRESSES_END], start),
+        Ip::V6 => sum(&header[IPV6_ADDRESSES..IPV6_ADDRESSES_END], start),
+    }
+}
+
+// Makes the IP header that of a segment.
+fn finish_ip(bytes: &mut [u8], context: &Context, number: usize, behind: u16)
+    requires ip { ip_least context.now.ip ≤ context.now.iplen }
+    requires inside { transport_at context.now ≤ length bytes.old }
+    requires behind { behind ≡ length bytes.old - transport_at context.now }
+    requires few { length bytes.old ≤ 65535 }
+    ensures { bytes.new ≡ with_ip_of context.now number bytes.old }
+{
+    let header = &mut bytes[usize::from(context.maclen)..context.transport_at()];
+    match context.ip {
+        Ip::V4 => number_ipv4(header, number, behind),
+        Ip::V6 => size_ipv6(header, behind),
+    }
+}
+
+// Length, identification and checksum of an IPv4 header.
+#[tactic(auto, unfolding(crate::specs::Segment::ip_of))]
+fn number_ipv4(header: &mut [u8], number: usize, behind: u16)
+    requires least { 20 ≤ length header.old }
+    requires few { length header.old + behind ≤ 65535 }
+    ensures { header.new ≡ ip_of Ip.V4 number behind header.old }
+{
+    let first = BigEndian::read_u16(&header[IPV4_IDENTIFICATION..]);
+    let identification = ((usize::from(first) + number % 65536) % 65536) as u16;
+    store_word(header, IPV4_TOTAL, header.len() as u16 + behind);
+    store_word(header, IPV4_IDENTIFICATION, identification);
+    sum_header(header);
+}
+
+// The length in an IPv6 header.
+#[tactic(auto, unfolding(crate::specs::Segment::ip_of))]
+fn size_ipv6(header: &mut [u8], behind: u16)
+    requires least { 40 ≤ length header.old }
+    requires few { length header.old + behind ≤ 65535 }
+    ensures { (number : ℕ) → header.new ≡ ip_of Ip.V6 number behind header.old }
+{
+    let length = (header.len() - IPV6_LEAST) as u16 + behind;
+    store_word(header, IPV6_PAYLOAD, length);
+}
+
+// Makes the TCP header that of a segment.
+fn finish_tcp(bytes: &mut [u8], context: &Context, number: usize, is_last: bool, partial: u16)
+    requires tcp { transport_at context.now + 20 ≤ length bytes.old }
+    requires before { number * context.now.mss < 2 ^ 64 }
+    ensures { bytes.new ≡ with_tcp_of context.now number is_last partial bytes.old }
+{
+    number_tcp(
+        &mut bytes[context.transport_at()..],
+        context,
+        number,
+        is_last,
+        partial,
+    );
+}
+
+// Sequence number, flags and checksum of a TCP header with its payload.
+#[tactic(auto, unfolding(crate::specs::Segment::tcp_of))]
+fn number_tcp(bytes: &mut [u8], context: &Context, number: usize, is_last: bool, partial: u16)
+    requires tcp { 20 ≤ length bytes.old }
+    requires before { number * context.now.mss < 2 ^ 64 }
+    ensures { bytes.new ≡ tcp_of context.now number is_last partial bytes.old }
+{
+    move_sequence(bytes, number * usize::from(context.mss));
+    let flags = bytes[TCP_FLAGS];
+    bytes[TCP_FLAGS] = flags_of(number == 0, is_last, flags);
+    store_word(bytes, TCP_CHECKSUM, partial);
+    sum_tcp(bytes);
+}
+
+// Moves the sequence number on.
+#[tactic(auto, unfolding(crate::specs::Segment::with_sequence))]
+fn move_sequence(bytes: &mut [u8], before: usize)
+    requires { 20 ≤ length bytes.old }
+    ensures { bytes.new ≡ with_sequence before bytes.old }
+{
+    let first = BigEndian::read_u32(&bytes[TCP_SEQUENCE..]);
+    let moved = (u64::from(first) + before as u64 % 0x1_0000_0000) % 0x1_0000_0000;
+    BigEndian::write_u32(&mut bytes[TCP_SEQUENCE..TCP_SEQUENCE + 4], moved as u32);
+}
+
+// The flags of a segment.
+#[tactic(auto, unfolding(crate::specs::Segment::flags_of))]
+fn flags_of(is_first: bool, is_last: bool, flags: u8) -> u8
+    ensures { result ≡ flags_of is_first is_last flags }
+{
+    let first_alone = if is_first { 0 } else { CWR };
+    let last_alone = if is_last { 0 } else { PSH + FIN };
+    flags & (255 - first_alone - last_alone)
+}

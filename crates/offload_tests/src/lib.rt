@@ -1,0 +1,18 @@
+//! Tests of internet_checksum and offload: the example of RFC 1071, frames and segments that scapy built, each length at its bounds, and
+//! sums of bytes by chance beside a plain one.
+#![tactic(auto)]
+
+#[cfg(test)]
+mod chance;
+#[cfg(test)]
+mod checksums;
+#[cfg(test)]
+mod compare;
+#[cfg(test)]
+mod contexts;
+#[cfg(test)]
+mod examples;
+#[cfg(test)]
+mod frames;
+#[cfg(test)]
+mod segments;

@@ -9,9 +9,10 @@ import time
 from guest import Broken, held
 
 HERE = os.path.dirname(os.path.abspath(__file__))
-# Where a build leaves the program, tried when no word names one and none is in the path.
-BUILT = tuple(os.path.join(HERE, "..", "bindings", "rust", "vfdev-server", "target", kind, "vfdev-server")
-              for kind in ("release", "debug"))
+# Where builds leave the program, tried when no word names one and none is in the path.
+BINDINGS = os.path.join(HERE, "..", "bindings")
+BUILT = tuple(os.path.join(BINDINGS, *place, "vfdev-server") for place in (
+    ("native",), ("rust", "vfdev-server", "target", "release"), ("rust", "vfdev-server", "target", "debug")))
 
 
 def find(named):

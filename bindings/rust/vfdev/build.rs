@@ -13,19 +13,22 @@ fn main() {
         None => here.join("../../native"),
     };
     println!("cargo:rustc-link-search=native={}", native.display());
-    if native.join("libvfdev.a").exists() {
-        println!("cargo:rustc-link-lib=static=vfdev");
-    } else {
-        println!("cargo:rustc-link-lib=static=vfdev_c");
-        println!("cargo:rustc-link-lib=static=libc_c");
-        if !native.join("libvfdev_c.a").exists() {
-            println!(
-                "cargo:warning=there is no archive in {}: in a clone bindings/test makes it there, and VFDEV_NATIVE names another \
-                 folder, as lib of an installed vfdev",
-                native.display()
-            );
-        }
+    let archives: &[&str] = match native.join("libvfdev.a").exists() {
+        true => &["vfdev"],
+        false => &["vfdev_c", "libc_c"],
+    };
+    for archive in archives {
+        println!("cargo:rustc-link-lib=static={archive}");
+        // (programs that others put beside the archives change nothing here)
+        let file = native.join(format!("lib{archive}.a"));
+        println!("cargo:rerun-if-changed={}", file.display());
     }
-    println!("cargo:rerun-if-changed={}", native.display());
+    if !native.join(format!("lib{}.a", archives[0])).exists() {
+        println!(
+            "cargo:warning=there is no archive in {}: in a clone bindings/test makes it there, and VFDEV_NATIVE names another \
+             folder, as lib of an installed vfdev",
+            native.display()
+        );
+    }
     println!("cargo:rerun-if-env-changed=VFDEV_NATIVE");
 }

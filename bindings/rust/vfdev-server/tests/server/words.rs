@@ -128,18 +128,17 @@ fn a_socket_in_use_is_left_alone() {
     second.client(0);
 }
 
-// The configuration that the document shows is one.
+// The configuration that is installed as an example is one, and the document shows it.
 #[test]
-fn the_documents_configuration_is_taken() {
-    let document = concat!(env!("CARGO_MANIFEST_DIR"), "/../../../docs/SERVER.md");
-    let document = fs::read_to_string(document).expect("the document");
-    let block = document.split("```toml\n").nth(1);
-    let block = block.and_then(|rest| rest.split("```").next());
-    let folder = Folder::new();
-    let file = folder.at("vfdev.toml");
-    fs::write(&file, block.expect("a block")).expect("a file");
-    let file = file.to_str().expect("a name").to_owned();
-    let server = Server::with(folder, 2, &["--config", &file]);
+fn the_example_of_a_configuration_is_taken() {
+    let here = env!("CARGO_MANIFEST_DIR");
+    let example = format!("{here}/vfdev-server.toml");
+    let text = fs::read_to_string(&example).expect("the example");
+    let (_, shown) = text.split_at(text.find("vlans").expect("its first word"));
+    let document = fs::read_to_string(format!("{here}/../../../docs/SERVER.md"));
+    let block = format!("```toml\n{shown}```\n");
+    assert!(document.expect("the document").contains(&block));
+    let server = Server::with(Folder::new(), 2, &["--config", &example]);
     assert!(server
         .counters()
         .contains("{function=\"0\",name=\"web\"} 0"));

@@ -4,8 +4,9 @@
 use clap::Parser;
 use sd_notify::NotifyState;
 use std::process::ExitCode;
-use tracing::{error, info};
+use tracing::{error, info, warn};
 use vfdev_server::options::Options;
+use vfdev_server::os::allow_serving_alone;
 use vfdev_server::reload::{read_settings, tell_systemd};
 use vfdev_server::server::Server;
 
@@ -33,6 +34,12 @@ fn main() -> ExitCode {
             return ExitCode::FAILURE;
         }
     };
+    if options.no_seccomp {
+        warn!("any call of the system is allowed, by --no-seccomp");
+    } else if let Err(error) = allow_serving_alone() {
+        error!(%error, "calls of the system can't be filtered: --no-seccomp goes without");
+        return ExitCode::FAILURE;
+    }
     info!(functions = options.functions, directory = %options.dir.display(), "ready");
     tell_systemd(NotifyState::Ready);
     let served = server.run();

@@ -36,6 +36,11 @@ pub struct Options {
     #[arg(long, value_name = "US", default_value_t = 0, value_parser = clap::value_parser!(u32).range(0..=1_000_000))]
     pub poll: u32,
 
+    /// Allow the program any call of the system, and not those alone that it needs to serve: for a debugger, or for a C library that makes
+    /// others
+    #[arg(long)]
+    pub no_seccomp: bool,
+
     /// Which lines are logged: error, warn, info, debug or trace
     #[arg(long, value_name = "LEVEL", default_value = "info", value_parser = level)]
     pub log_level: tracing::Level,

@@ -1,9 +1,10 @@
-//! What the operating system has and the standard library lacks: messages with files, memory maps, seals, epoll and taps. This module has
-//! all the `unsafe` of the program, each block with its reason; what it offers is safe to call.
+//! What the operating system has and the standard library lacks: messages with files, memory maps, seals, epoll, taps, and a filter of its
+//! calls. This module has all the `unsafe` of the program, each block with its reason; what it offers is safe to call.
 
 mod alarm;
 mod epoll;
 mod event_file;
+mod filter;
 mod mapped_card;
 mod mapping;
 mod receive;
@@ -12,6 +13,7 @@ mod tap;
 pub use alarm::Alarm;
 pub use epoll::{Interest, Poller};
 pub use event_file::{is_eventfd, EventFile, NotAnEventfd};
+pub use filter::allow_serving_alone;
 pub use mapped_card::{MapError, MappedCard};
 pub use receive::{receive, Received, MOST_FILES};
 pub use tap::open_tap;

@@ -5,6 +5,7 @@
 
 mod client;
 mod driver;
+mod filter;
 mod frames;
 mod fuzz;
 mod life;

@@ -23,20 +23,25 @@ def find(named):
 
 
 class Server:
-    """The server. Its log is one file for the whole run, also where it is started more than once."""
+    """A server. Its log is one file for the whole run, also where it is started more than once.
 
-    def __init__(self, setting):
+    `within` is a command that starts it where it has to run, `more` its words beside those of the setting.
+    """
+
+    def __init__(self, setting, name="server", within=(), more=()):
         self.setting = setting
-        self.log = os.path.join(setting.logs, "server.log")
+        self.within = list(within)
+        self.more = list(more)
+        self.log = os.path.join(setting.logs, f"{name}.log")
         open(self.log, "wb").close()
-        self.config = os.path.join(setting.logs, "server.toml")
+        self.config = os.path.join(setting.logs, f"{name}.toml")
         self.process = None
 
     def start(self, config=None):
         """Starts it, with this text as its configuration or without any, and waits for its sockets."""
         setting = self.setting
-        command = [setting.program, "--functions", str(setting.functions), "--dir", setting.place,
-                   "--frame", str(setting.frame)]
+        command = self.within + [setting.program, "--functions", str(setting.functions), "--dir", setting.place,
+                                 "--frame", str(setting.frame)] + self.more
         if config is not None:
             self.write(config)
             command += ["--config", self.config]

@@ -20,6 +20,10 @@ class Differs(Exception):
     """A step saw something other than what it has to see; the text says what."""
 
 
+class LeftOut(Exception):
+    """This machine can't do what a step is about; the text says why."""
+
+
 @dataclass
 class Setting:
     """What a run is made with. `place` is the folder of sockets as the host names it, `inside` as the chroot does."""
@@ -77,11 +81,11 @@ class Stage:
     def there(self, name):
         return name in self.guests and self.guests[name].alive()
 
-    def start(self, name, more="", boot=None):
-        """Starts the guest's QEMU; `bring_up` waits for the guest."""
+    def start(self, name, more="", boot=None, setting=None):
+        """Starts the guest's QEMU, with a setting that isn't the stage's where one is given; `bring_up` waits for the guest."""
         self.drop(name)
         boot = boot or linux(self.setting.kernels[name])
-        self.guests[name] = Guest(name, FUNCTION[name], boot, self.setting, more)
+        self.guests[name] = Guest(name, FUNCTION[name], boot, setting or self.setting, more)
 
     def bring_up(self, name):
         guest = self.guests[name]

@@ -1,17 +1,23 @@
-//! Random and mutated sessions on some sockets, while two guests on others go on: nothing of theirs changes, and the program keeps nothing.
-//! It lasts a second, or as many as VFDEV_FUZZ_SECONDS says.
+//! Random and mutated sessions on some sockets, floods of memories and files, and clients that are killed, while two guests on others go on:
+//! nothing of theirs changes, and the program keeps nothing.
+//!
+//! It lasts a second, or as many as VFDEV_FUZZ_SECONDS says, and then prints ten times how far it is. Chance begins with the number that
+//! VFDEV_FUZZ_SEED names.
 
-use crate::client::{map_body, message, words, Client, READ, REGION_READ, REGION_WRITE, WRITE};
+use crate::client::{
+    map_body, message, words, Client, DMA_MAP, READ, REGION_READ, REGION_WRITE, WRITE,
+};
 use crate::driver::Guest;
 use crate::os::{self, Memory};
 use crate::program::{wait_until, Server};
 use std::fs::{self, File};
 use std::io::{ErrorKind, Read};
 use std::os::fd::{AsFd, BorrowedFd, OwnedFd};
+use std::process::{Command, Stdio};
 use std::sync::atomic::{AtomicBool, AtomicU64, Ordering};
 use std::time::{Duration, Instant};
 
-// Numbers by chance, the same in each run.
+// Numbers by chance, the same in each run that begins with the same one.
 struct Chance(u64);
 
 impl Chance {
@@ -140,6 +146,59 @@ fn live(server: &Server, function: u8, chance: &mut Chance, files: &Files) -> u6
     sent
 }
 
+// Memories until the server wants no more, and files beside them that nobody asked for. No reply is taken.
+fn flood(server: &Server, function: u8, chance: &mut Chance, files: &Files) -> u64 {
+    let client = server.client(function);
+    client.socket.set_nonblocking(true).expect("a socket");
+    let with_events = chance.is_one_in(2);
+    let mut sent = 0;
+    for page in 0..256 {
+        let memory = chance.pick(&files.memories).file.as_fd();
+        let map = map_body(READ | WRITE, 4096 * page, 4096 * page, 4096);
+        let (bytes, some) = match with_events && page % 2 == 1 {
+            true => (message(1, 99, 0, &[0; 64]), vec![files.event.as_fd(); 8]),
+            false => (message(1, DMA_MAP, 0, &map), vec![memory]),
+        };
+        if os::send(&client.socket, &bytes, &some).is_err() {
+            break;
+        }
+        sent += 1;
+    }
+    sent
+}
+
+// Another process has the only end of a connection with memory, says a lot without waiting, and is killed at any moment.
+fn killed(server: &Server, function: u8, chance: &mut Chance, files: &Files) -> u64 {
+    let mut client = server.client(function);
+    let _ = client.map(&files.memories[0].file, READ | WRITE, 0, 0, 1 << 20);
+    let place = server.folder.at(&format!("said-{function}"));
+    if !place.exists() {
+        fs::write(&place, much(chance)).expect("a file");
+    }
+    let mut child = Command::new("cat")
+        .arg(place)
+        .stdin(Stdio::null())
+        .stdout(OwnedFd::from(client.socket))
+        .stderr(Stdio::null())
+        .spawn()
+        .expect("a program that writes");
+    std::thread::sleep(Duration::from_micros(chance.below(20_000)));
+    child.kill().expect("a child");
+    child.wait().expect("a child");
+    // (how much of it was said isn't known)
+    1
+}
+
+// 65,536 accesses to registers, of which none wants a reply.
+fn much(chance: &mut Chance) -> Vec<u8> {
+    let one = |chance: &mut Chance| {
+        let command = *chance.pick(&[REGION_WRITE, REGION_WRITE, REGION_READ]);
+        let body = body(chance, command);
+        message(1, command, 0x10, &body)
+    };
+    (0..1 << 16).flat_map(|_| one(chance)).collect()
+}
+
 // Takes what has come. False: the server has closed the connection.
 fn drain(client: &mut Client) -> bool {
     let mut room = [0; 8192];
@@ -167,32 +226,51 @@ fn held(server: &Server) -> (usize, u64, u64) {
     (files, number("Threads:"), number("RssAnon:"))
 }
 
+// A number of the environment, or this one.
+fn number_of(name: &str, otherwise: u64) -> u64 {
+    let word = std::env::var(name).ok();
+    word.and_then(|word| word.parse().ok()).unwrap_or(otherwise)
+}
+
+// A client without end, each time another kind of one.
+fn misbehave(server: &Server, function: u8, is_over: &AtomicBool, messages: &AtomicU64) {
+    let seed = number_of("VFDEV_FUZZ_SEED", 0);
+    let (mut chance, files) = (Chance(64 * seed + u64::from(function)), Files::new());
+    while !is_over.load(Ordering::Relaxed) {
+        let kind = match chance.below(64) {
+            0 => flood,
+            1 => killed,
+            _ => live,
+        };
+        let sent = kind(server, function, &mut chance, &files);
+        messages.fetch_add(sent, Ordering::Relaxed);
+    }
+}
+
 #[test]
 fn chance_disturbs_nobody() {
-    let seconds = std::env::var("VFDEV_FUZZ_SECONDS").ok();
-    let seconds = seconds.and_then(|word| word.parse().ok()).unwrap_or(1);
+    let seconds = number_of("VFDEV_FUZZ_SECONDS", 1);
     let server = Server::quiet(4);
     let (mut one, mut two) = (Guest::attach(&server, 0), Guest::attach(&server, 1));
     let before = held(&server);
     let (is_over, messages) = (AtomicBool::new(false), AtomicU64::new(0));
+    let mut number = 0u32;
     std::thread::scope(|scope| {
         for function in 2..4 {
             let (server, is_over, messages) = (&server, &is_over, &messages);
-            scope.spawn(move || {
-                let (mut chance, files) = (Chance(function.into()), Files::new());
-                while !is_over.load(Ordering::Relaxed) {
-                    let sent = live(server, function, &mut chance, &files);
-                    messages.fetch_add(sent, Ordering::Relaxed);
-                }
-            });
+            scope.spawn(move || misbehave(server, function, is_over, messages));
         }
         let begun = Instant::now();
-        let mut number = 0u32;
+        let mut tenth = 1;
         while begun.elapsed() < Duration::from_secs(seconds) {
             number += 1;
             let frame = one.frame(two.mac, &number.to_le_bytes());
             one.send(&frame);
             assert!(two.wait() == frame, "frame {number}");
+            if begun.elapsed() >= Duration::from_millis(100 * seconds * tenth) {
+                tell(begun, number, messages.load(Ordering::Relaxed), &server);
+                tenth += 1;
+            }
         }
         is_over.store(true, Ordering::Relaxed);
         assert_eq!(one.client.read(vfdev::regs::VFGPTC), number);
@@ -204,7 +282,7 @@ fn chance_disturbs_nobody() {
         (2..4).all(|function| server.is_vacant(function))
     });
     let after = held(&server);
-    println!("{sent} messages; files, threads and KiB before {before:?}, after {after:?}");
+    println!("{number} frames, {sent} messages; files, threads and KiB before {before:?}, after {after:?}");
     assert_eq!((before.0, before.1), (after.0, after.1), "files, threads");
     assert!(
         after.2 < before.2 + 4096,
@@ -212,4 +290,10 @@ fn chance_disturbs_nobody() {
         before.2,
         after.2
     );
+}
+
+fn tell(begun: Instant, frames: u32, messages: u64, server: &Server) {
+    let seconds = begun.elapsed().as_secs();
+    let (files, threads, size) = held(server);
+    println!("{seconds} s: {frames} frames, {messages} messages; {files} files, {threads} threads, {size} KiB");
 }

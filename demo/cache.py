@@ -60,7 +60,9 @@ class Cache:
             raise Lacking(f"another run uses {self.folder}: wait for it, or name another folder by --cache") from None
 
     def ready(self):
-        parts = [os.path.join(self.kernel(kernel), "vmlinuz") for kernel in KERNELS]
+        """Whether all is there, with each module that guests may need now."""
+        names = ["vmlinuz"] + [os.path.join("modules", f"{module}.order") for module in initrd.MODULES]
+        parts = [os.path.join(self.kernel(kernel), name) for kernel in KERNELS for name in names]
         return all(map(os.path.exists, [*parts, self.chroot + initrd.DPDK[0], self.chroot + "/guests/ipxe/ipxe.lkrn"]))
 
     def kernel(self, kernel):

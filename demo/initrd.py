@@ -14,9 +14,9 @@ DPDK = ("/guests/dpdk/dpdk-testpmd", PLUGINS + "librte_net_ixgbe.so.25", PLUGINS
 LOADER = "/lib64/ld-linux-x86-64.so.2"
 # The C library opens this one by itself when a thread is cancelled, so no program names it.
 UNNAMED = "/usr/lib/x86_64-linux-gnu/libgcc_s.so.1"
-# The card's driver, tagged VLANs, the kernel's packet generator, which sends frames with any source, and what lets a program drive a
-# card.
-MODULES = ("ixgbevf", "8021q", "pktgen", "uio_pci_generic")
+# The card's driver, tagged VLANs, the kernel's packet generator, which sends frames with any source, what lets a program drive a card, and
+# the drivers of QEMU's own card.
+MODULES = ("ixgbevf", "8021q", "pktgen", "uio_pci_generic", "virtio_pci", "virtio_net")
 
 
 class Missing(Exception):

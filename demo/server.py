@@ -69,6 +69,11 @@ class Server:
     def alive(self):
         return self.process is not None and self.process.poll() is None
 
+    def busy(self):
+        """How long it has had a processor, in microseconds."""
+        with open(f"/proc/{self.process.pid}/schedstat") as told:
+            return int(told.read().split()[0]) / 1000
+
     def why_gone(self):
         """What to add to a failure: nothing while it runs."""
         if self.process is None or self.alive():

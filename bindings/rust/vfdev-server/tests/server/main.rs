@@ -5,6 +5,7 @@
 
 mod client;
 mod driver;
+mod figures;
 mod filter;
 mod frames;
 mod fuzz;

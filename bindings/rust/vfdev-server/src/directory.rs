@@ -201,7 +201,12 @@ mod tests {
             drop((stream, datagram));
             std::mem::forget(place);
             assert!(path.exists());
-            let second = bind(&path).expect("the same place");
+            // (a child that another test starts has this file open too, until it is another program)
+            let second = (0..10_000).find_map(|_| {
+                std::thread::sleep(std::time::Duration::from_millis(1));
+                bind(&path).ok()
+            });
+            let second = second.expect("the same place");
             drop(second);
             assert!(!path.exists());
             fs::write(&path, "").expect("a file");

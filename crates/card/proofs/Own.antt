@@ -30,10 +30,10 @@ use Rattle.mailbox.specs.Message.{message_of}
 use Rattle.mailbox.specs.Policy.{is_port, place_to_join}
 use Rattle.mailbox.specs.Replies.{reply_of, reply_to}
 use Rattle.mailbox.specs.Host.{host_after, host_without, outcome, slot_after}
-use Rattle.mailbox.specs.Slot.{begun, granted_to, with_guest}
+use Rattle.mailbox.specs.Slot.{begun, granted_to, policy_of, with_guest}
 use Rattle.mailbox.specs.State.{HostState, is_taken, slot_at, with_slot}
 use Rattle.mailbox_laws.specs.Turns.{write_event, write_events}
-use Rattle.card.specs.Alike.{asked_address, is_held}
+use Rattle.card.specs.Alike.{asked_address, is_held, may_choose}
 use Rattle.card.proofs.Hosts.{HostsAlike}
 
 -- ---- the device
@@ -116,10 +116,23 @@ lone_written p w ws = λ i. record {
 abbrev pub taken_alike : HostState → HostState → ℕ → Option ℕ → Type 0
 taken_alike h k p a = is_held h p a ≡ is_held k p a
 
-may_add_alike : (h k : HostState) (p : ℕ) (policy : Policy) (a : ℕ) → is_taken h p a ≡ is_taken k p a → may_add h p policy a ≡ may_add k p policy a
-may_add_alike h k p policy a same = ap (λ (b : Bool). policy.may_choose && (is_unicast a && not b)) same
+-- the same by the function's policy
+abbrev held_by : Option Policy → HostState → ℕ → Option ℕ → Bool
+held_by o h p None = false
+held_by o h p (Some a) = may_choose o && is_taken h p a
 
-granted_alike : (p : ℕ) (h k : HostState) (policy : Policy) (g : Guest) (m : Message) → HostsAlike p h k → taken_alike h k p (asked_address m) → granted h p policy g m ≡ granted k p policy g m
+held_is : (h : HostState) (p : ℕ) (a : Option ℕ) → is_held h p a ≡ held_by (policy_of (slot_at h p)) h p a
+held_is h p None = refl
+held_is h p (Some a) = refl
+
+may_add_alike : (h k : HostState) (p : ℕ) (policy : Policy) (a : ℕ) → held_by (Some policy) h p (Some a) ≡ held_by (Some policy) k p (Some a) → may_add h p policy a ≡ may_add k p policy a
+may_add_alike h k p policy a same = go policy.may_choose same
+  where
+    go : (b : Bool) → (b && is_taken h p a) ≡ (b && is_taken k p a) → (b && (is_unicast a && not (is_taken h p a))) ≡ (b && (is_unicast a && not (is_taken k p a)))
+    go true is = ap (λ (t : Bool). is_unicast a && not t) is
+    go false is = refl
+
+granted_alike : (p : ℕ) (h k : HostState) (policy : Policy) (g : Guest) (m : Message) → HostsAlike p h k → held_by (Some policy) h p (asked_address m) ≡ held_by (Some policy) k p (asked_address m) → granted h p policy g m ≡ granted k p policy g m
 unfolding granted
 granted_alike p h k policy g Reset is held = ap (λ (ids : List ℕ). Some (begun ids policy)) is.ids
 granted_alike p h k policy g (SetAddress a) is held = ap (λ (b : Bool). if (number_of policy.address == a) || b then Some (record g { address = a }) else None) (may_add_alike h k p policy a held)
@@ -139,14 +152,29 @@ granted_alike p h k policy g Other is held = refl
 reset_alike : (ids other : List ℕ) (policy : Policy) (m : Message) → ids ≡ other → when_reset ids policy m ≡ when_reset other policy m
 reset_alike ids other policy m same = ap (λ (is : List ℕ). when_reset is policy m) same
 
-answered_alike : (p : ℕ) (h k : HostState) (s : Slot) (m : Message) → HostsAlike p h k → taken_alike h k p (asked_address m) → answered h p s m ≡ answered k p s m
+answered_alike : (p : ℕ) (h k : HostState) (s : Slot) (m : Message) → HostsAlike p h k → held_by (policy_of s) h p (asked_address m) ≡ held_by (policy_of s) k p (asked_address m) → answered h p s m ≡ answered k p s m
 answered_alike p h k Absent m is held = refl
 answered_alike p h k (Admitted policy None) m is held = reset_alike h.ids k.ids policy m is.ids
 answered_alike p h k (Admitted policy (Some g)) m is held = granted_alike p h k policy g m is held
 
+-- a message finds the function under its policy
+found_policy : (s : Slot) (m : Message) → policy_of (found s m) ≡ policy_of s
+found_policy Absent m = refl
+found_policy (Admitted policy None) m = refl
+found_policy (Admitted policy (Some g)) m = refl
+
 pub outcome_alike : (p : ℕ) (h k : HostState) (m : Message) → HostsAlike p h k → taken_alike h k p (asked_address m) → outcome h p m ≡ outcome k p m
 unfolding outcome
-outcome_alike p h k m is held = answered_alike p h k (found (slot_at h p) m) m is held ∙ ap (λ (s : Slot). answered k p (found s m) m) is.slot
+outcome_alike p h k m is held = answered_alike p h k (found (slot_at h p) m) m is once ∙ ap (λ (s : Slot). answered k p (found s m) m) is.slot
+  where
+    a : Option ℕ
+    a = asked_address m
+
+    once : held_by (policy_of (found (slot_at h p) m)) h p a ≡ held_by (policy_of (found (slot_at h p) m)) k p a
+    once =
+        ap (λ (o : Option Policy). held_by o h p a) (found_policy (slot_at h p) m)
+        ∙ sym (held_is h p a) ∙ held ∙ held_is k p a
+        ∙ ap (λ (o : Option Policy). held_by o k p a) (ap policy_of (sym is.slot) ∙ sym (found_policy (slot_at h p) m))
 
 -- after p's slot is another, the same in both
 slot_here : (h : HostState) (p : ℕ) (s : Slot) → p < 64 → length h.slots ≡ 64 → slot_at (with_slot h p s) p ≡ s

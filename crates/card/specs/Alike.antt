@@ -4,9 +4,11 @@ use Rattle.device.specs.declared.event.Event.TheVariants.{VfWrite}
 use Rattle.device.specs.Lone.{Lone, lone_of}
 use Rattle.mailbox.specs.declared.message.Message.{Message}
 use Rattle.mailbox.specs.declared.message.Message.TheVariants.{SetAddress, ReplaceSecond, AddSecond}
+use Rattle.mailbox.specs.declared.policy.Policy.{Policy}
 use Rattle.mailbox.specs.declared.slot.Slot.{Slot}
 use Rattle.mailbox.specs.Mailbox.{MailboxState, after_write}
 use Rattle.mailbox.specs.Message.{message_of}
+use Rattle.mailbox.specs.Slot.{policy_of}
 use Rattle.mailbox.specs.State.{HostState, is_taken, slot_at}
 use Rattle.vfio_session.specs.declared.decision.Ask.{Ask}
 use Rattle.vfio_session.specs.declared.decision.Ask.TheVariants.{Write}
@@ -49,7 +51,7 @@ pub record IsCard (c : CardState) : Type 0 where
   pub raised : length c.raised ≡ 64
   pub sets : (p : ℕ) → slice_index c.raised p < 8
 
--- ---- the one thing that a driver learns of the others: whether one of them holds the address that it asks for
+-- ---- the one thing that a driver learns of the others: whether one of them holds the address that it asks for and may choose
 
 -- the address that a message of the mailbox asks for, if it asks for one
 abbrev pub asked_address : Message → Option ℕ
@@ -58,9 +60,14 @@ asked_address (ReplaceSecond a) = Some a
 asked_address (AddSecond a) = Some a
 asked_address message = None
 
+abbrev pub may_choose : Option Policy → Bool
+may_choose None = false
+may_choose (Some policy) = policy.may_choose
+
+-- it learns that only where its policy lets it choose one
 abbrev pub is_held : HostState → ℕ → Option ℕ → Bool
 is_held h p None = false
-is_held h p (Some a) = is_taken h p a
+is_held h p (Some a) = may_choose (policy_of (slot_at h p)) && is_taken h p a
 
 -- a write by which the driver rings its mailbox has the host read the message that stands there
 abbrev pub asked_by : CardState → ℕ → ℕ → ℕ → Option ℕ

@@ -181,7 +181,7 @@ whose (Admits p policy) = Some p
 whose (Dismisses p) = Some p
 whose (Notifies p) = Some p
 
--- what its own deed tells it of the others: whether one holds the address that its driver asks for, or owns the address of its policy
+-- what its own deed tells it of the others: whether one holds the address that its driver asks for and may choose, or owns that of its policy
 abbrev pub is_told_of_others : ℕ → CardState → Deed → Bool
 is_told_of_others p c (Hears q message files) = is_address_held c p message files
 is_told_of_others p c (Admits q policy) = is_owned c.hosted.host p (number_of policy.address)

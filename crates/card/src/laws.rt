@@ -12,7 +12,8 @@ ghost use Rattle.card.specs.Told.{told};
 
 /// What a client is told, and what the shell is told for it, is by its message and its own function alone: in two cards in which function p
 /// is the same, whatever the others are, one message has the same reply, the same order and the same end of the connection, and function p
-/// is the same again. Where the driver asks for an address by its mailbox, it learns besides whether another function holds that address.
+/// is the same again. Where the driver asks for an address by its mailbox, and its policy lets it choose one, it learns besides whether another
+/// function holds that address.
 pub fn told_by_ones_own()
     ensures { (p : ℕ) (c d : CardState) (message : List ℕ) (files : ℕ) → p < 64
         → IsCard c → IsCard d
@@ -25,7 +26,7 @@ pub fn told_by_ones_own()
 /// To each function, the life of a card is as if it were alone on it: what it shows, what is done with its memory, the frames that it sends,
 /// and what it is then, are by what the life gives it, and by nothing else. That is its own deeds, the frames that its filters accept or that
 /// fall to it as default pool, and that a policy takes an address from it that its driver had chosen. Of the others it learns, in its own deeds
-/// alone, whether one holds the address that its driver asks for, or owns the address of its policy.
+/// alone, whether one holds the address that its driver asks for and may choose, or owns the address of its policy.
 ///
 /// So two lives that give function p the same, of two cards in which it is the same, are the same to it, however many other functions there
 /// are in the one or the other and whatever they do. One of the two may be of a card on which p has the one guest, by p's own deeds and frames

@@ -15,7 +15,7 @@ use Rattle.mailbox.specs.Policy.{is_granted, is_placed}
 use Rattle.mailbox.specs.Slot.{holds, owns, policy_of}
 use Rattle.mailbox.specs.State.{HostState, first_where, holder, is_owned, is_taken, other_holds, slot_at, with_slot}
 use Rattle.mailbox.specs.Within.{IsWithin, IsWithinPolicy, KeepsPolicies}
-use Rattle.card_laws.specs.Erased.{may_choose}
+use Rattle.card.specs.Alike.{may_choose}
 use Rattle.mailbox.proofs.Admitted.{dismiss_policies, gone_at}
 use Rattle.mailbox.proofs.Freed.{take_policies}
 

@@ -23,18 +23,19 @@ use Rattle.device.proofs.Apartness.{apart_by_test}
 use Rattle.mailbox.specs.Mailbox.{after_write as box_written}
 use Rattle.mailbox.specs.Message.{message_of}
 use Rattle.hosted.specs.Hosted.{mailbox_at}
-use Rattle.hosted.specs.Turns.{is_taken, rings, takes}
+use Rattle.hosted.specs.Turns.{is_taken as is_answered, rings, takes}
 use Rattle.vfio_session.specs.declared.decision.Ask.{Ask}
 use Rattle.vfio_session.specs.declared.decision.Ask.TheVariants.{Read, Write, Map, Unmap, Reset, Arm, Disarm}
 use Rattle.vfio_session.specs.Received.{received}
-use Rattle.card.specs.Alike.{IsCard, Part, asked_address, asked_in, is_address_held, is_held}
+use Rattle.card.specs.Alike.{IsCard, Part, asked_address, asked_in, is_address_held, is_held, may_choose}
+use Rattle.mailbox.specs.State.{is_taken}
 use Rattle.card.specs.Card.{CardState, EndState, end_at}
 use Rattle.card.specs.Life.{Deed, Hears, Happens, Signals, Resets, Comes, Goes, Replaces, Admits, Dismisses, Notifies, IsDeed, IsLivedAlike, Seen, Show, after_deed, shown_in, world_of}
-use Rattle.card_laws.specs.Erased.{AreAlikeOutside, BeforeEach, HasOwnVlans, LeavesNoInput, StaysApart, erase, input_in, inputs, is_groups, is_outside, is_service}
+use Rattle.card_laws.specs.Erased.{AreAlikeOutside, BeforeEach, HasOwnVlans, LeavesNoInput, StaysApart, chooses, erase, input_in, inputs, is_groups, is_outside, is_service}
 use Rattle.card_laws.proofs.Addresses.{taken_same}
 use Rattle.card_laws.proofs.Steady.{Laws}
 use Rattle.card_laws.proofs.Erasing.{alike_itself, both_after, groups_after, lived_without}
-use Rattle.card_laws.proofs.Given.{Pair, alike_here, default_same, lives_event}
+use Rattle.card_laws.proofs.Given.{Pair, alike_here, below, default_same, lives_event}
 use Rattle.card_laws.proofs.Vlans.{by_policies}
 
 -- ---- VLANs
@@ -61,7 +62,7 @@ seen_reply q offset x c =
 takes_same : Laws → (group : ℕ → Bool) (q offset x : ℕ) (c d : CardState) → Pair group q c d → takes c.hosted (VfWrite q offset x) ≡ takes d.hosted (VfWrite q offset x)
 takes_same laws group q offset x c d b =
     let lived : IsLivedAlike q c (Happens (VfWrite q offset x) ∷ []) d (Happens (VfWrite q offset x) ∷ []) = lives_event laws group q c d (VfWrite q offset x) b (eq-eqb q q refl) refl in
-    ap is_taken (sym (seen_reply q offset x c) ∙ ap reply_in lived.shows ∙ seen_reply q offset x d)
+    ap is_answered (sym (seen_reply q offset x c) ∙ ap reply_in lived.shows ∙ seen_reply q offset x d)
 
 boxes_same : (group : ℕ → Bool) (q : ℕ) (c d : CardState) → Pair group q c d → mailbox_at c.hosted q ≡ mailbox_at d.hosted q
 boxes_same group q c d b = ap (λ (r : Part). r.mailbox) (alike_here group q c d b).part
@@ -81,7 +82,7 @@ asked_same laws group q c d (Some (Disarm vectors)) b = refl
 takes_none : (q offset x : ℕ) (c : CardState) → ltb q (length (world_of c).functions) ≡ false → takes c.hosted (VfWrite q offset x) ≡ false
 takes_none q offset x c none =
     let w : World = world_of c in
-    ap (λ (t : Bool). is_taken (if t then acted w q (act (function_of q w) (VfWrite q offset x)) else refused w NoSuchVf).answer.reply) none
+    ap (λ (t : Bool). is_answered (if t then acted w q (act (function_of q w) (VfWrite q offset x)) else refused w NoSuchVf).answer.reply) none
 
 asked_none : (q : ℕ) (c : CardState) (a : Option Ask) → ltb q (length (world_of c).functions) ≡ false → asked_in c q a ≡ None
 asked_none q c None none = refl
@@ -93,12 +94,18 @@ asked_none q c (Some (Unmap range)) none = refl
 asked_none q c (Some (Arm vectors)) none = refl
 asked_none q c (Some (Disarm vectors)) none = refl
 
--- whether another function holds it
-held_same : (group : ℕ → Bool) (p q : ℕ) (c d : CardState) (o : Option ℕ) → Pair group p c d → LeavesNoInput group c → is_held c.hosted.host q o ≡ is_held d.hosted.host q o
-held_same group p q c d None b none = refl
-held_same group p q c d (Some a) b none =
-    taken_same c.hosted.host d.hosted.host q a b.one.hosted.slots b.two.hosted.slots b.one.hosted.within b.two.hosted.within b.alike.policies
-    (λ r small chooses. let at = none.chosen r small chooses in ap (λ (t : Part). t.slot) (b.alike.functions r at.0 at.1).part)
+-- whether it may choose it, and another function holds it
+held_same : (group : ℕ → Bool) (p q : ℕ) (c d : CardState) (o : Option ℕ) → Pair group p c d → LeavesNoInput group c → q < 64 → group q ≡ false → is_held c.hosted.host q o ≡ is_held d.hosted.host q o
+held_same group p q c d None b none small free = refl
+held_same group p q c d (Some a) b none small free =
+    go (chooses c q) refl ∙ ap (λ (t : Bool). t && is_taken d.hosted.host q a) (ap may_choose (b.alike.policies q))
+  where
+    go : (t : Bool) → chooses c q ≡ t → (chooses c q && is_taken c.hosted.host q a) ≡ (chooses c q && is_taken d.hosted.host q a)
+    go false is = (λ i. is i && is_taken c.hosted.host q a) ∙ sym (λ i. is i && is_taken d.hosted.host q a)
+    go true is =
+        ap (λ (t : Bool). chooses c q && t)
+        (taken_same c.hosted.host d.hosted.host q a b.one.hosted.slots b.two.hosted.slots b.one.hosted.within b.two.hosted.within b.alike.policies
+        (λ r inside also. let at = none.chosen q r small inside free is also in ap (λ (n : Part). n.slot) (b.alike.functions r at.0 at.1).part))
 
 hears_same : Laws → (group : ℕ → Bool) (p q : ℕ) (c d : CardState) (message : List ℕ) (files : ℕ) → Pair group p c d → LeavesNoInput group c → group q ≡ false
     → is_address_held c q message files ≡ is_address_held d q message files
@@ -110,7 +117,7 @@ hears_same laws group p q c d message files b none free = go (ltb q (length (wor
         let asks : asked_in c q (received (end_at c q).session message files).asks ≡ asked_in d q (received (end_at d q).session message files).asks
         = asked_same laws group q c d (received (end_at c q).session message files).asks here
         ∙ ap (λ (e : EndState). asked_in d q (received e.session message files).asks) (ap (λ (r : Part). r.end) (alike_here group q c d here).part) in
-        held_same group p q c d (asked_in c q (received (end_at c q).session message files).asks) b none ∙ ap (is_held d.hosted.host q) asks
+        held_same group p q c d (asked_in c q (received (end_at c q).session message files).asks) b none (below group q c d here) free ∙ ap (is_held d.hosted.host q) asks
     go false is =
         ap (is_held c.hosted.host q) (asked_none q c (received (end_at c q).session message files).asks is)
         ∙ sym (ap (is_held d.hosted.host q) (asked_none q d (received (end_at d q).session message files).asks (sym (ap (ltb q) b.alike.count) ∙ is)))

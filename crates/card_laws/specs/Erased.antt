@@ -11,7 +11,7 @@ use Rattle.mailbox.specs.Policy.{is_port}
 use Rattle.mailbox.specs.Slot.{policy_of}
 use Rattle.mailbox.specs.State.{HostState, slot_at}
 use Rattle.mailbox.specs.Within.{IsNamedFor, KeepsPolicies}
-use Rattle.card.specs.Alike.{AreAlike, is_address_held}
+use Rattle.card.specs.Alike.{AreAlike, is_address_held, may_choose}
 use Rattle.card.specs.Card.{CardState}
 use Rattle.card.specs.Life.{Deed, Hears, Happens, Admits, Dismisses, after_deed, whose, world_of}
 
@@ -70,10 +70,6 @@ inputs group c (x ∷ xs) = if is_groups group x then inputs group (after_deed c
 
 -- ---- policies that keep a group apart
 
-abbrev pub may_choose : Option Policy → Bool
-may_choose None = false
-may_choose (Some policy) = policy.may_choose
-
 -- a function without a port VLAN takes untagged frames while it is up
 abbrev pub takes_untagged : Option Policy → Bool
 takes_untagged None = false
@@ -88,9 +84,12 @@ pub record ShareNoVlan (h : HostState) (q r : ℕ) : Type 0 where
 abbrev pub HasOwnVlans : (ℕ → Bool) → CardState → Type 0
 HasOwnVlans group c = (q r : ℕ) → q < 64 → r < 64 → group q ≡ true → group r ≡ false → ShareNoVlan c.hosted.host q r
 
--- nothing stays as input: where an address may be chosen, it is by a function outside, and the default pool is not outside
+abbrev pub chooses : CardState → ℕ → Bool
+chooses c q = may_choose (policy_of (slot_at c.hosted.host q))
+
+-- nothing stays as input: where a function outside may choose an address, none but functions outside may, and the default pool is not outside
 pub record LeavesNoInput (group : ℕ → Bool) (c : CardState) : Type 0 where
-  pub chosen : (q : ℕ) → q < 64 → may_choose (policy_of (slot_at c.hosted.host q)) ≡ true → (q < length (world_of c).functions) × (group q ≡ false)
+  pub chosen : (q r : ℕ) → q < 64 → r < 64 → group q ≡ false → chooses c q ≡ true → chooses c r ≡ true → (r < length (world_of c).functions) × (group r ≡ false)
   pub default_pool : is_outside group (default_pool (world_of c).settings) ≡ false
 
 -- it is so of the card before each deed

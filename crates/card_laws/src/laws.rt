@@ -64,8 +64,9 @@ pub fn whatever_a_group_does()
     heard_by_bounded_work();
 }
 
-/// It is so by the policies alone, where they give the group VLANs that it shares with no function outside, where nobody but functions outside may
-/// choose addresses, and where the default pool is none outside. Then nothing stays as input, and nothing that the group's guests do is asked.
+/// It is so by the policies alone, where they give the group VLANs that it shares with no function outside, where addresses may be chosen by
+/// functions outside alone or by none of them, and where the default pool is none outside. Then nothing stays as input, and nothing that the
+/// group's guests do is asked.
 pub fn erased_by_policies()
     ensures lived { (group : ℕ → Bool) (p : ℕ) (c d : CardState) (xs : List Deed) →
         p < length (world_of c).functions → group p ≡ false → IsCard c → IsCard d → All IsDeed xs

@@ -1,6 +1,6 @@
 //! The program's filter of its system calls: all other tests run under it.
 
-use crate::program::{Folder, Server, PATIENCE};
+use crate::program::{wait_until, Folder, Server, PATIENCE};
 use std::fs;
 use std::os::unix::net::UnixDatagram;
 use std::process::{Command, Stdio};
@@ -22,7 +22,8 @@ fn status(process: &str, name: &str) -> Option<u32> {
 fn a_filter_is_in_force() {
     let with = Server::new(1);
     let process = with.process().to_string();
-    assert_eq!(status(&process, "Seccomp"), Some(2));
+    // (its sockets are there before it serves)
+    wait_until("the filter", || status(&process, "Seccomp") == Some(2));
     assert_eq!(status(&process, "NoNewPrivs"), Some(1));
     // (what runs the tests may have filters of its own, and a kernel before 5.9 doesn't count them)
     let ours = status("self", "Seccomp_filters");

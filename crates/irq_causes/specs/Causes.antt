@@ -1,15 +1,16 @@
--- Interrupt causes of one virtual function: three sets of its vectors 0 to 2, and the messages that a change issues.
+-- Interrupt causes of one virtual function: four sets of its vectors 0 to 2, and the messages that a change issues.
 -- A set is a number below 8, whose bit v is 1 where vector v is in it.
 use Rattle.std.specs.Prelude.{ℕ, ◌%◌, ◌^◌, ◌||◌, nat_lt, bit_and, bit_or, if◌then◌else◌}
 use Rattle.std.specs.Int.{bit_not, w8}
 use Rattle.wire_frame.specs.Bits.{has_bit, with_bit}
 
--- the causes that stand (EICR), the vectors whose messages are enabled (EIMS), and those whose cause stands no more once
--- its message is issued (EIAC)
+-- the causes that stand (EICR), the vectors whose messages are enabled (EIMS), those whose cause stands no more once its
+-- message is issued (EIAC), and those whose messages are enabled no more once one is issued (EIAM)
 pub record CauseState : Type 0 where
   pub causes : ℕ
   pub enabled : ℕ
   pub auto_clear : ℕ
+  pub auto_mask : ℕ
 
 -- what a change leaves, and the vectors whose messages it issued
 pub record Change (S : Type 0) : Type 0 where
@@ -17,7 +18,7 @@ pub record Change (S : Type 0) : Type 0 where
   pub messages : ℕ
 
 abbrev pub no_causes : CauseState
-no_causes = record { causes = 0; enabled = 0; auto_clear = 0 }
+no_causes = record { causes = 0; enabled = 0; auto_clear = 0; auto_mask = 0 }
 
 -- the vectors that a word of a register names: its low three bits
 abbrev pub vectors_in : ℕ → ℕ
@@ -28,7 +29,7 @@ infixl 10 ◌without◌
 abbrev pub ◌without◌ : ℕ → ℕ → ℕ
 a without b = bit_and a (bit_not w8 b)
 
--- vector v joins the causes, leaves them, is enabled
+-- vector v joins the causes, leaves them, is enabled, is enabled no more
 abbrev pub with_cause : CauseState → ℕ → CauseState
 with_cause c v = record c { causes = with_bit c.causes v }
 
@@ -38,13 +39,17 @@ without_cause c v = record c { causes = c.causes without 2 ^ v }
 abbrev pub with_enabled : CauseState → ℕ → CauseState
 with_enabled c v = record c { enabled = with_bit c.enabled v }
 
+abbrev pub without_enabled : CauseState → ℕ → CauseState
+without_enabled c v = record c { enabled = c.enabled without 2 ^ v }
+
 -- no message
 abbrev pub silent : {S : Type 0} → S → Change S
 silent s = record { state = s; messages = 0 }
 
--- the message of vector v alone
-abbrev pub issued : CauseState → ℕ → Change CauseState
-issued c v = record { state = c; messages = 2 ^ v }
+-- the message of vector v alone, which is enabled no more if it is masked automatically (82599 datasheet, extended interrupt
+-- auto mask enable)
+unfoldable pub issued : CauseState → ℕ → Change CauseState
+issued c v = record { state = if has_bit c.auto_mask v then without_enabled c v else c; messages = 2 ^ v }
 
 -- Cause v is raised. There is no vector above 2, and a cause that stands already changes nothing. Else one that is not
 -- enabled joins the causes, and one that is enabled issues its message, and joins the causes unless it is cleared
@@ -90,6 +95,10 @@ masked c word = record c { enabled = c.enabled without vectors_in word }
 -- a write of EIAC: the vectors that the word names, and no others, are cleared automatically
 abbrev pub auto_clearing : CauseState → ℕ → CauseState
 auto_clearing c word = record c { auto_clear = vectors_in word }
+
+-- a write of EIAM: the vectors that the word names, and no others, are masked automatically
+abbrev pub auto_masking : CauseState → ℕ → CauseState
+auto_masking c word = record c { auto_mask = vectors_in word }
 
 -- a write of EICR: the causes that the word names stand no more
 abbrev pub cleared : CauseState → ℕ → CauseState

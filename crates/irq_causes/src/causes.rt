@@ -1,6 +1,7 @@
-//! Three sets of vectors, and what changes them.
-ghost use Rattle.std.specs.Prelude.{◌≡◌, ◌<◌};
-ghost use Rattle.irq_causes.specs.Causes.{no_causes, raised, unmasked, raised_in, unmasked_in, all_raised, all_unmasked, masked, auto_clearing, cleared, emptied, raised_by};
+//! Four sets of vectors, and what changes them.
+ghost use Rattle.std.specs.Prelude.{◌≡◌, ℕ, ◌<◌, ◌^◌, true, false};
+ghost use Rattle.wire_frame.specs.Bits.{has_bit};
+ghost use Rattle.irq_causes.specs.Causes.{no_causes, raised, unmasked, raised_in, unmasked_in, all_raised, all_unmasked, masked, auto_clearing, auto_masking, cleared, emptied, issued, raised_by};
 
 use crate::Vectors;
 use std::marker::Model;
@@ -9,12 +10,14 @@ use wire_frame::has_bit;
 /// The bit of an entry of VTIVAR that says that the entry names a vector (82599 datasheet, INT_Alloc_val).
 const ALLOCATED: u32 = 7;
 
-/// The causes of one virtual function that stand, the vectors that are enabled, and those that are cleared automatically.
+/// The causes of one virtual function that stand, the vectors that are enabled, and those that are cleared or masked
+/// automatically.
 #[derive(Debug, Drop)]
 pub struct Causes {
     causes: Vectors,
     enabled: Vectors,
     auto_clear: Vectors,
+    auto_mask: Vectors,
 }
 
 impl Model for Causes {
@@ -26,6 +29,7 @@ impl Model for Causes {
       causes = c.causes;
       enabled = c.enabled;
       auto_clear = c.auto_clear;
+      auto_mask = c.auto_mask;
     } };
 }
 
@@ -33,7 +37,7 @@ impl Causes {
     /// How many vectors there are.
     pub const VECTORS: u8 = 3;
 
-    /// No cause stands, and no vector is enabled or cleared automatically, as after a reset.
+    /// No cause stands, and no vector is enabled, or cleared or masked automatically, as after a reset.
     pub fn new() -> Causes
         ensures { result ≡ no_causes }
     {
@@ -41,6 +45,7 @@ impl Causes {
             causes: Vectors::none(),
             enabled: Vectors::none(),
             auto_clear: Vectors::none(),
+            auto_mask: Vectors::none(),
         }
     }
 
@@ -60,10 +65,20 @@ impl Causes {
         self.auto_clear
     }
 
+    /// A read of the auto-mask register: the vectors that are masked automatically (82599 datasheet, extended interrupt auto
+    /// mask enable, VTEIAM).
+    #[inline]
+    pub fn auto_mask(&self) -> Vectors
+        ensures { result ≡ self.now.auto_mask }
+    {
+        self.auto_mask
+    }
+
     /// Raises cause `v`, and answers with the messages that this issues: that of `v`, or none.
     ///
     /// There is no vector above 2, and a cause that stands already changes nothing. Otherwise an enabled vector issues its
-    /// message, and stands unless it is cleared automatically; one that is not enabled stands.
+    /// message, stands unless it is cleared automatically, and is enabled no more if it is masked automatically; one that is
+    /// not enabled stands.
     #[tactic(auto, unfolding(crate::specs::Causes::raised))]
     pub fn cause(&mut self, v: u8) -> Vectors
         ensures state { self.new ≡ (raised self.old v).state }
@@ -80,7 +95,7 @@ impl Causes {
         if !self.auto_clear.contains(v) {
             self.causes = self.causes.with(vector);
         }
-        vector
+        self.issue(v)
     }
 
     /// Raises the cause that an entry of the vector allocation register names, and answers with the messages that this
@@ -133,8 +148,8 @@ impl Causes {
     /// A write of the mask set register: enables each vector that has a 1 in the bits 2:0, in rising order, and answers with
     /// the messages that this issues (82599 datasheet, VTEIMS).
     ///
-    /// A vector that is enabled already changes nothing. One whose cause stands issues its message, and stands no more if it
-    /// is cleared automatically.
+    /// A vector that is enabled already changes nothing. One whose cause stands issues its message, stands no more if it is
+    /// cleared automatically, and is enabled no more if it is masked automatically.
     #[tactic(auto, unfolding(crate::specs::Causes::all_unmasked))]
     pub fn ims(&mut self, bits: u32) -> Vectors
         ensures state { self.new ≡ (all_unmasked self.old bits).state }
@@ -162,6 +177,26 @@ impl Causes {
         self.auto_clear = Vectors::of_word(bits);
     }
 
+    /// A write of the auto-mask register: exactly the vectors with a 1 in the bits 2:0 are masked automatically from now on:
+    /// such a vector is enabled no more once its message is issued, until a write of the mask set register. No message is
+    /// issued, and the mask stays (82599 datasheet, extended interrupt auto mask enable, VTEIAM; in MSI-X mode, where
+    /// GPIE.EIAME is 1).
+    pub fn iam(&mut self, bits: u32)
+        ensures { self.new ≡ auto_masking self.old bits }
+    {
+        self.auto_mask = Vectors::of_word(bits);
+    }
+
+    /// Two laws: the message of a vector that is masked automatically leaves it enabled no more, and that of any other leaves
+    /// every set as it is. The call does nothing.
+    #[tactic(auto, unfolding(crate::specs::Causes::issued), using(crate::proofs::Bounds::has_bit_left_out))]
+    pub fn message_masks_its_vector(&self)
+        ensures masked { (v : ℕ) → v < 3 → has_bit self.now.auto_mask v ≡ true
+            → has_bit (issued self.now v).state.enabled v ≡ false }
+        ensures others { (v : ℕ) → has_bit self.now.auto_mask v ≡ false
+            → issued self.now v ≡ record { state = self.now; messages = 2 ^ v } }
+    {}
+
     // Enables vector `v`.
     #[tactic(auto, unfolding(crate::specs::Causes::unmasked))]
     fn unmask(&mut self, v: u8) -> Vectors
@@ -179,6 +214,20 @@ impl Causes {
         }
         if self.auto_clear.contains(v) {
             self.causes = self.causes.without(vector);
+        }
+        self.issue(v)
+    }
+
+    // Issues the message of vector `v`, which is enabled no more if it is masked automatically.
+    #[tactic(auto, unfolding(crate::specs::Causes::issued))]
+    fn issue(&mut self, v: u8) -> Vectors
+        requires { v < 3 }
+        ensures state { self.new ≡ (issued self.old v).state }
+        ensures messages { result ≡ (issued self.old v).messages }
+    {
+        let vector = Vectors::of(v);
+        if self.auto_mask.contains(v) {
+            self.enabled = self.enabled.without(vector);
         }
         vector
     }

@@ -12,7 +12,7 @@ use anyhow::{Result, anyhow};
 use guest_memory::{FlatMem, GuestMem};
 use live_memory::Traced;
 use rings::{Ring, RingRegister};
-use rx_desc::{Placed, RxConfig, place_in};
+use rx_desc::{Placed, RxConfig, RxFormat, place_in};
 use std::alloc::Global;
 use std::env;
 use tx_desc::Progress;
@@ -53,6 +53,7 @@ fn place_many<M: GuestMem>(memory: M, frame: &FrameBuf, strip_tag: bool, turns: 
     let config = RxConfig {
         buffer_size: 2048,
         strip_tag,
+        format: RxFormat::Advanced,
     };
     let mut memory = Traced::new(memory);
     let mut ring = Ring::new();

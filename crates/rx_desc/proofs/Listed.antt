@@ -1,5 +1,5 @@
 -- The accesses of a placing are the definition's list.
-use Rattle.std.proofs.Common.{◌≡◌, ℕ, suc, ◌+◌, ◌<◌, ◌≤◌, List, [], ◌∷◌, ◌++◌, length, take, get_or, Option, None, Bool, true, false, nat_lt, refl, sym, ◌∙◌, ap, arith, append_assoc, append-nil}
+use Rattle.std.proofs.Common.{◌≡◌, ℕ, suc, ◌+◌, ◌<◌, ◌≤◌, List, [], ◌∷◌, ◌++◌, length, take, get_or, None, Bool, true, false, nat_lt, refl, sym, ◌∙◌, ap, arith, append_assoc, append-nil}
 use Rattle.std.proofs.lemmas.Bool.{ltb-false, lt-ltb, le-ltb}
 use Rattle.guest_memory.specs.Memory.{Write, word_at, word_bytes, two_words}
 use Rattle.live_memory.specs.Trace.{Access, Read, Wrote, wrotes, reads, NotRead, ReadOnce}
@@ -7,7 +7,8 @@ use Rattle.live_memory.proofs.Accesses.{reads_append, reads_wrotes}
 use Rattle.live_memory.proofs.Once.{not_read_none, once_append, later_none}
 use Rattle.rings.specs.Ring.{RingState, owned}
 use Rattle.rx_desc.specs.declared.placing.RxConfig.{RxConfig}
-use Rattle.rx_desc.specs.Receive.{slots, status, cut, zip_writes, data_writes, back_writes, passes_end}
+use Rattle.rx_desc.specs.declared.write_back.WriteBack.{WriteBack}
+use Rattle.rx_desc.specs.Receive.{slots, first_word, status, cut, zip_writes, data_writes, back_writes, words_back, passes_end}
 use Rattle.rx_desc.specs.Accesses.{descriptors_read, words_read, pieces_accesses, deliver_accesses}
 use Rattle.rx_desc.proofs.Pieces.{one_piece, or_false, length-cut, length-slots, StepsOn, rest_writes, words_at, words_at-is, pieces-one}
 
@@ -41,13 +42,13 @@ wrotes_once n (w ∷ ws) fits =
     (ltb-false n (w.at + length w.bytes) both.0, (not_read_none w.at (length w.bytes) (wrotes ws) (reads_wrotes ws), wrotes_once n ws both.1))
 
 -- write-backs inside a memory
-pub backs_fit : (n : ℕ) (lb : Bool) (tag : Option ℕ) (places : List ℕ) (ps : List (List ℕ)) → ((j : ℕ) → j < length places → get_or places j 0 + 16 ≤ n) → passes_end n (back_writes lb tag places ps) ≡ false
-unfolding passes_end back_writes
-backs_fit n lb tag [] ps inside = refl
-backs_fit n lb tag (s ∷ places) [] inside = refl
-backs_fit n lb tag (s ∷ places) (p ∷ ps) inside =
+pub backs_fit : (n : ℕ) (back : WriteBack) (places : List ℕ) (ws : List Write) → ((j : ℕ) → j < length places → get_or places j 0 + 16 ≤ n) → passes_end n (back_writes back places ws) ≡ false
+unfolding passes_end back_writes words_back
+backs_fit n back [] ws inside = refl
+backs_fit n back (s ∷ places) [] inside = refl
+backs_fit n back (s ∷ places) (w ∷ ws) inside =
     let first : s + 16 ≤ n = inside 0 (omega arith) in
-    let all = backs_fit n lb tag places ps (λ j less. inside (suc j) (omega (arith, less))) in
+    let all = backs_fit n back places ws (λ j less. inside (suc j) (omega (arith, less))) in
     rw (length-two_words, le-ltb n (s + 16) first, all) refl
 
 -- two rows of writes, one after the other
@@ -80,33 +81,33 @@ counts_words end n places m b count xs same = ap (descriptors_read n) (words_at-
 
 -- ---- the ends of a placing
 
-pub few_accesses : (lb : Bool) (tag : Option ℕ) (ps : List (List ℕ)) (m : List ℕ) (r : RingState) (before : List Access) → length (owned r) < length ps → before ≡ before ++ pieces_accesses lb tag ps m r
+pub few_accesses : (back : WriteBack) (ps : List (List ℕ)) (m : List ℕ) (r : RingState) (before : List Access) → length (owned r) < length ps → before ≡ before ++ pieces_accesses back ps m r
 unfolding pieces_accesses
-few_accesses lb tag ps m r before few = rw (lt-ltb (length (owned r)) (length ps) few) (sym (append-nil before))
+few_accesses back ps m r before few = rw (lt-ltb (length (owned r)) (length ps) few) (sym (append-nil before))
 
-pub past_accesses : (b n : ℕ) (lb : Bool) (tag : Option ℕ) (xs m : List ℕ) (r : RingState) → n ≤ length (owned r) → passes_end (length m) (data_writes (slots r) (cut b n xs) m) ≡ true → words_read (take (descriptors_read (length m) (data_writes (slots r) (cut b n xs) m)) (slots r)) m ≡ pieces_accesses lb tag (cut b n xs) m r
+pub past_accesses : (b n : ℕ) (back : WriteBack) (xs m : List ℕ) (r : RingState) → n ≤ length (owned r) → passes_end (length m) (data_writes (slots r) (cut b n xs) m) ≡ true → words_read (take (descriptors_read (length m) (data_writes (slots r) (cut b n xs) m)) (slots r)) m ≡ pieces_accesses back (cut b n xs) m r
 unfolding pieces_accesses
-past_accesses b n lb tag xs m r room past =
+past_accesses b n back xs m r room past =
     let test : nat_lt (length (owned r)) (length (cut b n xs)) ≡ false = rw length-cut (le-ltb _ _ room) in
     rw (test, past) (sym (append-nil (words_read (take (descriptors_read (length m) (data_writes (slots r) (cut b n xs) m)) (slots r)) m)))
 
-pub put_accesses : (b n : ℕ) (lb : Bool) (tag : Option ℕ) (xs m : List ℕ) (r : RingState) → n ≤ length (owned r) → passes_end (length m) (data_writes (slots r) (cut b n xs) m) ≡ false → words_read (take (descriptors_read (length m) (data_writes (slots r) (cut b n xs) m)) (slots r)) m ++ (wrotes (data_writes (slots r) (cut b n xs) m) ++ wrotes (back_writes lb tag (slots r) (cut b n xs))) ≡ pieces_accesses lb tag (cut b n xs) m r
+pub put_accesses : (b n : ℕ) (back : WriteBack) (xs m : List ℕ) (r : RingState) → n ≤ length (owned r) → passes_end (length m) (data_writes (slots r) (cut b n xs) m) ≡ false → words_read (take (descriptors_read (length m) (data_writes (slots r) (cut b n xs) m)) (slots r)) m ++ (wrotes (data_writes (slots r) (cut b n xs) m) ++ wrotes (back_writes back (slots r) (data_writes (slots r) (cut b n xs) m))) ≡ pieces_accesses back (cut b n xs) m r
 unfolding pieces_accesses
-put_accesses b n lb tag xs m r room fits =
+put_accesses b n back xs m r room fits =
     let test : nat_lt (length (owned r)) (length (cut b n xs)) ≡ false = rw length-cut (le-ltb _ _ room) in
     rw (test, fits) refl
 
 -- a frame that is placed with its tag and fits one buffer is one piece
-pub whole_accesses : (config : RxConfig) (lb : Bool) (frame xs m : List ℕ) (r : RingState) → r.enabled ≡ true → config.strip_tag ≡ false → 1 ≤ length frame → length xs ≤ config.buffer_size → xs ≡ frame → deliver_accesses config lb frame m r ≡ pieces_accesses lb None (xs ∷ []) m r
+pub whole_accesses : (config : RxConfig) (lb : Bool) (frame xs m : List ℕ) (r : RingState) → r.enabled ≡ true → config.strip_tag ≡ false → 1 ≤ length frame → length xs ≤ config.buffer_size → xs ≡ frame → deliver_accesses config lb frame m r ≡ pieces_accesses (record { format = config.format; loopback = lb; tag = None }) (xs ∷ []) m r
 unfolding deliver_accesses
 whole_accesses config lb frame xs m r on plain some fits same = rw (on, plain, sym same, pieces-one config.buffer_size xs (omega (arith, some, ap length same)) fits) refl
 
 -- ---- one piece
 
-first_word : (places m : List ℕ) (s a : ℕ) → 0 < length places → s ≡ get_or places 0 0 → a ≡ word_at s m → words_read (take 1 places) m ≡ Read s (word_bytes a) ∷ []
+first_read : (places m : List ℕ) (s a : ℕ) → 0 < length places → s ≡ get_or places 0 0 → a ≡ word_at s m → words_read (take 1 places) m ≡ Read s (word_bytes a) ∷ []
 unfolding words_read
-first_word [] m s a some first at = absurd (omega (arith, some))
-first_word (q ∷ places) m s a some first at = rw (sym first, sym at) refl
+first_read [] m s a some first at = absurd (omega (arith, some))
+first_read (q ∷ places) m s a some first at = rw (sym first, sym at) refl
 
 one_read_past : (n a : ℕ) (xs : List ℕ) → descriptors_read n (record { at = a; bytes = xs } ∷ []) ≡ 1
 unfolding descriptors_read
@@ -116,18 +117,18 @@ one_read_past n a xs = at (nat_lt n (a + length xs)) refl
     at true is = rw is refl
     at false is = rw is refl
 
-pub one_past_accesses : (lb : Bool) (tag : Option ℕ) (xs m : List ℕ) (r : RingState) (s a : ℕ) → 0 < length (owned r) → s ≡ get_or (slots r) 0 0 → a ≡ word_at s m → length m < a + length xs → Read s (word_bytes a) ∷ [] ≡ pieces_accesses lb tag (xs ∷ []) m r
+pub one_past_accesses : (back : WriteBack) (xs m : List ℕ) (r : RingState) (s a : ℕ) → 0 < length (owned r) → s ≡ get_or (slots r) 0 0 → a ≡ word_at s m → length m < a + length xs → Read s (word_bytes a) ∷ [] ≡ pieces_accesses back (xs ∷ []) m r
 unfolding pieces_accesses passes_end
-one_past_accesses lb tag xs m r s a owns first at past =
+one_past_accesses back xs m r s a owns first at past =
     let there : 0 < length (slots r) = omega (arith, owns, length-slots r) in
-    let one = one_piece lb tag (slots r) xs m s a (status lb tag true (length xs)) there first at refl in
+    let one = one_piece back (slots r) xs m s a _ _ there first at refl refl in
     let test : nat_lt (length (owned r)) 1 ≡ false = le-ltb _ _ owns in
-    rw (test, one.writes, one_read_past, first_word (slots r) m s a there first at, lt-ltb (length m) (a + length xs) past) refl
+    rw (test, one.writes, one_read_past, first_read (slots r) m s a there first at, lt-ltb (length m) (a + length xs) past) refl
 
-pub one_put_accesses : (lb : Bool) (tag : Option ℕ) (xs m : List ℕ) (r : RingState) (s a word : ℕ) → 0 < length (owned r) → s ≡ get_or (slots r) 0 0 → a ≡ word_at s m → a + length xs ≤ length m → word ≡ status lb tag true (length xs) → Read s (word_bytes a) ∷ Wrote a xs ∷ Wrote s (two_words 0 word) ∷ [] ≡ pieces_accesses lb tag (xs ∷ []) m r
+pub one_put_accesses : (back : WriteBack) (xs m : List ℕ) (r : RingState) (s a low high : ℕ) → 0 < length (owned r) → s ≡ get_or (slots r) 0 0 → a ≡ word_at s m → a + length xs ≤ length m → low ≡ first_word back.format a → high ≡ status back.format back.loopback back.tag true (length xs) → Read s (word_bytes a) ∷ Wrote a xs ∷ Wrote s (two_words low high) ∷ [] ≡ pieces_accesses back (xs ∷ []) m r
 unfolding pieces_accesses passes_end wrotes
-one_put_accesses lb tag xs m r s a word owns first at fits is =
+one_put_accesses back xs m r s a low high owns first at fits is_low is_high =
     let there : 0 < length (slots r) = omega (arith, owns, length-slots r) in
-    let one = one_piece lb tag (slots r) xs m s a word there first at is in
+    let one = one_piece back (slots r) xs m s a low high there first at is_low is_high in
     let test : nat_lt (length (owned r)) 1 ≡ false = le-ltb _ _ owns in
-    rw (test, one.writes, one.backs, one_read_past, first_word (slots r) m s a there first at, le-ltb (length m) (a + length xs) fits) refl
+    rw (test, one.backs, one.writes, one_read_past, first_read (slots r) m s a there first at, le-ltb (length m) (a + length xs) fits) refl

@@ -1,5 +1,5 @@
 -- The loops over the pieces of a frame, one piece at a time.
-use Rattle.std.proofs.Common.{◌≡◌, ℕ, zero, suc, ◌+◌, ◌-◌, ◌*◌, ◌/◌, ◌<◌, ◌≤◌, min, List, [], ◌∷◌, length, take, drop, set, get_or, map, Option, None, Bool, true, false, nat_lt, ◌||◌, refl, sym, ◌∙◌, ap, arith, eqb, inl, inr}
+use Rattle.std.proofs.Common.{◌≡◌, ℕ, zero, suc, ◌+◌, ◌-◌, ◌*◌, ◌/◌, ◌<◌, ◌≤◌, min, List, [], ◌∷◌, length, take, drop, set, get_or, map, None, Bool, true, false, nat_lt, ◌||◌, refl, sym, ◌∙◌, ap, arith, eqb, inl, inr}
 use Rattle.std.proofs.lemmas.List.{drop_more, take_more, take_more_set, take_min, drop_min, take_all, get_or-map, length-map}
 use Rattle.std.proofs.lemmas.Nat.{div-mul-add}
 use Rattle.std.proofs.lemmas.Bool.{ltb-false, lt-ltb, le-ltb, cases_eq, eq-eqb, ne_eqb}
@@ -7,7 +7,8 @@ use Rattle.guest_memory.specs.Memory.{Write, overwrite, write_all, two_words, wo
 use Rattle.rings.specs.Ring.{RingState, owned, head_after}
 use Rattle.rx_desc.specs.declared.placing.Placed.TheVariants.{Put, NoRoom, Faulted}
 use Rattle.rx_desc.specs.declared.placing.RxConfig.{RxConfig}
-use Rattle.rx_desc.specs.Receive.{deliver, deliver_pieces, pieces, slots, data_writes, is_nil, cut, zip_writes, back_writes, passes_end, status}
+use Rattle.rx_desc.specs.declared.write_back.WriteBack.{WriteBack}
+use Rattle.rx_desc.specs.Receive.{deliver, deliver_pieces, pieces, slots, data_writes, is_nil, cut, zip_writes, back_writes, words_back, first_word, passes_end, status}
 
 -- the writes from the piece at i on; xs is what is left of the data
 pub rest_writes : List ℕ → ℕ → ℕ → ℕ → List ℕ → List Write
@@ -78,47 +79,52 @@ pub fits_on : (places : List ℕ) (b n i : ℕ) (xs piece tail m m' : List ℕ) 
 fits_on places b n i xs piece tail m m' a end s e =
     let both = or_false _ _ (sym s.passes ∙ e) in record { here = ltb-false end (a + length piece) both.0; after = both.1 }
 
--- the write-backs from the piece at i on; xs is what is left of the data
-pub rest_backs : Bool → Option ℕ → List ℕ → ℕ → ℕ → ℕ → List ℕ → List Write
-rest_backs lb tag places b n i xs = back_writes lb tag (drop i places) (cut b (n - i) xs)
+-- the write-backs from the piece at i on; the buffers stand at the words, and xs is what is left of the data
+pub rest_backs : WriteBack → List ℕ → List ℕ → ℕ → ℕ → ℕ → List ℕ → List Write
+rest_backs back places words b n i xs = back_writes back (drop i places) (rest_writes words b n i xs)
 
-pub rest_backs-none : (lb : Bool) (tag : Option ℕ) (places : List ℕ) (b n : ℕ) (xs : List ℕ) → rest_backs lb tag places b n 0 xs ≡ back_writes lb tag places (cut b n xs)
+pub rest_backs-none : (back : WriteBack) (places words : List ℕ) (b n : ℕ) (xs : List ℕ) → rest_backs back places words b n 0 xs ≡ back_writes back places (zip_writes words (cut b n xs))
 unfolding rest_backs
-rest_backs-none lb tag places b n xs = let e : n - 0 ≡ n = omega arith in ap (λ (k : ℕ). back_writes lb tag places (cut b k xs)) e
+rest_backs-none back places words b n xs = ap (back_writes back places) (rest_writes-none words b n xs)
 
-back_writes-nil : (lb : Bool) (tag : Option ℕ) (places : List ℕ) → back_writes lb tag places [] ≡ []
+back_writes-nil : (back : WriteBack) (places : List ℕ) → back_writes back places [] ≡ []
 unfolding back_writes
-back_writes-nil lb tag [] = refl
-back_writes-nil lb tag (a ∷ places) = refl
+back_writes-nil back [] = refl
+back_writes-nil back (a ∷ places) = refl
 
-pub rest_backs-all : (lb : Bool) (tag : Option ℕ) (places : List ℕ) (b n i : ℕ) (xs : List ℕ) → n ≤ i → rest_backs lb tag places b n i xs ≡ []
-unfolding rest_backs cut
-rest_backs-all lb tag places b n i xs h = let e : n - i ≡ 0 = omega arith in ap (λ (k : ℕ). back_writes lb tag (drop i places) (cut b k xs)) e ∙ back_writes-nil lb tag (drop i places)
+pub rest_backs-all : (back : WriteBack) (places words : List ℕ) (b n i : ℕ) (xs : List ℕ) → n ≤ i → rest_backs back places words b n i xs ≡ []
+unfolding rest_backs
+rest_backs-all back places words b n i xs h = ap (back_writes back (drop i places)) (rest_writes-all words b n i xs h) ∙ back_writes-nil back (drop i places)
 
-is_nil-cut : (b n i : ℕ) (xs : List ℕ) → i < n → is_nil (cut b (n - (i + 1)) xs) ≡ eqb (i + 1) n
-unfolding cut
-is_nil-cut b n i xs h =
+-- no write is left behind the last piece
+is_nil-rest : (words : List ℕ) (b n i : ℕ) (xs : List ℕ) → i < n → n ≤ length words → is_nil (rest_writes words b n (i + 1) xs) ≡ eqb (i + 1) n
+is_nil-rest words b n i xs h enough =
     elim (cases_eq (i + 1) n) [
-      | inl e ↦ let z : n - (i + 1) ≡ 0 = omega arith in ap (λ (k : ℕ). is_nil (cut b k xs)) z ∙ sym (eq-eqb (i + 1) n e)
-      | inr e ↦ let z : n - (i + 1) ≡ suc (n - (i + 2)) = omega arith in ap (λ (k : ℕ). is_nil (cut b k xs)) z ∙ sym (ne_eqb (i + 1) n e)
+      | inl e ↦ ap is_nil (rest_writes-all words b n (i + 1) xs (omega arith)) ∙ sym (eq-eqb (i + 1) n e)
+      | inr e ↦ ap is_nil (rest_writes-more words b n (i + 1) xs (omega arith) (omega arith)) ∙ sym (ne_eqb (i + 1) n e)
     ]
 
-rest_backs-more : (lb : Bool) (tag : Option ℕ) (places : List ℕ) (b n i : ℕ) (xs : List ℕ) → i < n → i < length places → rest_backs lb tag places b n i xs ≡ record { at = get_or places i 0; bytes = two_words 0 (status lb tag (eqb (i + 1) n) (length (take b xs))) } ∷ rest_backs lb tag places b n (i + 1) (drop b xs)
-unfolding rest_backs cut back_writes
-rest_backs-more lb tag places b n i xs h k =
-    let e : n - i ≡ suc (n - (i + 1)) = omega arith in
-    let last = is_nil-cut b n i (drop b xs) h in
-    ap (λ (k : ℕ). back_writes lb tag (drop i places) (cut b k xs)) e ∙ ap (λ (d : List ℕ). back_writes lb tag d (cut b (suc (n - (i + 1))) xs)) (drop_more places i 0 k) ∙ rw last refl
+rest_backs-more : (back : WriteBack) (places words : List ℕ) (b n i : ℕ) (xs : List ℕ) → i < n → i < length places → n ≤ length words → rest_backs back places words b n i xs ≡ record { at = get_or places i 0; bytes = words_back back (eqb (i + 1) n) (record { at = get_or words i 0; bytes = take b xs }) } ∷ rest_backs back places words b n (i + 1) (drop b xs)
+unfolding rest_backs back_writes
+rest_backs-more back places words b n i xs h k enough =
+    let first = rest_writes-more words b n i xs h (omega arith) in
+    let last = is_nil-rest words b n i (drop b xs) h enough in
+    ap (back_writes back (drop i places)) first ∙ ap (λ (d : List ℕ). back_writes back d (record { at = get_or words i 0; bytes = take b xs } ∷ rest_writes words b n (i + 1) (drop b xs))) (drop_more places i 0 k) ∙ rw last refl
 
-pub back_step : (lb : Bool) (tag : Option ℕ) (places : List ℕ) (b n i mid : ℕ) (xs piece tail : List ℕ) (a word : ℕ) → i < n → i < length places → a ≡ get_or places i 0 → mid ≡ min b (length xs) → piece ≡ take mid xs → tail ≡ drop mid xs → word ≡ status lb tag (eqb (i + 1) n) (length piece) → rest_backs lb tag places b n i xs ≡ record { at = a; bytes = two_words 0 word } ∷ rest_backs lb tag places b n (i + 1) tail
-back_step lb tag places b n i mid xs piece tail a word h k at middle front back is =
+-- the two words of a descriptor, each by itself
+back_is : (back : WriteBack) (last : Bool) (a low high : ℕ) (piece : List ℕ) → low ≡ first_word back.format a → high ≡ status back.format back.loopback back.tag last (length piece) → two_words low high ≡ words_back back last (record { at = a; bytes = piece })
+unfolding words_back
+back_is back last a low high piece first second = rw (first, second) refl
+
+pub back_step : (back : WriteBack) (places words : List ℕ) (b n i mid : ℕ) (xs piece tail : List ℕ) (s low high : ℕ) → i < n → i < length places → n ≤ length words → s ≡ get_or places i 0 → low ≡ first_word back.format (get_or words i 0) → mid ≡ min b (length xs) → piece ≡ take mid xs → tail ≡ drop mid xs → high ≡ status back.format back.loopback back.tag (eqb (i + 1) n) (length piece) → rest_backs back places words b n i xs ≡ record { at = s; bytes = two_words low high } ∷ rest_backs back places words b n (i + 1) tail
+back_step back places words b n i mid xs piece tail s low high h k enough at first middle front rest second =
     let p : piece ≡ take b xs = front ∙ ap (λ (k : ℕ). take k xs) middle ∙ take_min b xs in
-    let t : tail ≡ drop b xs = back ∙ ap (λ (k : ℕ). drop k xs) middle ∙ drop_min b xs in
-    rw (is, p, t, at) (rest_backs-more lb tag places b n i xs h k)
+    let t : tail ≡ drop b xs = rest ∙ ap (λ (k : ℕ). drop k xs) middle ∙ drop_min b xs in
+    rw (back_is back (eqb (i + 1) n) (get_or words i 0) low high piece first second, p, t, at) (rest_backs-more back places words b n i xs h k enough)
 
-pub back_on : (lb : Bool) (tag : Option ℕ) (places : List ℕ) (b n i mid : ℕ) (xs piece tail m : List ℕ) (a word : ℕ) → i < n → i < length places → a ≡ get_or places i 0 → mid ≡ min b (length xs) → piece ≡ take mid xs → tail ≡ drop mid xs → word ≡ status lb tag (eqb (i + 1) n) (length piece) → write_all (rest_backs lb tag places b n (i + 1) tail) (overwrite a (two_words 0 word) m) ≡ write_all (rest_backs lb tag places b n i xs) m
-back_on lb tag places b n i mid xs piece tail m a word h k at middle front back is =
-    sym (write_all-more _ _ _ _ m (back_step lb tag places b n i mid xs piece tail a word h k at middle front back is))
+pub back_on : (back : WriteBack) (places words : List ℕ) (b n i mid : ℕ) (xs piece tail m : List ℕ) (s low high : ℕ) → i < n → i < length places → n ≤ length words → s ≡ get_or places i 0 → low ≡ first_word back.format (get_or words i 0) → mid ≡ min b (length xs) → piece ≡ take mid xs → tail ≡ drop mid xs → high ≡ status back.format back.loopback back.tag (eqb (i + 1) n) (length piece) → write_all (rest_backs back places words b n (i + 1) tail) (overwrite s (two_words low high) m) ≡ write_all (rest_backs back places words b n i xs) m
+back_on back places words b n i mid xs piece tail m s low high h k enough at first middle front rest second =
+    sym (write_all-more _ _ _ _ m (back_step back places words b n i mid xs piece tail s low high h k enough at first middle front rest second))
 
 -- where the descriptor at i stands
 pub get_or-slots : (r : RingState) (i : ℕ) → i < length (owned r) → get_or (slots r) i 0 ≡ r.base + 16 * get_or (owned r) i 0
@@ -185,23 +191,23 @@ abbrev pub count_of : ℕ → List ℕ → ℕ
 count_of b xs = (length xs + b - 1) / b
 
 -- too few descriptors for the pieces, whose number has a name
-pub deliver-no_room : (b n : ℕ) (lb : Bool) (tag : Option ℕ) (xs m : List ℕ) (r : RingState) → n ≡ count_of b xs → length (owned r) < n → deliver_pieces lb tag (pieces b xs) m r ≡ record { placed = NoRoom; memory = m; ring = r }
+pub deliver-no_room : (b n : ℕ) (back : WriteBack) (xs m : List ℕ) (r : RingState) → n ≡ count_of b xs → length (owned r) < n → deliver_pieces back (pieces b xs) m r ≡ record { placed = NoRoom; memory = m; ring = r }
 unfolding deliver_pieces
-deliver-no_room b n lb tag xs m r count h =
+deliver-no_room b n back xs m r count h =
     let test : nat_lt (length (owned r)) (length (pieces b xs)) ≡ true = rw length-cut (lt-ltb _ _ (omega (arith, count))) in
     rw test refl
 
 -- n pieces, for which there are enough
 
-pub deliver-faulted : (b n : ℕ) (lb : Bool) (tag : Option ℕ) (xs m : List ℕ) (r : RingState) → n ≤ length (owned r) → passes_end (length m) (data_writes (slots r) (cut b n xs) m) ≡ true → deliver_pieces lb tag (cut b n xs) m r ≡ record { placed = Faulted; memory = m; ring = record r { enabled = false } }
+pub deliver-faulted : (b n : ℕ) (back : WriteBack) (xs m : List ℕ) (r : RingState) → n ≤ length (owned r) → passes_end (length m) (data_writes (slots r) (cut b n xs) m) ≡ true → deliver_pieces back (cut b n xs) m r ≡ record { placed = Faulted; memory = m; ring = record r { enabled = false } }
 unfolding deliver_pieces
-deliver-faulted b n lb tag xs m r h e =
+deliver-faulted b n back xs m r h e =
     let test : nat_lt (length (owned r)) (length (cut b n xs)) ≡ false = rw length-cut (le-ltb _ _ h) in
     rw (test, e) refl
 
-pub deliver-put : (b n : ℕ) (lb : Bool) (tag : Option ℕ) (xs m : List ℕ) (r : RingState) → n ≤ length (owned r) → passes_end (length m) (data_writes (slots r) (cut b n xs) m) ≡ false → deliver_pieces lb tag (cut b n xs) m r ≡ record { placed = Put; memory = write_all (back_writes lb tag (slots r) (cut b n xs)) (write_all (data_writes (slots r) (cut b n xs) m) m); ring = record r { head = head_after n r } }
+pub deliver-put : (b n : ℕ) (back : WriteBack) (xs m : List ℕ) (r : RingState) → n ≤ length (owned r) → passes_end (length m) (data_writes (slots r) (cut b n xs) m) ≡ false → deliver_pieces back (cut b n xs) m r ≡ record { placed = Put; memory = write_all (back_writes back (slots r) (data_writes (slots r) (cut b n xs) m)) (write_all (data_writes (slots r) (cut b n xs) m) m); ring = record r { head = head_after n r } }
 unfolding deliver_pieces
-deliver-put b n lb tag xs m r h e =
+deliver-put b n back xs m r h e =
     let test : nat_lt (length (owned r)) (length (cut b n xs)) ≡ false = rw length-cut (le-ltb _ _ h) in
     let count : length (cut b n xs) ≡ n = length-cut b n xs in
     rw (test, e, count) refl
@@ -219,50 +225,47 @@ pieces-one b xs some few =
     ap (λ (k : ℕ). cut b k xs) count ∙ cut-one b xs few
 
 -- a frame that is placed with its tag and fits one buffer is one piece
-pub deliver-whole : (config : RxConfig) (lb : Bool) (frame xs m : List ℕ) (r : RingState) → r.enabled ≡ true → config.strip_tag ≡ false → 1 ≤ length frame → length xs ≤ config.buffer_size → xs ≡ frame → deliver config lb frame m r ≡ deliver_pieces lb None (xs ∷ []) m r
+pub deliver-whole : (config : RxConfig) (lb : Bool) (frame xs m : List ℕ) (r : RingState) → r.enabled ≡ true → config.strip_tag ≡ false → 1 ≤ length frame → length xs ≤ config.buffer_size → xs ≡ frame → deliver config lb frame m r ≡ deliver_pieces (record { format = config.format; loopback = lb; tag = None }) (xs ∷ []) m r
 unfolding deliver
 deliver-whole config lb frame xs m r on plain some fits same = rw (on, plain, sym same, pieces-one config.buffer_size xs (omega (arith, some, ap length same)) fits) refl
 
 -- what one piece is written as, and its write-back
-pub record One (lb : Bool) (tag : Option ℕ) (places xs m : List ℕ) (s a word : ℕ) : Type 0 where
+pub record One (back : WriteBack) (places xs m : List ℕ) (s a low high : ℕ) : Type 0 where
   pub writes : data_writes places (xs ∷ []) m ≡ record { at = a; bytes = xs } ∷ []
-  pub backs : back_writes lb tag places (xs ∷ []) ≡ record { at = s; bytes = two_words 0 word } ∷ []
+  pub backs : back_writes back places (data_writes places (xs ∷ []) m) ≡ record { at = s; bytes = two_words low high } ∷ []
 
-pub one_piece : (lb : Bool) (tag : Option ℕ) (places xs m : List ℕ) (s a word : ℕ) → 0 < length places → s ≡ get_or places 0 0 → a ≡ word_at s m → word ≡ status lb tag true (length xs) → One lb tag places xs m s a word
-one_piece lb tag places xs m s a word h first at is =
-    let b = length xs in
-    let whole : cut b 1 xs ≡ xs ∷ [] = cut-one b xs (omega arith) in
-    let text : take b xs ≡ xs = take_all b xs (omega arith) in
-    let words = words_at places m in
-    let word_there : get_or words 0 0 ≡ a = get_or-words_at places m 0 h ∙ ap (λ (k : ℕ). word_at k m) (sym first) ∙ sym at in
-    let count : 0 < length words = omega (arith, length-words_at places m) in
-    let writes = sym (rest_writes-none words b 1 xs) ∙ rest_writes-more words b 1 0 xs (omega arith) count ∙ ap (λ (ws : List Write). record { at = get_or words 0 0; bytes = take b xs } ∷ ws) (rest_writes-all words b 1 1 (drop b xs) (omega arith)) in
-    let backs = sym (rest_backs-none lb tag places b 1 xs) ∙ rest_backs-more lb tag places b 1 0 xs (omega arith) h ∙ ap (λ (ws : List Write). record { at = get_or places 0 0; bytes = two_words 0 (status lb tag true (length (take b xs))) } ∷ ws) (rest_backs-all lb tag places b 1 1 (drop b xs) (omega arith)) in
+pub one_piece : (back : WriteBack) (places xs m : List ℕ) (s a low high : ℕ) → 0 < length places → s ≡ get_or places 0 0 → a ≡ word_at s m → low ≡ first_word back.format a → high ≡ status back.format back.loopback back.tag true (length xs) → One back places xs m s a low high
+unfolding zip_writes back_writes words_at
+one_piece back [] xs m s a low high h at word first second = absurd (omega (arith, h))
+one_piece back (q ∷ places) xs m s a low high h at word first second =
+    let there : word_at q m ≡ a = ap (λ (k : ℕ). word_at k m) (sym at) ∙ sym word in
+    let writes : data_writes (q ∷ places) (xs ∷ []) m ≡ record { at = a; bytes = xs } ∷ [] =
+    ap (λ (ws : List Write). record { at = word_at q m; bytes = xs } ∷ ws) (zip_writes-nil (words_at places m)) ∙ ap (λ (k : ℕ). record { at = k; bytes = xs } ∷ []) there in
     record {
-      writes = ap (λ (ps : List (List ℕ)). data_writes places ps m) (sym whole) ∙ sym (words_at-is places m b 1 xs) ∙ writes ∙ ap (λ (k : ℕ). record { at = k; bytes = take b xs } ∷ []) word_there ∙ ap (λ (p : List ℕ). record { at = a; bytes = p } ∷ []) text;
-      backs = ap (back_writes lb tag places) (sym whole) ∙ backs ∙ rw (text, sym first, is) refl;
+      writes = writes;
+      backs = ap (back_writes back (q ∷ places)) writes ∙ rw (back_writes-nil back places, back_is back true a low high xs first second, sym at) refl;
     }
 
 -- the ends of one piece: no descriptor is owned, or it passes the memory's end, or it is written
 
-pub one-no_room : (lb : Bool) (tag : Option ℕ) (xs m : List ℕ) (r : RingState) → length (owned r) ≡ 0 → deliver_pieces lb tag (xs ∷ []) m r ≡ record { placed = NoRoom; memory = m; ring = r }
+pub one-no_room : (back : WriteBack) (xs m : List ℕ) (r : RingState) → length (owned r) ≡ 0 → deliver_pieces back (xs ∷ []) m r ≡ record { placed = NoRoom; memory = m; ring = r }
 unfolding deliver_pieces
-one-no_room lb tag xs m r none =
+one-no_room back xs m r none =
     let test : nat_lt (length (owned r)) 1 ≡ true = lt-ltb _ _ (omega (arith, none)) in
     rw test refl
 
-pub one-faulted : (lb : Bool) (tag : Option ℕ) (xs m : List ℕ) (r : RingState) (s a : ℕ) → 0 < length (owned r) → s ≡ get_or (slots r) 0 0 → a ≡ word_at s m → length m < a + length xs → deliver_pieces lb tag (xs ∷ []) m r ≡ record { placed = Faulted; memory = m; ring = record r { enabled = false } }
+pub one-faulted : (back : WriteBack) (xs m : List ℕ) (r : RingState) (s a : ℕ) → 0 < length (owned r) → s ≡ get_or (slots r) 0 0 → a ≡ word_at s m → length m < a + length xs → deliver_pieces back (xs ∷ []) m r ≡ record { placed = Faulted; memory = m; ring = record r { enabled = false } }
 unfolding deliver_pieces
-one-faulted lb tag xs m r s a h first at past =
-    let one = one_piece lb tag (slots r) xs m s a (status lb tag true (length xs)) (omega (arith, length-slots r)) first at refl in
+one-faulted back xs m r s a h first at past =
+    let one = one_piece back (slots r) xs m s a _ _ (omega (arith, length-slots r)) first at refl refl in
     let test : nat_lt (length (owned r)) 1 ≡ false = le-ltb _ _ h in
     let passes : passes_end (length m) (data_writes (slots r) (xs ∷ []) m) ≡ true = passes_end-more (length m) _ [] a xs one.writes ∙ rw (lt-ltb (length m) (a + length xs) past) refl in
     rw (test, passes) refl
 
-pub one-put : (lb : Bool) (tag : Option ℕ) (xs m : List ℕ) (r : RingState) (s a word : ℕ) → 0 < length (owned r) → s ≡ get_or (slots r) 0 0 → a ≡ word_at s m → a + length xs ≤ length m → word ≡ status lb tag true (length xs) → deliver_pieces lb tag (xs ∷ []) m r ≡ record { placed = Put; memory = overwrite s (two_words 0 word) (overwrite a xs m); ring = record r { head = head_after 1 r } }
+pub one-put : (back : WriteBack) (xs m : List ℕ) (r : RingState) (s a low high : ℕ) → 0 < length (owned r) → s ≡ get_or (slots r) 0 0 → a ≡ word_at s m → a + length xs ≤ length m → low ≡ first_word back.format a → high ≡ status back.format back.loopback back.tag true (length xs) → deliver_pieces back (xs ∷ []) m r ≡ record { placed = Put; memory = overwrite s (two_words low high) (overwrite a xs m); ring = record r { head = head_after 1 r } }
 unfolding deliver_pieces write_all
-one-put lb tag xs m r s a word h first at fits is =
-    let one = one_piece lb tag (slots r) xs m s a word (omega (arith, length-slots r)) first at is in
+one-put back xs m r s a low high h first at fits is_low is_high =
+    let one = one_piece back (slots r) xs m s a low high (omega (arith, length-slots r)) first at is_low is_high in
     let test : nat_lt (length (owned r)) 1 ≡ false = le-ltb _ _ h in
     let passes : passes_end (length m) (data_writes (slots r) (xs ∷ []) m) ≡ false = passes_end-more (length m) _ [] a xs one.writes ∙ rw (le-ltb (length m) (a + length xs) fits) (passes_end-none (length m) [] refl) in
-    rw (test, passes, one.writes, one.backs) refl
+    rw (test, passes, one.backs, one.writes) refl

@@ -7,13 +7,14 @@ ghost use Rattle.rx_desc.specs.Receive.{deliver, deliver_pieces, cut, pieces, sl
 
 use crate::descriptor::RxDescriptor;
 use crate::parts::Parts;
-use crate::placing::{MOST_PIECES, Placed, RxConfig, status, without_tag};
+use crate::placing::{MOST_PIECES, Placed, RxConfig, without_tag};
+use crate::write_back::WriteBack;
 use guest_memory::GuestMem;
 use rings::Ring;
 use wire_frame::FrameBuf;
 
-/// Places `frame` in the buffers of the ring's next descriptors, and writes these back (82599 datasheet, advanced receive
-/// descriptors, read and write-back format). `loopback` says that another pool sent it.
+/// Places `frame` in the buffers of the ring's next descriptors, and writes these back (82599 datasheet, legacy and advanced
+/// receive descriptors). `loopback` says that another pool sent it.
 ///
 /// It means what [`place_in`](crate::place_in) does, of a memory of any kind behind one reference, and each access is a call
 /// through its table. That one is made anew for each kind of memory, and has a shorter path for a frame in one buffer.
@@ -42,7 +43,12 @@ pub fn place(
         return Placed::NoRoom;
     }
     let (source, tag) = without_tag(config.strip_tag, frame);
-    place_pieces(memory, ring, config.buffer_size, source, loopback, tag)
+    let back = WriteBack {
+        format: config.format,
+        loopback,
+        tag,
+    };
+    place_pieces(memory, ring, config.buffer_size, source, back)
 }
 
 // Places `source` in the buffers of the ring's next descriptors; `tag` was taken off it.
@@ -51,8 +57,7 @@ fn place_pieces(
     ring: &mut Ring,
     size: usize,
     source: Parts,
-    loopback: bool,
-    tag: Option<u16>,
+    back: WriteBack,
 ) -> Placed
     requires least { 1024 ≤ size }
     requires most { size ≤ 16384 }
@@ -60,13 +65,13 @@ fn place_pieces(
     requires short { length (text_of source) ≤ 9018 }
     requires inside { LiesInside (length (bytes memory.old)) ring.old }
     ensures placed { result
-        ≡ (deliver_pieces loopback tag (pieces size (text_of source.entry))
+        ≡ (deliver_pieces back (pieces size (text_of source.entry))
         (bytes memory.old) ring.old).placed }
     ensures written { bytes memory.new
-        ≡ (deliver_pieces loopback tag (pieces size (text_of source.entry))
+        ≡ (deliver_pieces back (pieces size (text_of source.entry))
         (bytes memory.old) ring.old).memory }
     ensures ring { ring.new
-        ≡ (deliver_pieces loopback tag (pieces size (text_of source.entry))
+        ≡ (deliver_pieces back (pieces size (text_of source.entry))
         (bytes memory.old) ring.old).ring }
     ensures size { length (bytes memory.new) ≡ length (bytes memory.old) }
     ensures inside { LiesInside (length (bytes memory.new)) ring.new }
@@ -77,16 +82,7 @@ fn place_pieces(
         return Placed::NoRoom;
     }
     let memory_size = memory.size();
-    place_counted(
-        memory,
-        memory_size,
-        ring,
-        size,
-        source,
-        count,
-        loopback,
-        tag,
-    )
+    place_counted(memory, memory_size, ring, size, source, count, back)
 }
 
 // Places `source` in the buffers of as many descriptors as it has pieces, which are owned.
@@ -97,8 +93,7 @@ fn place_counted(
     size: usize,
     source: Parts,
     count: usize,
-    loopback: bool,
-    tag: Option<u16>,
+    back: WriteBack,
 ) -> Placed
     requires known { memory_size ≡ length (bytes memory.old) }
     requires nine { count ≤ 9 }
@@ -106,13 +101,13 @@ fn place_counted(
     requires room { count ≤ length (owned ring.old) }
     requires inside { LiesInside (length (bytes memory.old)) ring.old }
     ensures placed { result
-        ≡ (deliver_pieces loopback tag (cut size count (text_of source.entry))
+        ≡ (deliver_pieces back (cut size count (text_of source.entry))
         (bytes memory.old) ring.old).placed }
     ensures written { bytes memory.new
-        ≡ (deliver_pieces loopback tag (cut size count (text_of source.entry))
+        ≡ (deliver_pieces back (cut size count (text_of source.entry))
         (bytes memory.old) ring.old).memory }
     ensures ring { ring.new
-        ≡ (deliver_pieces loopback tag (cut size count (text_of source.entry))
+        ≡ (deliver_pieces back (cut size count (text_of source.entry))
         (bytes memory.old) ring.old).ring }
     ensures size { length (bytes memory.new) ≡ length (bytes memory.old) }
     ensures inside { LiesInside (length (bytes memory.new)) ring.new }
@@ -123,7 +118,7 @@ fn place_counted(
         return Placed::Faulted;
     };
     write_pieces(memory, &addresses, size, source, count);
-    write_back(memory, ring, size, source, count, loopback, tag);
+    write_back(memory, ring, &addresses, size, source, count, back);
     ring.advance(count as u32);
     Placed::Put
 }
@@ -222,15 +217,15 @@ fn write_words(memory: &mut dyn GuestMem, at: u64, low: u64, high: u64)
     memory.write_words(at, low, high);
 }
 
-// Writes back the first descriptors.
+// Writes back the first descriptors, whose buffers stand at the addresses.
 fn write_back(
     memory: &mut dyn GuestMem,
     ring: &Ring,
+    addresses: &[u64; MOST_PIECES],
     size: usize,
     source: Parts,
     count: usize,
-    loopback: bool,
-    tag: Option<u16>,
+    back: WriteBack,
 )
     requires room { count ≤ length (owned ring.now) }
     requires inside { LiesInside (length (bytes memory.old)) ring.now }
@@ -238,16 +233,17 @@ fn write_back(
     requires nine { count ≤ 9 }
     ensures written { bytes memory.new
         ≡ write_all
-        (back_writes loopback tag (slots ring.now) (cut size count (text_of source.entry)))
+        (back_writes back (slots ring.now)
+        (zip_writes addresses.now (cut size count (text_of source.entry))))
         (bytes memory.old) }
     ensures size { length (bytes memory.new) ≡ length (bytes memory.old) }
 {
     let mut rest = source;
     for i in 0..count {
         let (piece, tail) = rest.split_at(size.min(rest.len()));
-        let len = piece.len();
-        let word = status(len as u64, loopback, tag, i + 1 == count);
-        write_words(memory, ring.slot(i as u32), 0, word);
+        let first = back.first_word(addresses[i]);
+        let second = back.status(piece.len() as u64, i + 1 == count);
+        write_words(memory, ring.slot(i as u32), first, second);
         rest = tail;
     }
 }

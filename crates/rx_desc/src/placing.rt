@@ -4,29 +4,18 @@ ghost use Rattle.guest_memory.specs.Memory.{write_all};
 ghost use Rattle.live_memory.specs.Trace.{met, wrotes, IsTraced};
 ghost use Rattle.rings.specs.Ring.{owned, IsRing, LiesInside};
 ghost use Rattle.rx_desc.specs.Parts.{text_of};
-ghost use Rattle.rx_desc.specs.Receive.{Delivers, deliver, deliver_pieces, data_of, tag_taken, cut, pieces, slots, zip_writes, data_writes, back_writes, passes_end, status as status_of};
+ghost use Rattle.rx_desc.specs.Receive.{Delivers, deliver, deliver_pieces, data_of, tag_taken, cut, pieces, slots, zip_writes, data_writes, back_writes, passes_end};
 ghost use Rattle.rx_desc.specs.Accesses.{deliver_accesses, pieces_accesses, descriptors_read, words_read};
 
 use crate::descriptor::RxDescriptor;
 use crate::parts::{Parts, write_parts};
+use crate::write_back::{RxFormat, WriteBack};
 use live_memory::{Dma, Traced};
 use rings::Ring;
 use wire_frame::FrameBuf;
 
 /// The most buffers that a frame of 9018 bytes fills, at the least size of a buffer.
 pub(crate) const MOST_PIECES: usize = 9;
-/// Status: the descriptor is done (82599 datasheet, DD).
-const DONE: u64 = 1;
-/// Status: the frame ends here (EOP).
-const END_OF_PACKET: u64 = 1 << 1;
-/// Status: a VLAN tag was stripped (VP).
-const VLAN_PACKET: u64 = 1 << 3;
-/// Status: another pool sent the frame (LB).
-const LOOPBACK: u64 = 1 << 18;
-/// The place of the length in the status.
-const LENGTH: u64 = 1 << 32;
-/// The place of the tag control in the status.
-const TAG: u64 = 1 << 48;
 
 /// How a receive queue places frames (82599 datasheet, SRRCTL and RXDCTL).
 #[derive(Clone, Copy, Debug, PartialEq, Eq)]
@@ -35,6 +24,8 @@ pub struct RxConfig {
     pub buffer_size: usize,
     /// Whether the VLAN tag of a tagged frame is stripped (RXDCTL, VME).
     pub strip_tag: bool,
+    /// The format of its descriptors (SRRCTL, DESCTYPE).
+    pub format: RxFormat,
 }
 
 /// What became of a frame.
@@ -48,8 +39,8 @@ pub enum Placed {
     Faulted,
 }
 
-/// Places `frame` in the buffers of the ring's next descriptors, and writes these back (82599 datasheet, advanced receive
-/// descriptors, read and write-back format). `loopback` says that another pool sent it. The memory's type is known where it is
+/// Places `frame` in the buffers of the ring's next descriptors, and writes these back (82599 datasheet, legacy and advanced
+/// receive descriptors). `loopback` says that another pool sent it. The memory's type is known where it is
 /// called; [`place`](crate::place) takes one of any kind behind a reference.
 ///
 /// Others may write the memory meanwhile. It does what `deliver` says of the memory that it met: the one before, with all that was
@@ -86,13 +77,27 @@ pub fn place_in<D: Dma<K>, K>(
     let size = config.buffer_size;
     let bytes = frame.bytes();
     if config.strip_tag || bytes.len() > size {
-        return place_frame(memory, ring, size, config.strip_tag, frame, loopback);
+        let strip_tag = config.strip_tag;
+        return place_frame(
+            memory,
+            ring,
+            size,
+            strip_tag,
+            config.format,
+            frame,
+            loopback,
+        );
     }
     let source = Parts {
         front: &bytes[..0],
         back: bytes,
     };
-    place_one(memory, ring, source, loopback, None)
+    let back = WriteBack {
+        format: config.format,
+        loopback,
+        tag: None,
+    };
+    place_one(memory, ring, source, back)
 }
 
 // Places a frame, without its tag where tags are stripped. It isn't inlined, so that a whole frame in one buffer is placed in few
@@ -103,6 +108,7 @@ fn place_frame<D: Dma<K>, K>(
     ring: &mut Ring,
     size: usize,
     strip_tag: bool,
+    format: RxFormat,
     frame: &FrameBuf,
     loopback: bool,
 ) -> Placed
@@ -111,12 +117,14 @@ fn place_frame<D: Dma<K>, K>(
     requires valid { IsRing ring.old }
     requires inside { LiesInside (length (D.seen memory.old.memory)) ring.old }
     ensures done { Delivers
-        (deliver_pieces loopback (tag_taken strip_tag frame.now)
+        (deliver_pieces
+        (record { format = format; loopback = loopback; tag = tag_taken strip_tag frame.now })
         (pieces size (data_of strip_tag frame.now))
         (met memory.old.accesses memory.new.accesses (D.seen memory.old.memory)) ring.old)
         result (D.seen memory.new.memory) ring.new }
     ensures listed { memory.new.accesses ≡ memory.old.accesses
-        ++ pieces_accesses loopback (tag_taken strip_tag frame.now)
+        ++ pieces_accesses
+        (record { format = format; loopback = loopback; tag = tag_taken strip_tag frame.now })
         (pieces size (data_of strip_tag frame.now))
         (met memory.old.accesses memory.new.accesses (D.seen memory.old.memory)) ring.old }
     ensures traced { IsTraced D.shared (D.seen memory.old.memory) memory.old.accesses
@@ -126,7 +134,12 @@ fn place_frame<D: Dma<K>, K>(
     ensures on { IsTrue ring.new.enabled → IsTrue ring.old.enabled }
 {
     let (source, tag) = without_tag(strip_tag, frame);
-    place_data(memory, ring, size, source, loopback, tag)
+    let back = WriteBack {
+        format,
+        loopback,
+        tag,
+    };
+    place_data(memory, ring, size, source, back)
 }
 
 // The bytes of a frame that are placed, and the tag that was taken off it, where it is to be stripped and has one.
@@ -161,8 +174,7 @@ fn place_data<D: Dma<K>, K>(
     ring: &mut Ring,
     size: usize,
     source: Parts,
-    loopback: bool,
-    tag: Option<u16>,
+    back: WriteBack,
 ) -> Placed
     requires least { 1024 ≤ size }
     requires most { size ≤ 16384 }
@@ -171,11 +183,11 @@ fn place_data<D: Dma<K>, K>(
     requires valid { IsRing ring.old }
     requires inside { LiesInside (length (D.seen memory.old.memory)) ring.old }
     ensures done { Delivers
-        (deliver_pieces loopback tag (pieces size (text_of source.entry))
+        (deliver_pieces back (pieces size (text_of source.entry))
         (met memory.old.accesses memory.new.accesses (D.seen memory.old.memory)) ring.old)
         result (D.seen memory.new.memory) ring.new }
     ensures listed { memory.new.accesses ≡ memory.old.accesses
-        ++ pieces_accesses loopback tag (pieces size (text_of source.entry))
+        ++ pieces_accesses back (pieces size (text_of source.entry))
         (met memory.old.accesses memory.new.accesses (D.seen memory.old.memory)) ring.old }
     ensures traced { IsTraced D.shared (D.seen memory.old.memory) memory.old.accesses
         memory.new.accesses }
@@ -184,13 +196,13 @@ fn place_data<D: Dma<K>, K>(
     ensures on { IsTrue ring.new.enabled → IsTrue ring.old.enabled }
 {
     if source.len() <= size {
-        return place_one(memory, ring, source, loopback, tag);
+        return place_one(memory, ring, source, back);
     }
     let count = (source.len() + size - 1) / size;
     if count > ring.available() as usize {
         return Placed::NoRoom;
     }
-    place_many(memory, ring, size, source, count, loopback, tag)
+    place_many(memory, ring, size, source, count, back)
 }
 
 // Places `source` in one buffer. Nothing is kept beside the word of its descriptor. It is inlined, and calls the memory itself: a
@@ -200,17 +212,16 @@ fn place_one<D: Dma<K>, K>(
     memory: &mut Traced<D, K>,
     ring: &mut Ring,
     source: Parts,
-    loopback: bool,
-    tag: Option<u16>,
+    back: WriteBack,
 ) -> Placed
     requires short { length (text_of source) ≤ 9018 }
     requires inside { LiesInside (length (D.seen memory.old.memory)) ring.old }
     ensures done { Delivers
-        (deliver_pieces loopback tag (text_of source.entry ∷ [])
+        (deliver_pieces back (text_of source.entry ∷ [])
         (met memory.old.accesses memory.new.accesses (D.seen memory.old.memory)) ring.old)
         result (D.seen memory.new.memory) ring.new }
     ensures listed { memory.new.accesses ≡ memory.old.accesses
-        ++ pieces_accesses loopback tag (text_of source.entry ∷ [])
+        ++ pieces_accesses back (text_of source.entry ∷ [])
         (met memory.old.accesses memory.new.accesses (D.seen memory.old.memory)) ring.old }
     ensures traced { IsTraced D.shared (D.seen memory.old.memory) memory.old.accesses
         memory.new.accesses }
@@ -229,7 +240,7 @@ fn place_one<D: Dma<K>, K>(
         return Placed::Faulted;
     }
     write_parts(memory, buffer, source);
-    memory.store_words(at, 0, status(count, loopback, tag, true));
+    memory.store_words(at, back.first_word(buffer), back.status(count, true));
     ring.advance(1);
     Placed::Put
 }
@@ -242,8 +253,7 @@ fn place_many<D: Dma<K>, K>(
     size: usize,
     source: Parts,
     count: usize,
-    loopback: bool,
-    tag: Option<u16>,
+    back: WriteBack,
 ) -> Placed
     requires nine { count ≤ 9 }
     requires short { length (text_of source) ≤ 9018 }
@@ -251,11 +261,11 @@ fn place_many<D: Dma<K>, K>(
     requires valid { IsRing ring.old }
     requires inside { LiesInside (length (D.seen memory.old.memory)) ring.old }
     ensures done { Delivers
-        (deliver_pieces loopback tag (cut size count (text_of source.entry))
+        (deliver_pieces back (cut size count (text_of source.entry))
         (met memory.old.accesses memory.new.accesses (D.seen memory.old.memory)) ring.old)
         result (D.seen memory.new.memory) ring.new }
     ensures listed { memory.new.accesses ≡ memory.old.accesses
-        ++ pieces_accesses loopback tag (cut size count (text_of source.entry))
+        ++ pieces_accesses back (cut size count (text_of source.entry))
         (met memory.old.accesses memory.new.accesses (D.seen memory.old.memory)) ring.old }
     ensures traced { IsTraced D.shared (D.seen memory.old.memory) memory.old.accesses
         memory.new.accesses }
@@ -268,7 +278,7 @@ fn place_many<D: Dma<K>, K>(
         return Placed::Faulted;
     };
     write_pieces(memory, &addresses, size, source, count);
-    write_back(memory, ring, size, source, count, loopback, tag);
+    write_back(memory, ring, &addresses, size, source, count, back);
     ring.advance(count as u32);
     Placed::Put
 }
@@ -351,15 +361,15 @@ fn write_pieces<D: Dma<K>, K>(
     }
 }
 
-// Writes back the first descriptors.
+// Writes back the first descriptors, whose buffers stand at the addresses.
 fn write_back<D: Dma<K>, K>(
     memory: &mut Traced<D, K>,
     ring: &Ring,
+    addresses: &[u64; MOST_PIECES],
     size: usize,
     source: Parts,
     count: usize,
-    loopback: bool,
-    tag: Option<u16>,
+    back: WriteBack,
 )
     requires room { count ≤ length (owned ring.now) }
     requires inside { LiesInside (length (D.seen memory.old.memory)) ring.now }
@@ -367,38 +377,21 @@ fn write_back<D: Dma<K>, K>(
     requires nine { count ≤ 9 }
     ensures written { D.seen memory.new.memory
         ≡ write_all
-        (back_writes loopback tag (slots ring.now) (cut size count (text_of source.entry)))
+        (back_writes back (slots ring.now)
+        (zip_writes addresses.now (cut size count (text_of source.entry))))
         (D.seen memory.old.memory) }
     ensures listed { memory.new.accesses ≡ memory.old.accesses
         ++ wrotes
-        (back_writes loopback tag (slots ring.now) (cut size count (text_of source.entry))) }
+        (back_writes back (slots ring.now)
+        (zip_writes addresses.now (cut size count (text_of source.entry)))) }
     ensures size { length (D.seen memory.new.memory) ≡ length (D.seen memory.old.memory) }
 {
     let mut rest = source;
     for i in 0..count {
         let (piece, tail) = rest.split_at(size.min(rest.len()));
-        let len = piece.len();
-        let word = status(len as u64, loopback, tag, i + 1 == count);
-        memory.store_words(ring.slot(i as u32), 0, word);
+        let first = back.first_word(addresses[i]);
+        let second = back.status(piece.len() as u64, i + 1 == count);
+        memory.store_words(ring.slot(i as u32), first, second);
         rest = tail;
     }
-}
-
-// The second word of a descriptor that is written back.
-#[inline]
-#[tactic(auto, unfolding(crate::specs::Receive::status))]
-pub(crate) fn status(len: u64, loopback: bool, tag: Option<u16>, last: bool) -> u64
-    requires { len ≤ 9018 }
-    ensures { result ≡ status_of loopback tag last len }
-{
-    let end = if last {
-        match tag {
-            Some(tag) => END_OF_PACKET + VLAN_PACKET + TAG * u64::from(tag),
-            None => END_OF_PACKET,
-        }
-    } else {
-        0
-    };
-    let switched = if loopback { LOOPBACK } else { 0 };
-    DONE + end + switched + LENGTH * len
 }

@@ -14,13 +14,13 @@ use Rattle.rx_desc.proofs.placing.place_many.Given as given
 use Rattle.rx_desc.proofs.placing.place_many.Goals as goal
 
 pub returns-in_default-clause-done : goal.returns-in_default-clause-done
-returns-in_default-clause-done g c = pieces_past _ _ _ _ _ _ _ _ _ (sym c.in_default.ensures.met) c.disable.ensures c.requires.room (sym c.in_default.ensures.variant)
+returns-in_default-clause-done g c = pieces_past _ _ _ _ _ _ _ _ (sym c.in_default.ensures.met) c.disable.ensures c.requires.room (sym c.in_default.ensures.variant)
 
 pub returns-in_default-clause-listed : goal.returns-in_default-clause-listed
 returns-in_default-clause-listed g c =
     c.in_default.ensures.listed
-    ∙ ap (λ (t : List Access). c.args.memory.now.accesses ++ t) (past_accesses c.args.size c.args.count c.args.loopback c.args.tag (text_of c.args.source) _ c.args.ring.now c.requires.room (sym c.in_default.ensures.variant))
-    ∙ ap (λ (m : List ℕ). c.args.memory.now.accesses ++ pieces_accesses c.args.loopback c.args.tag (cut c.args.size c.args.count (text_of c.args.source)) m c.args.ring.now) c.in_default.ensures.met
+    ∙ ap (λ (t : List Access). c.args.memory.now.accesses ++ t) (past_accesses c.args.size c.args.count c.args.back (text_of c.args.source) _ c.args.ring.now c.requires.room (sym c.in_default.ensures.variant))
+    ∙ ap (λ (m : List ℕ). c.args.memory.now.accesses ++ pieces_accesses c.args.back (cut c.args.size c.args.count (text_of c.args.source)) m c.args.ring.now) c.in_default.ensures.met
 
 -- words were read, and all else was writing
 record Placing (g : given.Over) (c : goal.After-advance g) (there : List ℕ) (ws backs : List Write) : Type 0 where
@@ -32,7 +32,7 @@ data_of : (g : given.Over) (c : goal.After-advance g) → List Write
 data_of g c = data_writes (slots c.args.ring.now) (cut c.args.size c.args.count (text_of c.args.source)) (g.D.Dma.seen c.buffers.new.memory.memory)
 
 backs_of : (g : given.Over) (c : goal.After-advance g) → List Write
-backs_of g c = back_writes c.args.loopback c.args.tag (slots c.args.ring.now) (cut c.args.size c.args.count (text_of c.args.source))
+backs_of g c = back_writes c.args.back (slots c.args.ring.now) (data_of g c)
 
 placing : (g : given.Over) (c : goal.After-advance g) → Placing g c (g.D.Dma.seen c.buffers.new.memory.memory) (data_of g c) (backs_of g c)
 unfolding data_of backs_of
@@ -44,9 +44,10 @@ placing g c =
     let ws = data_of g c in
     let backs = backs_of g c in
     let fits : passes_end (length first) ws ≡ false = ap (λ (n : ℕ). passes_end n ws) (sym size) ∙ sym c.in-Some.ensures.variant in
-    let inside : passes_end (length first) backs ≡ false = backs_fit (length first) c.args.loopback c.args.tag (slots r) (cut c.args.size c.args.count (text_of c.args.source)) (λ j less. slots_inside r (length first) j c.requires.valid c.requires.inside less) in
+    let inside : passes_end (length first) backs ≡ false = backs_fit (length first) c.args.back (slots r) ws (λ j less. slots_inside r (length first) j c.requires.valid c.requires.inside less) in
     let all = writes_once (length first) ws backs fits inside in
-    let wrote = listed_then _ _ _ (wrotes ws) (wrotes backs) (c.write_pieces.ensures.listed ∙ ap (λ (vs : List Write). c.buffers.new.memory.accesses ++ wrotes vs) c.in-Some.ensures.value) c.write_back.ensures.listed in
+    let wrote = listed_then _ _ _ (wrotes ws) (wrotes backs) (c.write_pieces.ensures.listed ∙ ap (λ (vs : List Write). c.buffers.new.memory.accesses ++ wrotes vs) c.in-Some.ensures.value)
+    (c.write_back.ensures.listed ∙ ap (λ (vs : List Write). c.write_pieces.new.memory.accesses ++ wrotes (back_writes c.args.back (slots r) vs)) c.in-Some.ensures.value) in
     record {
       wrote = wrote;
       met_is = met_writes g.D.Dma.shared _ _ _ (wrotes ws ++ wrotes backs) first there c.in-Some.ensures.met c.in-Some.ensures.traced wrote all.unread;
@@ -54,14 +55,14 @@ placing g c =
     }
 
 pub returns-clause-done : goal.returns-clause-done
-returns-clause-done g c = pieces_written _ _ _ _ _ _ _ _ _ _ _ _ (placing g c).met_is c.in-Some.ensures.value c.write_pieces.ensures.written c.write_back.ensures.written c.advance.ensures c.requires.room (sym c.in-Some.ensures.variant)
+returns-clause-done g c = pieces_written _ _ _ _ _ _ _ _ _ _ _ (placing g c).met_is c.in-Some.ensures.value c.write_pieces.ensures.written c.write_back.ensures.written c.advance.ensures c.requires.room (sym c.in-Some.ensures.variant)
 
 pub returns-clause-listed : goal.returns-clause-listed
 unfolding data_of backs_of
 returns-clause-listed g c =
     listed_then _ _ _ _ _ c.in-Some.ensures.listed (placing g c).wrote
-    ∙ ap (λ (t : List Access). c.args.memory.now.accesses ++ t) (put_accesses c.args.size c.args.count c.args.loopback c.args.tag (text_of c.args.source) (g.D.Dma.seen c.buffers.new.memory.memory) c.args.ring.now c.requires.room (sym c.in-Some.ensures.variant))
-    ∙ ap (λ (m : List ℕ). c.args.memory.now.accesses ++ pieces_accesses c.args.loopback c.args.tag (cut c.args.size c.args.count (text_of c.args.source)) m c.args.ring.now) (sym (placing g c).met_is)
+    ∙ ap (λ (t : List Access). c.args.memory.now.accesses ++ t) (put_accesses c.args.size c.args.count c.args.back (text_of c.args.source) (g.D.Dma.seen c.buffers.new.memory.memory) c.args.ring.now c.requires.room (sym c.in-Some.ensures.variant))
+    ∙ ap (λ (m : List ℕ). c.args.memory.now.accesses ++ pieces_accesses c.args.back (cut c.args.size c.args.count (text_of c.args.source)) m c.args.ring.now) (sym (placing g c).met_is)
 
 pub returns-clause-traced : goal.returns-clause-traced
 returns-clause-traced g c = (placing g c).traced

@@ -18,11 +18,11 @@ use Rattle.rx_desc.proofs.placing.place_one.Goals as goal
 
 pub returns-in_default-clause-done : goal.returns-in_default-clause-done
 returns-in_default-clause-done g c =
-    on_still (λ (k : List ℕ). deliver_pieces c.args.loopback c.args.tag (text_of c.args.source ∷ []) k c.args.ring.now) _ _ _ _
-    (one-no_room c.args.loopback c.args.tag (text_of c.args.source) (g.D.Dma.seen c.args.memory.now.memory) c.args.ring.now c.in_default.ensures.none)
+    on_still (λ (k : List ℕ). deliver_pieces c.args.back (text_of c.args.source ∷ []) k c.args.ring.now) _ _ _ _
+    (one-no_room c.args.back (text_of c.args.source) (g.D.Dma.seen c.args.memory.now.memory) c.args.ring.now c.in_default.ensures.none)
 
 pub returns-in_default-clause-listed : goal.returns-in_default-clause-listed
-returns-in_default-clause-listed g c = few_accesses _ _ _ _ _ _ (omega (arith, c.in_default.ensures.none))
+returns-in_default-clause-listed g c = few_accesses _ _ _ _ _ (omega (arith, c.in_default.ensures.none))
 
 pub returns-in_default-clause-traced : goal.returns-in_default-clause-traced
 returns-in_default-clause-traced g c = traced_none _ _ _
@@ -44,15 +44,15 @@ pub returns-then-not-holds-clause-done : goal.returns-then-not-holds-clause-done
 returns-then-not-holds-clause-done g c =
     let p = past g c in
     let at = c.in-Some.ensures.first ∙ sym (get_or-slots c.args.ring.now 0 p.owns) in
-    one_past c.args.loopback c.args.tag (text_of c.args.source) _ _ c.args.ring.now _ _ _ (sym c.load_word-buffer.ensures.read.met_is) c.disable.ensures p.owns at c.load_word-buffer.ensures.value p.long
+    one_past c.args.back (text_of c.args.source) _ _ c.args.ring.now _ _ _ (sym c.load_word-buffer.ensures.read.met_is) c.disable.ensures p.owns at c.load_word-buffer.ensures.value p.long
 
 pub returns-then-not-holds-clause-listed : goal.returns-then-not-holds-clause-listed
 returns-then-not-holds-clause-listed g c =
     let p = past g c in
     let at = c.in-Some.ensures.first ∙ sym (get_or-slots c.args.ring.now 0 p.owns) in
     c.load_word-buffer.ensures.listed
-    ∙ ap (λ (t : List Access). c.args.memory.now.accesses ++ t) (one_past_accesses c.args.loopback c.args.tag (text_of c.args.source) (g.D.Dma.seen c.load_word-buffer.new.self.memory) c.args.ring.now _ _ p.owns at c.load_word-buffer.ensures.value p.long)
-    ∙ ap (λ (m : List ℕ). c.args.memory.now.accesses ++ pieces_accesses c.args.loopback c.args.tag (text_of c.args.source ∷ []) m c.args.ring.now) c.load_word-buffer.ensures.read.met_is
+    ∙ ap (λ (t : List Access). c.args.memory.now.accesses ++ t) (one_past_accesses c.args.back (text_of c.args.source) (g.D.Dma.seen c.load_word-buffer.new.self.memory) c.args.ring.now _ _ p.owns at c.load_word-buffer.ensures.value p.long)
+    ∙ ap (λ (m : List ℕ). c.args.memory.now.accesses ++ pieces_accesses c.args.back (text_of c.args.source ∷ []) m c.args.ring.now) c.load_word-buffer.ensures.read.met_is
 
 pub returns-then-not-holds-clause-traced : goal.returns-then-not-holds-clause-traced
 returns-then-not-holds-clause-traced g c = c.load_word-buffer.ensures.read.traced
@@ -61,7 +61,7 @@ returns-then-not-holds-clause-traced g c = c.load_word-buffer.ensures.read.trace
 record Placing (g : given.Over) (c : goal.After-advance g) : Type 0 where
   fits : c.load_word-buffer.result + length (text_of c.args.source) ≤ length (g.D.Dma.seen c.load_word-buffer.new.self.memory)
   size : length (g.D.Dma.seen c.store_words.new.self.memory) ≡ length (g.D.Dma.seen c.args.memory.now.memory)
-  wrote : c.store_words.new.self.accesses ≡ c.load_word-buffer.new.self.accesses ++ Wrote c.load_word-buffer.result (text_of c.args.source) ∷ Wrote c.in-Some.at (two_words 0 c.status.result) ∷ []
+  wrote : c.store_words.new.self.accesses ≡ c.load_word-buffer.new.self.accesses ++ Wrote c.load_word-buffer.result (text_of c.args.source) ∷ Wrote c.in-Some.at (two_words c.first_word.result c.status.result) ∷ []
   met_is : met c.args.memory.now.accesses c.store_words.new.self.accesses (g.D.Dma.seen c.args.memory.now.memory) ≡ g.D.Dma.seen c.load_word-buffer.new.self.memory
   traced : IsTraced g.D.Dma.shared (g.D.Dma.seen c.args.memory.now.memory) c.args.memory.now.accesses c.store_words.new.self.accesses
 
@@ -74,13 +74,13 @@ placing g c =
     let yes : nat_le (c.load_word-buffer.result + c.len-count.result) c.size.result ≡ true = sym c.holds.ensures ∙ c.if-not-holds.false in
     let fits : c.load_word-buffer.result + c.len-count.result ≤ c.size.result = grind (arith, nat_tests) in
     let here : c.load_word-buffer.result + length (text_of c.args.source) ≤ n = omega (arith, fits, read.size) in
-    let count = length-two_words 0 c.status.result in
+    let count = length-two_words c.first_word.result c.status.result in
     let room : length (g.D.Dma.seen c.write_parts.new.memory.memory) ≡ n = c.write_parts.ensures.size ∙ read.size in
-    let ws : List Access = Wrote c.load_word-buffer.result (text_of c.args.source) ∷ Wrote c.in-Some.at (two_words 0 c.status.result) ∷ [] in
-    let wrote = listed_then _ _ _ (Wrote c.load_word-buffer.result (text_of c.args.source) ∷ []) (Wrote c.in-Some.at (two_words 0 c.status.result) ∷ []) c.write_parts.ensures.listed c.store_words.ensures.listed in
+    let ws : List Access = Wrote c.load_word-buffer.result (text_of c.args.source) ∷ Wrote c.in-Some.at (two_words c.first_word.result c.status.result) ∷ [] in
+    let wrote = listed_then _ _ _ (Wrote c.load_word-buffer.result (text_of c.args.source) ∷ []) (Wrote c.in-Some.at (two_words c.first_word.result c.status.result) ∷ []) c.write_parts.ensures.listed c.store_words.ensures.listed in
     record {
       fits = omega (arith, here, read.size);
-      size = ap length c.store_words.ensures.seen ∙ size_written c.in-Some.at (two_words 0 c.status.result) (g.D.Dma.seen c.write_parts.new.memory.memory) (omega (arith, whole, count, room)) ∙ room;
+      size = ap length c.store_words.ensures.seen ∙ size_written c.in-Some.at (two_words c.first_word.result c.status.result) (g.D.Dma.seen c.write_parts.new.memory.memory) (omega (arith, whole, count, room)) ∙ room;
       wrote = wrote;
       met_is = met_writes g.D.Dma.shared _ _ _ ws _ _ read.met_is read.traced wrote refl;
       traced = traced_writes g.D.Dma.shared _ _ _ ws _ read.traced wrote refl (here, (tt, (omega (arith, whole, count), (tt, tt))));
@@ -90,17 +90,17 @@ pub returns-clause-done : goal.returns-clause-done
 returns-clause-done g c =
     let owns : 0 < length (owned c.args.ring.now) = c.in-Some.ensures.owned in
     let at = c.in-Some.ensures.first ∙ sym (get_or-slots c.args.ring.now 0 owns) in
-    let word = c.status.ensures ∙ ap (status c.args.loopback c.args.tag true) c.len-count.ensures in
-    one_written c.args.loopback c.args.tag (text_of c.args.source) _ _ _ _ c.args.ring.now _ _ _ _ (placing g c).met_is c.write_parts.ensures.written c.store_words.ensures.seen c.advance.ensures owns at c.load_word-buffer.ensures.value (placing g c).fits word
+    let word = c.status.ensures ∙ ap (status c.args.back.format c.args.back.loopback c.args.back.tag true) c.len-count.ensures in
+    one_written c.args.back (text_of c.args.source) _ _ _ _ c.args.ring.now _ _ _ _ _ (placing g c).met_is c.write_parts.ensures.written c.store_words.ensures.seen c.advance.ensures owns at c.load_word-buffer.ensures.value (placing g c).fits c.first_word.ensures word
 
 pub returns-clause-listed : goal.returns-clause-listed
 returns-clause-listed g c =
     let owns : 0 < length (owned c.args.ring.now) = c.in-Some.ensures.owned in
     let at = c.in-Some.ensures.first ∙ sym (get_or-slots c.args.ring.now 0 owns) in
-    let word = c.status.ensures ∙ ap (status c.args.loopback c.args.tag true) c.len-count.ensures in
+    let word = c.status.ensures ∙ ap (status c.args.back.format c.args.back.loopback c.args.back.tag true) c.len-count.ensures in
     listed_then _ _ _ (Read c.in-Some.at (word_bytes c.load_word-buffer.result) ∷ []) _ c.load_word-buffer.ensures.listed (placing g c).wrote
-    ∙ ap (λ (t : List Access). c.args.memory.now.accesses ++ t) (one_put_accesses c.args.loopback c.args.tag (text_of c.args.source) (g.D.Dma.seen c.load_word-buffer.new.self.memory) c.args.ring.now _ _ _ owns at c.load_word-buffer.ensures.value (placing g c).fits word)
-    ∙ ap (λ (m : List ℕ). c.args.memory.now.accesses ++ pieces_accesses c.args.loopback c.args.tag (text_of c.args.source ∷ []) m c.args.ring.now) (sym (placing g c).met_is)
+    ∙ ap (λ (t : List Access). c.args.memory.now.accesses ++ t) (one_put_accesses c.args.back (text_of c.args.source) (g.D.Dma.seen c.load_word-buffer.new.self.memory) c.args.ring.now _ _ _ _ owns at c.load_word-buffer.ensures.value (placing g c).fits c.first_word.ensures word)
+    ∙ ap (λ (m : List ℕ). c.args.memory.now.accesses ++ pieces_accesses c.args.back (text_of c.args.source ∷ []) m c.args.ring.now) (sym (placing g c).met_is)
 
 pub returns-clause-traced : goal.returns-clause-traced
 returns-clause-traced g c = (placing g c).traced

@@ -1,6 +1,6 @@
 -- The write-backs that are left lead from the memory now to the one that all write-backs give. What was written and what is left are all accesses.
 use Rattle.std.proofs.Common.{◌≡◌, ◌≤◌, ◌++◌, length}
-use Rattle.rx_desc.specs.Receive.{cut, slots, back_writes}
+use Rattle.rx_desc.specs.Receive.{cut, slots, zip_writes, back_writes}
 use Rattle.rx_desc.specs.Parts.{text_of}
 use Rattle.live_memory.specs.Trace.{wrotes}
 use Rattle.guest_memory.specs.Memory.{write_all}
@@ -14,6 +14,6 @@ invariant-loop-i g l =
     record {
       size : length now ≡ length first;
       short : length (text_of l.rest) ≤ 9018;
-      written : write_all (rest_backs l.loopback l.tag (slots l.ring) l.size l.count l.i (text_of l.rest)) now ≡ write_all (back_writes l.loopback l.tag (slots l.ring) (cut l.size l.count (text_of l.source))) first;
-      listed : l.memory.accesses ++ wrotes (rest_backs l.loopback l.tag (slots l.ring) l.size l.count l.i (text_of l.rest)) ≡ l.initial.memory.accesses ++ wrotes (back_writes l.loopback l.tag (slots l.ring) (cut l.size l.count (text_of l.source)));
+      written : write_all (rest_backs l.back (slots l.ring) l.addresses l.size l.count l.i (text_of l.rest)) now ≡ write_all (back_writes l.back (slots l.ring) (zip_writes l.addresses (cut l.size l.count (text_of l.source)))) first;
+      listed : l.memory.accesses ++ wrotes (rest_backs l.back (slots l.ring) l.addresses l.size l.count l.i (text_of l.rest)) ≡ l.initial.memory.accesses ++ wrotes (back_writes l.back (slots l.ring) (zip_writes l.addresses (cut l.size l.count (text_of l.source))));
     }

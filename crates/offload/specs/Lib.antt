@@ -3,3 +3,4 @@ pub mod Context
 pub mod Sums
 pub mod Cut
 pub mod Segment
+pub mod Offloads

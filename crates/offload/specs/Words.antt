@@ -126,3 +126,23 @@ UDP_LEAST = 8
 
 abbrev pub UDP_CHECKSUM : ℕ
 UDP_CHECKSUM = 6
+
+-- ---- flags of offloads: which bit of a word is which, and how many there are; ours
+
+abbrev pub VLAN_OFFLOAD : ℕ
+VLAN_OFFLOAD = 0
+
+abbrev pub CHECKSUM_OFFLOAD : ℕ
+CHECKSUM_OFFLOAD = 1
+
+abbrev pub SEGMENTATION_OFFLOAD : ℕ
+SEGMENTATION_OFFLOAD = 2
+
+abbrev pub AUTO_MASK_OFFLOAD : ℕ
+AUTO_MASK_OFFLOAD = 3
+
+abbrev pub LEGACY_RECEIVE_OFFLOAD : ℕ
+LEGACY_RECEIVE_OFFLOAD = 4
+
+abbrev pub OFFLOADS : ℕ
+OFFLOADS = 5

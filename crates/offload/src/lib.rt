@@ -45,10 +45,12 @@
 mod context;
 mod cut;
 pub mod laws;
+mod offloads;
 mod segment;
 mod store;
 mod sums;
 
 pub use context::{Context, Ip, Transport};
 pub use cut::{Cut, NotCut};
+pub use offloads::Offloads;
 pub use sums::{NotSummed, Sums, insert_sums};

@@ -1,5 +1,5 @@
-//! Tests of internet_checksum and offload: the example of RFC 1071, frames and segments that scapy built, each length at its bounds, and
-//! sums of bytes by chance beside a plain one.
+//! Tests of internet_checksum and offload: the example of RFC 1071, frames and segments that scapy built, each length at its bounds,
+//! sums of bytes by chance beside a plain one, and flags.
 #![tactic(auto)]
 
 #[cfg(test)]
@@ -12,6 +12,8 @@ mod compare;
 mod contexts;
 #[cfg(test)]
 mod examples;
+#[cfg(test)]
+mod flags;
 #[cfg(test)]
 mod frames;
 #[cfg(test)]

@@ -4,3 +4,5 @@ pub mod Listing
 pub mod PortTags
 pub mod Taking
 pub mod Joining
+pub mod Offloading
+pub mod PortTagsWith

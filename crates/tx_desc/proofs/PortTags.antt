@@ -33,7 +33,7 @@ tagged-with_tag tag f long enough =
 -- ---- what is fetched
 
 -- it is no frame, or one that bears the tag
-abbrev outcome_bears : ℕ → Fetched → Bool
+abbrev pub outcome_bears : ℕ → Fetched → Bool
 outcome_bears tag (Frame frame) = bears tag frame
 outcome_bears tag _ = true
 
@@ -45,7 +45,7 @@ put_in limit tag bytes true is =
     let frame = and_parts _ _ parts.1 in
     (λ i. tagged-with_tag tag bytes long frame.0 i && (control-with_tag tag bytes long i == tag)) ∙ eq-eqb tag tag refl
 
-gathered_bears : (limit tag : ℕ) (bytes : List ℕ) (b : Bool) → is_tagged bytes ≡ b
+pub gathered_bears : (limit tag : ℕ) (bytes : List ℕ) (b : Bool) → is_tagged bytes ≡ b
     → outcome_bears tag (if b then Dropped else (if is_frame_tagged limit tag bytes then Frame (with_tag tag bytes) else Dropped)) ≡ true
 gathered_bears limit tag bytes true is = refl
 gathered_bears limit tag bytes false is = put_in limit tag bytes _ refl
@@ -70,7 +70,7 @@ next_bears limit tag memory ring pending None = refl
 next_bears limit tag memory ring pending (Some address) =
     taken_bears (kind_of (length memory) (descriptor_at address memory)) limit tag memory ring pending (descriptor_at address memory)
 
-fetch_bears : (limit tag : ℕ) (memory : List ℕ) (ring : RingState) (pending : Gathering) → outcome_bears tag (fetch limit (Always tag) memory ring pending).outcome ≡ true
+pub fetch_bears : (limit tag : ℕ) (memory : List ℕ) (ring : RingState) (pending : Gathering) → outcome_bears tag (fetch limit (Always tag) memory ring pending).outcome ≡ true
 unfolding fetch
 fetch_bears limit tag memory ring pending = next_bears limit tag memory ring pending (head_slot ring)
 

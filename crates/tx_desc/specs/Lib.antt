@@ -3,3 +3,6 @@ pub mod Lent
 pub mod Words
 pub mod Fetches
 pub mod Accesses
+pub mod Offloaded
+pub mod OffloadedAccesses
+pub mod Serves

@@ -45,3 +45,23 @@ VLAN = 48
 
 abbrev pub VLAN_SIZE : ℕ
 VLAN_SIZE = 16
+
+-- of an advanced data descriptor, in its high half: IDX, which of the two contexts of the queue is meant
+abbrev pub IDX : ℕ
+IDX = 36
+
+abbrev pub IDX_SIZE : ℕ
+IDX_SIZE = 1
+
+-- IXSM and TXSM of POPTS: the sum of the IPv4 header, and that of what stands behind it, are to be made
+abbrev pub IXSM : ℕ
+IXSM = 40
+
+abbrev pub TXSM : ℕ
+TXSM = 41
+
+-- ---- segmentation
+
+-- the most bytes of a frame that is to be cut: 65,535 of payload, behind the longest headers that a context names
+abbrev pub MOST_CUT : ℕ
+MOST_CUT = 66428

@@ -101,7 +101,7 @@ fn take_data<D: Dma<K>, K>(
 // Writes a descriptor back where its driver asks for it, and tells whether it was.
 #[inline]
 #[tactic(auto, unfolding(crate::specs::Accesses::report_write))]
-fn report<D: Dma<K>, K>(memory: &mut Traced<D, K>, descriptor: TxDescriptor) -> bool
+pub(crate) fn report<D: Dma<K>, K>(memory: &mut Traced<D, K>, descriptor: TxDescriptor) -> bool
     requires place { descriptor.at + 16 ≤ length (D.seen memory.old.memory) }
     requires fits { descriptor.at + 16 < 2 ^ 64 }
     ensures value { result ≡ wants_report descriptor.word }
@@ -144,14 +144,14 @@ fn gather<D: Dma<K>, K>(
         memory.old.accesses memory.new.accesses (D.seen memory.old.memory) (D.seen memory.new.memory) }
 {
     if !descriptor.ends_frame() {
-        pending.join(memory, descriptor, limit);
+        pending.join(memory, descriptor, usize::from(limit.get()));
         return Progress::More;
     }
     if pending.is_empty() && is_whole(frame, descriptor, rule, limit) {
         take_whole(memory, frame, descriptor, rule, limit);
         return Progress::Ended;
     }
-    pending.join(memory, descriptor, limit);
+    pending.join(memory, descriptor, usize::from(limit.get()));
     let is_frame = pending.end(frame, descriptor, rule, limit);
     pending.clear();
     if is_frame {

@@ -20,11 +20,17 @@
 pub mod any_memory;
 mod descriptor;
 pub mod fetching;
+pub mod offloaded;
 pub mod outcome;
 pub mod pending;
 mod reading;
+pub mod sending;
+mod terms;
 
 pub use any_memory::fetch;
 pub use fetching::fetch_into;
-pub use outcome::{Fetched, Progress, Served};
+pub use offloaded::fetch_with_offloads;
+pub use outcome::{Fetched, Progress, Served, Turn};
 pub use pending::Pending;
+pub use sending::{Segments, Sending, Stage};
+pub use terms::Terms;

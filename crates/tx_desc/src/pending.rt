@@ -1,6 +1,10 @@
 //! The frame that is being sent, as far as it is gathered.
-ghost use Rattle.std.specs.Prelude.{◌≡◌, ◌↔◌, IsTrue, ℕ, ◌+◌, ◌-◌, ◌≤◌, ◌++◌, [], length, take, replicate, slice_range, vec_capacity, IfOk, if◌then◌else◌};
+ghost use Rattle.std.specs.Prelude.{◌≡◌, ◌↔◌, IsTrue, ℕ, ◌+◌, ◌-◌, ◌≤◌, ◌++◌, [], length, take, replicate, slice_range, vec_capacity, IfOk, IfSome, is_some, nat_lt, ◌<◌, ◌^◌, ◌==◌, None, if◌then◌else◌};
 ghost use Rattle.tx_desc.specs.Transmit.{Gathering, Gathered, Overlong, joined, ended, refuses, length_of};
+ghost use Rattle.offload.specs.Cut.{longest, segment_count};
+ghost use Rattle.offload.specs.Segment.{segment_of};
+ghost use Rattle.offload.specs.Sums.{refusal};
+ghost use Rattle.tx_desc.specs.Offloaded.{ended_with, lacks_sums, leaving, with_sums, room_beside, bytes_of, segments_in};
 ghost use Rattle.tx_desc.specs.Fetches.{Stands, ReadsApart, data_of};
 ghost use Rattle.tx_desc.specs.Lent.{lent_after};
 ghost use Rattle.tx_desc.specs.Accesses.{joined_reads, data_reads};
@@ -8,14 +12,16 @@ ghost use Rattle.tx_desc.specs.declared.outcome.Fetched.TheVariants.{Frame, Drop
 
 use crate::descriptor::TxDescriptor;
 use crate::reading::read_data;
+use crate::terms::{MOST_CUT, Terms};
 use guest_memory::GuestMem;
 use live_memory::{Dma, Traced};
+use offload::{Context, Cut, Sums, insert_sums};
 use std::alloc::{AllocError, Global};
 use std::marker::Model;
 use wire_frame::{FrameBuf, FrameLimit, PortVlan, is_tagged};
 
-/// The most bytes that a frame has.
-const MOST_BYTES: usize = 9018;
+/// How many bytes there is room for: those of the longest frame that is to be cut, and one segment behind it.
+const ROOM: usize = MOST_CUT + 9018;
 
 /// The bytes gathered so far of the frame that is being sent, or that they are too many.
 ///
@@ -36,7 +42,7 @@ impl Model for Pending {
 
     ghost view = { λ p. if p.is_overlong then Overlong else Gathered (take p.len p.cells.items) };
 
-    ghost invariant = { λ p. (p.len ≤ length p.cells.items) × (9018 ≤ vec_capacity p.cells) };
+    ghost invariant = { λ p. (p.len ≤ length p.cells.items) × ((p.len ≤ 66428) × (75446 ≤ vec_capacity p.cells)) };
 }
 
 impl Pending {
@@ -44,7 +50,7 @@ impl Pending {
     pub fn new(alloc: Global) -> Result<Pending, AllocError>
         ensures { IfOk result (λ p. p ≡ Gathered []) }
     {
-        let cells = Vec::with_capacity(alloc, MOST_BYTES)?;
+        let cells = Vec::with_capacity(alloc, ROOM)?;
         Ok(Pending {
             cells,
             len: 0,
@@ -69,24 +75,24 @@ impl Pending {
         self.len == 0 && !self.is_overlong
     }
 
-    // Joins the bytes of a descriptor, unless there are more than `limit` then. If they are too many, none is read.
+    // Joins the bytes of a descriptor, unless there are more than `most` then. If they are too many, none is read.
     #[inline]
     #[tactic(auto, using(crate::proofs::Unread::reads_none), unfolding(crate::specs::Transmit::joined, crate::specs::Accesses::joined_reads))]
     pub(crate) fn join<D: Dma<K>, K>(
         &mut self,
         memory: &mut Traced<D, K>,
         descriptor: TxDescriptor,
-        limit: FrameLimit,
+        most: usize,
     )
-        requires { Stands (D.seen memory.old.memory) descriptor }
+        requires stands { Stands (D.seen memory.old.memory) descriptor }
+        requires most { most ≤ 66428 }
         ensures joined { self.new
-            ≡ joined limit self.old (data_of (D.seen memory.new.memory) descriptor) }
+            ≡ joined most self.old (data_of (D.seen memory.new.memory) descriptor) }
         ensures listed { memory.new.accesses ≡ memory.old.accesses
-            ++ joined_reads limit self.old descriptor (D.seen memory.new.memory) }
+            ++ joined_reads most self.old descriptor (D.seen memory.new.memory) }
         ensures reads { ReadsApart D.shared descriptor.at
             memory.old.accesses memory.new.accesses (D.seen memory.old.memory) (D.seen memory.new.memory) }
     {
-        let most = usize::from(limit.get());
         let size = descriptor.length() as usize;
         if self.is_overlong || size > most || self.len > most - size {
             self.is_overlong = true;
@@ -139,14 +145,161 @@ impl Pending {
         if self.is_overlong {
             return false;
         }
+        leave(frame, &self.cells[..self.len], last.tag(rule), rule, limit)
+    }
+
+    // Ends the frame under the last descriptor, as `end` does, with what its first one asked for. Nothing is gathered then. Tells whether
+    // it is a frame, and whether sums were asked for that can't be made.
+    #[tactic(auto, unfolding(crate::specs::Offloaded::ended_with, crate::specs::Offloaded::lacks_sums))]
+    pub(crate) fn end_with(
+        &mut self,
+        frame: &mut FrameBuf,
+        context: &Context,
+        first: u64,
+        last: u64,
+        terms: &Terms,
+    ) -> (bool, bool)
+        ensures value { ended_with terms.now context.now first last self.old
+            ≡ (if result.0 then Frame frame.new else Dropped) }
+        ensures frame { frame.new
+            ≡ lent_after (ended_with terms.now context.now first last self.old) frame.old }
+        ensures lacks { result.1 ≡ lacks_sums terms.now context.now first self.old }
+        ensures emptied { self.new ≡ Gathered [] }
+    {
+        if self.is_overlong {
+            self.clear();
+            return (false, false);
+        }
+        let lacks = sum_front(&mut self.cells, self.len, context, terms.sums(first));
+        let tag = terms.tag(context, first, last);
         let bytes = &self.cells[..self.len];
-        if refuses(rule, bytes) {
-            return false;
+        let is_frame = leave(frame, bytes, tag, terms.rule, terms.limit);
+        self.clear();
+        (is_frame, lacks)
+    }
+
+    // Makes the lent frame a segment of the bytes that are gathered, by its number, with a tag, if any. Tells whether it is a frame then,
+    // and whether it is the last one; None where the bytes have no such segment, or can't be cut.
+    #[tactic(auto, unfolding(crate::specs::Offloaded::segments_in))]
+    pub(crate) fn segment(
+        &mut self,
+        frame: &mut FrameBuf,
+        context: &Context,
+        number: usize,
+        tag: Option<u16>,
+        terms: &Terms,
+    ) -> Option<(bool, bool)>
+        ensures pending { self.new ≡ self.old }
+        ensures there { is_some result
+            ≡ nat_lt number (segments_in (room_beside tag terms.now.limit) context.now self.old) }
+        ensures value { IfSome result (λ r.
+            leaving terms.now.rule terms.now.limit tag (segment_of context.now (bytes_of self.old) number)
+            ≡ (if r.0 then Frame frame.new else Dropped)) }
+        ensures frame { IfSome result (λ r. frame.new
+            ≡ lent_after (leaving terms.now.rule terms.now.limit tag
+            (segment_of context.now (bytes_of self.old) number)) frame.old) }
+        ensures last { IfSome result (λ r. r.1
+            ≡ (number + 1 == segments_in (room_beside tag terms.now.limit) context.now self.old)) }
+        ensures below { IfSome result (λ r. number + 1 < 2 ^ 64) }
+        ensures left { result ≡ None → frame.new ≡ frame.old }
+    {
+        if self.is_overlong {
+            return None;
         }
-        match last.tag(rule) {
-            None => frame.refill(bytes, limit),
-            Some(tag) => frame.refill_tagged(tag, bytes, limit),
+        let Ok(cut) = Cut::of(context, self.len, room_beside(tag, terms.limit)) else {
+            return None;
+        };
+        let count = cut.count();
+        if number >= count {
+            return None;
         }
+        let start = self.len;
+        let size = lay_segment(&mut self.cells, start, &cut, number);
+        let bytes = &self.cells[start..start + size];
+        let is_frame = leave(frame, bytes, tag, terms.rule, terms.limit);
+        Some((is_frame, number + 1 == count))
+    }
+}
+
+// Lays a segment of the first `len` bytes behind them, and tells how long it is. There is room, so nothing is allocated.
+fn lay_segment(cells: &mut Vec<u8>, len: usize, cut: &Cut, number: usize) -> usize
+    requires start { len ≤ length cells.old.items }
+    requires size { cut.now.size ≡ len }
+    requires number { number < segment_count cut.now.context len }
+    requires room { len + longest cut.now.context len ≤ vec_capacity cells.old }
+    ensures kept { take len cells.new.items ≡ take len cells.old.items }
+    ensures laid { slice_range cells.new.items len (len + result)
+        ≡ segment_of cut.now.context (take len cells.old.items) number }
+    ensures end { len + result ≤ length cells.new.items }
+    ensures capacity { vec_capacity cells.old ≤ vec_capacity cells.new }
+{
+    let end = len + cut.longest();
+    if end > cells.len() {
+        reach(cells, end);
+    }
+    let (bytes, room) = cells.split_at_mut(len);
+    cut.segment(bytes, number, room)
+}
+
+// Puts the sums that are asked for into the first `len` bytes, as `make_sums` does.
+#[inline]
+fn sum_front(cells: &mut Vec<u8>, len: usize, context: &Context, sums: Sums) -> bool
+    requires { len ≤ length cells.old.items }
+    ensures cells { take len cells.new.items
+        ≡ with_sums (refusal context.now sums len) context.now sums (take len cells.old.items) }
+    ensures len { length cells.new.items ≡ length cells.old.items }
+    ensures capacity { vec_capacity cells.old ≤ vec_capacity cells.new }
+    ensures lacks { result ≡ is_some (refusal context.now sums len) }
+{
+    let (front, _) = cells.split_at_mut(len);
+    make_sums(front, context, sums)
+}
+
+// Puts the sums that are asked for into bytes, which stay as they are where that can't be done; and tells whether it can't.
+#[inline]
+fn make_sums(bytes: &mut [u8], context: &Context, sums: Sums) -> bool
+    ensures bytes { bytes.new
+        ≡ with_sums (refusal context.now sums (length bytes.old)) context.now sums bytes.old }
+    ensures len { length bytes.new ≡ length bytes.old }
+    ensures lacks { result ≡ is_some (refusal context.now sums (length bytes.old)) }
+{
+    match insert_sums(bytes, context, sums) {
+        Ok(()) => false,
+        Err(_) => true,
+    }
+}
+
+// How long a segment may be that a tag comes to.
+#[inline]
+fn room_beside(tag: Option<u16>, limit: FrameLimit) -> u16
+    ensures value { result ≡ room_beside tag limit }
+    ensures most { result ≤ 9018 }
+{
+    match tag {
+        None => limit.get(),
+        Some(_) => limit.get() - 4,
+    }
+}
+
+// Makes the lent frame the bytes with a tag, if any, where they may leave by the port's rule and are a frame then, and tells whether they
+// are.
+#[inline]
+fn leave(
+    frame: &mut FrameBuf,
+    bytes: &[u8],
+    tag: Option<u16>,
+    rule: PortVlan,
+    limit: FrameLimit,
+) -> bool
+    ensures value { leaving rule limit tag bytes.now ≡ (if result then Frame frame.new else Dropped) }
+    ensures frame { frame.new ≡ lent_after (leaving rule limit tag bytes.now) frame.old }
+{
+    if refuses(rule, bytes) {
+        return false;
+    }
+    match tag {
+        None => frame.refill(bytes, limit),
+        Some(tag) => frame.refill_tagged(tag, bytes, limit),
     }
 }
 

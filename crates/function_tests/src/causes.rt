@@ -58,6 +58,55 @@ fn messages_follow_the_mask(rt: HostRuntime) {
     );
 }
 
+// A write that a driver makes, or that stands for a cause.
+#[derive(Clone, Copy)]
+enum Write {
+    // VTEICS.
+    Raise,
+    // VTEIMS.
+    Enable,
+}
+
+// What a driver sees that clears and masks its vectors automatically, as Linux's ixgbevf does: it takes a message, polls, and
+// enables the vector again. Vector 2 is in neither register.
+#[test]
+fn one_message_until_the_vector_is_enabled_again(rt: HostRuntime) {
+    let mut causes = Causes::new();
+    causes.iac(0b011);
+    causes.iam(0b011);
+    assert_equal(&rt, causes.auto_mask().bits(), 0b011);
+    for (write, word, messages, mask, what) in [
+        (Write::Enable, 0b111, 0b000, 0b111, "nothing stands"),
+        (Write::Raise, 0b001, 0b001, 0b110, "the first cause"),
+        (Write::Raise, 0b001, 0b000, 0b110, "one while it polls"),
+        (Write::Raise, 0b001, 0b000, 0b110, "and one more"),
+        (Write::Enable, 0b001, 0b001, 0b110, "the one that stood"),
+        (Write::Enable, 0b001, 0b000, 0b111, "none came since"),
+        (Write::Raise, 0b111, 0b111, 0b100, "three at once"),
+        (Write::Raise, 0b100, 0b000, 0b100, "vector 2 stands"),
+        (Write::Enable, 0b100, 0b000, 0b100, "and is enabled"),
+        (
+            Write::Enable,
+            0b011,
+            0b000,
+            0b111,
+            "the others were cleared",
+        ),
+    ] {
+        let issued = match write {
+            Write::Raise => causes.ics(word),
+            Write::Enable => causes.ims(word),
+        };
+        assert_equal_at(
+            &rt,
+            (issued.bits(), causes.mask().bits()),
+            (messages, mask),
+            what,
+        );
+    }
+    assert_equal(&rt, causes.read_icr().bits(), 0b100);
+}
+
 // The bits of a register above its three vectors are reserved.
 #[test]
 fn reserved_bits_are_ignored(rt: HostRuntime) {
@@ -67,7 +116,9 @@ fn reserved_bits_are_ignored(rt: HostRuntime) {
     assert_equal(&rt, causes.ics(0xFFFF_FFF8).bits(), 0);
     assert_equal(&rt, causes.read_icr().bits(), 0);
     causes.iac(0xFFFF_FFFF);
+    causes.iam(0xFFFF_FFFF);
     assert_equal(&rt, causes.auto_clear().bits(), 0b111);
+    assert_equal(&rt, causes.auto_mask().bits(), 0b111);
 }
 
 // Bit 7 of an entry says that it names a vector, and bits 1:0 say which; a function has no vector 3.
@@ -137,7 +188,7 @@ fn texts_for_people(rt: HostRuntime) -> Result<(), Fail> {
     assert_equal(
         &rt,
         format!(in rt.alloc(); "{causes:?}")?.as_str(),
-        "Causes { causes: Vectors { bits: 0 }, enabled: Vectors { bits: 0 }, auto_clear: Vectors { bits: 0 } }",
+        "Causes { causes: Vectors { bits: 0 }, enabled: Vectors { bits: 0 }, auto_clear: Vectors { bits: 0 }, auto_mask: Vectors { bits: 0 } }",
     );
     Ok(())
 }

@@ -1,10 +1,11 @@
 //! Worked examples from outside, as a driver and the wire would do them: each is a list of steps with what they answer.
 use guest_memory::{FlatMem, GuestMem};
 use irq_causes::Vectors;
+use offload::Offloads;
 use script_support::registers::{
     ADVANCED, ENABLE, RDBAH0, RDBAL0, RDH0, RDLEN0, RDLEN1, RDT0, ROUTES, RXDCTL0, RXDCTL1,
     SRRCTL0, SRRCTL1, TDBAL0, TDH0, TDLEN0, TDLEN1, TDT0, TXDCTL0, VFCTRL, VFGPRC, VFLINKS, VTEIAC,
-    VTEICR, VTEICS, VTEIMC, VTEIMS, VTIVAR, VTIVAR_MISC,
+    VTEIAM, VTEICR, VTEICS, VTEIMC, VTEIMS, VTIVAR, VTIVAR_MISC,
 };
 use std::alloc::Global;
 use std::process::Abort;
@@ -357,6 +358,82 @@ const SENT_WITH_100: &[u8] = &[
     2, 0, 0, 0, 0, 4, 2, 0, 0, 0, 0, 0x99, 0x81, 0, 0, 0x64, 8, 0,
 ];
 
+// A receive queue with one buffer at 0x4000, of which nobody has said how large it is; receive raises vector 0.
+const WAITING: &[Step] = &[
+    Put(0x1000, &[0, 0x40], 0, 8),
+    W(RDBAL0, 0x1000),
+    W(RDLEN0, 128),
+    W(RDT0, 1),
+    W(VTIVAR, ROUTES),
+    W(VTEIMS, 7),
+];
+// What is written back of a legacy descriptor for 60 bytes: the buffer's address, the length, done and the end of the frame.
+const LEGACY_60: &[u8] = &[0, 0x40, 0, 0, 0, 0, 0, 0, 0x3C, 0, 0, 0, 3, 0, 0, 0];
+
+/// Legacy descriptors, of a function that takes them and of one that doesn't.
+#[test]
+fn legacy_queues(rt: HostRuntime) -> Result<(), Fail> {
+    for (offloads, steps) in [
+        // As iPXE's driver does: the queue goes on, and then its buffers get a size. Until then there is no room.
+        (
+            Offloads::all(),
+            &[
+                W(RXDCTL0, ENABLE),
+                R(RXDCTL0, ENABLE),
+                Wire(FRAME, 0xAA, 60, 0),
+                R(VFGPRC, 0),
+                R(RDH0, 0),
+                Get(0x1000, &[0, 0x40, 0, 0, 0, 0, 0, 0, 0, 0, 0, 0, 0]),
+                W(SRRCTL0, 2),
+                R(SRRCTL0, 0x1000_0002),
+                Wire(FRAME, 0xAA, 60, 1),
+                R(VFGPRC, 1),
+                R(RDH0, 1),
+                Get(0x1000, LEGACY_60),
+                Get(0x4000, FRAME),
+                // The type stays while the queue is on. Buffers of 17 KiB are none.
+                W(SRRCTL0, ADVANCED | 4),
+                R(SRRCTL0, 0x1000_0002),
+                W(SRRCTL0, 17),
+                R(SRRCTL0, 0x1000_0011),
+                W(RDT0, 2),
+                Wire(FRAME, 0, 60, 0),
+                R(RDH0, 1),
+            ] as &[Step],
+        ),
+        // An advanced queue is as it is everywhere.
+        (
+            Offloads::all(),
+            &[
+                W(SRRCTL0, ADVANCED),
+                W(RXDCTL0, ENABLE),
+                R(RXDCTL0, 0),
+                W(SRRCTL0, ADVANCED | 2),
+                W(RXDCTL0, ENABLE),
+                W(SRRCTL0, ADVANCED | 4),
+                W(SRRCTL0, 4),
+                R(SRRCTL0, 0x1200_0002),
+                Wire(FRAME, 0, 60, 1),
+                Get(0x1000, &[0, 0, 0, 0, 0, 0, 0, 0, 3, 0, 0, 0, 0x3C]),
+            ],
+        ),
+        (
+            Offloads::none(),
+            &[W(SRRCTL0, 2), W(RXDCTL0, ENABLE), R(RXDCTL0, 0)],
+        ),
+    ] {
+        let mut unit = VfUnit::new(rt.alloc(), FlatMem::new(rt.alloc(), 65_536)?)?;
+        let memory = FlatMem::new(rt.alloc(), 65_536)?;
+        let _ = unit.exchange(memory, Some(offloads));
+        let mut frame = FrameBuf::blank();
+        let limit = FrameLimit::standard();
+        for part in [WAITING, steps] {
+            do_part(&rt, &mut unit, &mut frame, PortVlan::Never, limit, part)?;
+        }
+    }
+    Ok(())
+}
+
 #[test]
 fn takes_descriptors(rt: HostRuntime) -> Result<(), Fail> {
     for steps in [
@@ -612,6 +689,69 @@ fn registers_answer_as_mapped(rt: HostRuntime) -> Result<(), Fail> {
         let limit = FrameLimit::standard();
         let unit = VfUnit::new(rt.alloc(), memory)?;
         do_steps(&rt, unit, PortVlan::Descriptor, limit, [&steps, &[]])?;
+    }
+    Ok(())
+}
+
+// What a driver like Linux's ixgbevf does over its vectors 0 and 1: a frame brings one message, and further ones are silent until
+// VTEIMS is written again.
+const MASKING: &[Step] = &[
+    W(VTEIAC, 3),
+    W(VTEIAM, 0xFFFF_FFFB),
+    R(VTEIAM, 3),
+    Put(0x1010, &[0, 0x48], 0, 8),
+    Put(0x1020, &[0, 0x50], 0, 8),
+    W(RDT0, 3),
+    Wire(FRAME, 0, 60, 1),
+    R(VTEIMS, 6),
+    Wire(FRAME, 0, 60, 0),
+    Wire(FRAME, 0, 60, 0),
+    Issues(VTEIMS, 1, 1),
+    R(VTEIMS, 6),
+    R(VTEICR, 0),
+    W(VTEIMS, 1),
+    R(VTEIMS, 7),
+    Issues(VTEICS, 7, 7),
+    R(VTEIMS, 4),
+    // A reset clears the register, and it can be written again.
+    W(VFCTRL, 0x0400_0000),
+    R(VTEIAM, 0),
+    W(VTEIAM, 2),
+    Reset,
+    R(VTEIAM, 0),
+    W(VTEIAM, 7),
+    R(VTEIAM, 7),
+];
+
+#[test]
+fn vectors_are_masked_automatically(rt: HostRuntime) -> Result<(), Fail> {
+    let alloc = rt.alloc();
+    let mut unit = VfUnit::new(alloc, FlatMem::new(alloc, 4096)?)?;
+    let mut frame = FrameBuf::blank();
+    let (rule, limit) = (PortVlan::Descriptor, FrameLimit::standard());
+    let masks = Offloads {
+        auto_mask: true,
+        ..Offloads::none()
+    };
+    let _former = unit.exchange(FlatMem::new(alloc, 65_536)?, Some(masks));
+    for steps in [RECEIVING, MASKING] {
+        do_part(&rt, &mut unit, &mut frame, rule, limit, steps)?;
+    }
+    // Without that offload the register reads 0 and keeps nothing, whatever else the device does.
+    let others = Offloads {
+        auto_mask: false,
+        ..Offloads::all()
+    };
+    for offloads in [others, Offloads::none()] {
+        let _former = unit.exchange(FlatMem::new(alloc, 65_536)?, Some(offloads));
+        let steps = &[
+            W(VTEIAM, 7),
+            R(VTEIAM, 0),
+            W(VTEIMS, 7),
+            Issues(VTEICS, 1, 1),
+            R(VTEIMS, 7),
+        ];
+        do_part(&rt, &mut unit, &mut frame, rule, limit, steps)?;
     }
     Ok(())
 }

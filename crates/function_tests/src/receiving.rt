@@ -1,6 +1,7 @@
 //! Frames in rings as drivers lay them out. What the guest finds afterwards was worked out by hand from the datasheet's
-//! advanced receive descriptors. Their second word, written back, has done in bit 0, the end of the frame in bit 1, a
-//! stripped tag in bit 3, loopback in bit 18, the length from bit 32 on and the tag control from bit 48 on.
+//! receive descriptors. The second word of an advanced one, written back, has done in bit 0, the end of the frame in bit 1, a
+//! stripped tag in bit 3, loopback in bit 18, the length from bit 32 on and the tag control from bit 48 on. That of a legacy one has
+//! the length in its low 16 bits, done in bit 32, the end of the frame in bit 33, a stripped tag in bit 35, and the tag control as well.
 ghost use Rattle.std.specs.Prelude.{◌≡◌, ◌+◌, ◌≤◌, length, IfOk};
 ghost use Rattle.rings.specs.Ring.{LiesInside};
 
@@ -9,7 +10,7 @@ use guest_memory::{FlatMem, GuestMem, read_word, write_word};
 use live_memory::{Alone, Traced};
 use rings::{Ring, RingRegister};
 use rx_desc::laws::pieces_are_the_only_cut;
-use rx_desc::{Placed, RxConfig, place, place_in};
+use rx_desc::{Placed, RxConfig, RxFormat, place, place_in};
 use std::alloc::Global;
 use std::process::Abort;
 use std::test::Fail;
@@ -47,6 +48,18 @@ fn queue(strip_tag: bool) -> RxConfig
     RxConfig {
         buffer_size: 1024,
         strip_tag,
+        format: RxFormat::Advanced,
+    }
+}
+
+/// The same with legacy descriptors.
+fn legacy_queue(strip_tag: bool) -> RxConfig
+    ensures { result.buffer_size ≡ 1024 }
+{
+    RxConfig {
+        buffer_size: 1024,
+        strip_tag,
+        format: RxFormat::Legacy,
     }
 }
 
@@ -334,6 +347,110 @@ fn two_pieces_in_any_memory(rt: HostRuntime) -> Result<(), Fail> {
         (RING + 24, 0x0064_01EA_0004_000B),
         (FIRST, 0x0002_0300_0000_0002),
         (FIRST + 8, 0xAAAA_0008_9900_0000),
+        (SECOND + 0x1E2, 0xAAAA_AAAA_AAAA_AAAA),
+        (SECOND + 0x1EA, 0),
+    ] {
+        assert!(rt; place <= SIZE - 8);
+        assert_equal_at(&rt, read_word(&memory, place), word, place);
+    }
+    Ok(())
+}
+
+/// Of a queue of legacy descriptors, as in `written_back`. The first words stay the addresses of the buffers, and nothing tells of another
+/// pool.
+#[test]
+fn legacy_written_back(rt: HostRuntime) -> Result<(), Fail> {
+    for (strip, start, len, loopback, word, next_word, head) in [
+        (KEEP, PLAIN, 60, false, 0x0003_0000_003C, 0, 1),
+        (KEEP, PLAIN, 60, true, 0x0003_0000_003C, 0, 1),
+        // a tag that is stripped, and one that stays
+        (STRIP, TAGGED, 60, true, 0x64_000B_0000_0038, 0, 1),
+        (KEEP, TAGGED, 60, false, 0x0003_0000_003C, 0, 1),
+        // two pieces, of which the last one tells of the tag
+        (
+            KEEP,
+            PLAIN,
+            1518,
+            true,
+            0x0001_0000_0400,
+            0x0003_0000_01EE,
+            2,
+        ),
+        (
+            STRIP,
+            TAGGED,
+            1518,
+            false,
+            0x0001_0000_0400,
+            0x0064_000B_0000_01EA,
+            2,
+        ),
+    ] {
+        let mut ring = ring_of(8, 0, 7);
+        let mut memory = Traced::new(memory_of(&rt, rt.alloc(), 0, FIRST, SECOND)?);
+        let frame = frame_of(start, len)?;
+        let config = legacy_queue(strip);
+        let outcome = place_in(&mut memory, &mut ring, &config, &frame, loopback);
+        assert_eq!(rt; memory.size(), 65536);
+        let after = (
+            outcome,
+            ring.read(RingRegister::Head),
+            (memory.load_word(0x1000), memory.load_word(0x1008)),
+            (memory.load_word(0x1010), memory.load_word(0x1018)),
+        );
+        let wanted = (Placed::Put, head, (FIRST, word), (SECOND, next_word));
+        assert!(rt; after == wanted, "{len} bytes");
+    }
+    Ok(())
+}
+
+/// A frame of 1518 bytes for a queue of legacy descriptors. The tail and where the first buffer stands; then the outcome, the second words of
+/// both descriptors, and the head.
+#[test]
+fn legacy_two_pieces(rt: HostRuntime) -> Result<(), Fail> {
+    use Placed::{Faulted, NoRoom, Put};
+    for (tail, first, placed, word, next_word, head) in [
+        // the first piece goes over the second descriptor, which gets the address back that was read there
+        (2, 0x1010, Put, 0x0001_0000_0400, 0x0003_0000_01EE, 2),
+        // one descriptor too few
+        (1, FIRST, NoRoom, 0, 0, 0),
+        // the first piece ends one byte past the memory
+        (2, 0xFC01, Faulted, 0, 0, 0),
+    ] {
+        let mut ring = ring_of(8, 0, tail);
+        let mut memory = Traced::new(memory_of(&rt, rt.alloc(), 0, first, SECOND)?);
+        let frame = frame_of(MISLEADING, 1518)?;
+        let config = legacy_queue(KEEP);
+        let outcome = place_in(&mut memory, &mut ring, &config, &frame, false);
+        assert_eq!(rt; memory.size(), 65536);
+        let after = (
+            outcome,
+            ring.read(RingRegister::Head),
+            (memory.load_word(0x1000), memory.load_word(0x1008)),
+            (memory.load_word(0x1010), memory.load_word(0x1018)),
+        );
+        let wanted = (placed, head, (first, word), (SECOND, next_word));
+        assert!(rt; after == wanted, "{tail}, {first:x}");
+    }
+    Ok(())
+}
+
+/// A tagged frame of 1518 bytes, whose tag is stripped, in two legacy descriptors of a memory of any kind.
+#[test]
+fn legacy_two_pieces_in_any_memory(rt: HostRuntime) -> Result<(), Fail> {
+    let mut ring = ring_of(8, 0, 2);
+    let mut memory = memory_of(&rt, rt.alloc(), 0, FIRST, SECOND)?;
+    let frame = frame_of(TAGGED, 1518)?;
+    let outcome = place(&mut memory, &mut ring, &legacy_queue(STRIP), &frame, true);
+    assert_equal(&rt, outcome, Placed::Put);
+    assert_equal(&rt, ring.read(RingRegister::Head), 2);
+    assert_eq!(rt; memory.size(), 65536);
+    for (place, word) in [
+        (RING, FIRST),
+        (RING + 8, 0x0000_0001_0000_0400),
+        (RING + 16, SECOND),
+        (RING + 24, 0x0064_000B_0000_01EA),
+        (FIRST, 0x0002_0300_0000_0002),
         (SECOND + 0x1E2, 0xAAAA_AAAA_AAAA_AAAA),
         (SECOND + 0x1EA, 0),
     ] {

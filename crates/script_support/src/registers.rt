@@ -16,6 +16,8 @@ pub const VTEIMS: u32 = 0x108;
 pub const VTEIMC: u32 = 0x10C;
 /// Causes that are cleared automatically.
 pub const VTEIAC: u32 = 0x110;
+/// Vectors that are masked automatically.
+pub const VTEIAM: u32 = 0x114;
 /// Vectors of the queues, a byte each.
 pub const VTIVAR: u32 = 0x120;
 /// Vector of other causes.
@@ -130,7 +132,7 @@ pub const VALID: u32 = 0x8000_0000;
 pub const ROUTES: u32 = 0x8180;
 
 // The registers by name.
-static NAMES: [(&str, u32); 56] = [
+static NAMES: [(&str, u32); 57] = [
     ("VFCTRL", VFCTRL),
     ("VFLINKS", VFLINKS),
     ("VTEICR", VTEICR),
@@ -138,6 +140,7 @@ static NAMES: [(&str, u32); 56] = [
     ("VTEIMS", VTEIMS),
     ("VTEIMC", VTEIMC),
     ("VTEIAC", VTEIAC),
+    ("VTEIAM", VTEIAM),
     ("VTIVAR", VTIVAR),
     ("VTIVAR_MISC", VTIVAR_MISC),
     ("VFGPRC", VFGPRC),

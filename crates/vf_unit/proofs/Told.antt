@@ -13,6 +13,10 @@ unfolding told_of
 told_still before now (Closed size) same = refl
 told_still before now (Open s) same = ap (λ (memory : List ℕ). Open (record s { memory = memory })) (met_still before now s.memory same)
 
+-- of an open function
+pub state_told : (trace : List Access) (s : State) → told trace trace s ≡ s
+state_told trace s = ap (λ (memory : List ℕ). record s { memory = memory }) (met_still trace trace s.memory refl)
+
 pub open_told : (before now : List Access) (f : Function) → is_open (told_of before now f) ≡ is_open f
 unfolding told_of
 open_told before now (Closed size) = refl

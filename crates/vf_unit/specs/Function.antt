@@ -1,18 +1,22 @@
 -- An open virtual function: its state, what a frame that comes does, and what the service of a transmit queue does.
-use Rattle.std.specs.Prelude.{ℕ, ◌+◌, ◌*◌, ◌%◌, ◌^◌, ◌≤◌, Bool, true, false, List, [], length, IsTrue}
+use Rattle.std.specs.Prelude.{ℕ, ◌+◌, ◌*◌, ◌/◌, ◌%◌, ◌^◌, Bool, true, false, not, ◌&&◌, ◌||◌, ◌==◌, nat_le, List, [], length, IsTrue, if◌then◌else◌}
 use Rattle.wire_frame.specs.Bits.{field}
 use Rattle.wire_frame.specs.declared.vlan.PortVlan.{PortVlan}
 use Rattle.live_memory.specs.Trace.{Access, met}
 use Rattle.rings.specs.Ring.{no_ring, LiesInside}
-use Rattle.tx_desc.specs.Transmit.{Gathered, Fetching, fetch}
-use Rattle.tx_desc.specs.Accesses.{fetch_accesses}
+use Rattle.tx_desc.specs.declared.terms.Terms.{Terms}
+use Rattle.tx_desc.specs.Offloaded.{Serving, nothing_sent, fetch_with}
+use Rattle.tx_desc.specs.OffloadedAccesses.{fetch_with_accesses}
 use Rattle.rx_desc.specs.declared.placing.Placed.{Placed}
 use Rattle.rx_desc.specs.declared.placing.Placed.TheVariants.{Put, NoRoom, Faulted}
 use Rattle.rx_desc.specs.declared.placing.RxConfig.{RxConfig}
+use Rattle.rx_desc.specs.declared.write_back.RxFormat.TheVariants.{Advanced, Legacy}
 use Rattle.rx_desc.specs.Receive.{Delivery, deliver}
 use Rattle.rx_desc.specs.Accesses.{deliver_accesses}
 use Rattle.irq_causes.specs.Causes.{CauseState, Change, no_causes, silent, raised_by}
-use Rattle.vf_unit.specs.Words.{BUFFER_SIZES, RECEIVE_VECTOR_0, TRANSMIT_VECTOR_0, TRANSMIT_VECTOR_1, VECTOR_SIZE}
+use Rattle.offload.specs.declared.offloads.Offloads.{Offloads}
+use Rattle.offload.specs.Offloads.{no_offloads}
+use Rattle.vf_unit.specs.Words.{DESCTYPE, LEGACY, BUFFER_SIZES, LEAST_BUFFER, MOST_BUFFER, RECEIVE_VECTOR_0, TRANSMIT_VECTOR_0, TRANSMIT_VECTOR_1, VECTOR_SIZE}
 use Rattle.vf_unit.specs.declared.registers.Queue.{Queue}
 use Rattle.vf_unit.specs.declared.registers.Queue.TheVariants.{Q0, Q1}
 use Rattle.vf_unit.specs.declared.queues.ReceiveQueue.{ReceiveQueue}
@@ -31,16 +35,20 @@ pub record State : Type 0 where
   pub other_vector : ℕ
   pub frames_received : ℕ
   pub frames_sent : ℕ
+  -- what the device does for its driver, which no register says
+  pub offloads : Offloads
+  -- how often something that the driver left to the card could not be done, modulo 2^32
+  pub shortfalls : ℕ
 
 abbrev pub initial_receive : ReceiveQueue
 initial_receive = record { ring = no_ring; buffers = 0; strips_tag = false }
 
 abbrev pub initial_transmit : TransmitQueue
-initial_transmit = record { ring = no_ring; pending = Gathered [] }
+initial_transmit = record { ring = no_ring; sending = nothing_sent }
 
--- every register initial, over this memory
-abbrev pub initial : List ℕ → State
-initial memory = record {
+-- every register initial, over this memory, with these offloads
+abbrev pub initial_with : Offloads → List ℕ → State
+initial_with offloads memory = record {
   memory = memory;
   receive_0 = initial_receive;
   receive_1 = initial_receive;
@@ -51,18 +59,31 @@ initial memory = record {
   other_vector = 0;
   frames_received = 0;
   frames_sent = 0;
+  offloads = offloads;
+  shortfalls = 0;
 }
 
--- a receive queue that is on lies inside a memory of n bytes, and has buffers of 1 to 16 KiB
-pub record IsReceiving (n : ℕ) (q : ReceiveQueue) : Type 0 where
+-- and with none
+abbrev pub initial : List ℕ → State
+initial memory = initial_with no_offloads memory
+
+-- a queue has legacy descriptors, where the device takes these
+abbrev pub is_legacy : Bool → ReceiveQueue → Bool
+is_legacy taken q = taken && (q.buffers / 2 ^ DESCTYPE == LEGACY)
+
+-- its buffers have 1 to 16 KiB
+abbrev pub has_size : ReceiveQueue → Bool
+has_size q = nat_le LEAST_BUFFER (q.buffers % BUFFER_SIZES) && nat_le (q.buffers % BUFFER_SIZES) MOST_BUFFER
+
+-- a receive queue that is on lies inside a memory of n bytes, and has legacy descriptors, or buffers of 1 to 16 KiB
+pub record IsReceiving (legacy : Bool) (n : ℕ) (q : ReceiveQueue) : Type 0 where
   pub inside : LiesInside n q.ring
-  pub least : IsTrue q.ring.enabled → 1 ≤ q.buffers % BUFFER_SIZES
-  pub most : IsTrue q.ring.enabled → q.buffers % BUFFER_SIZES ≤ 16
+  pub sized : IsTrue q.ring.enabled → IsTrue (is_legacy legacy q || has_size q)
 
 -- queues that are on lie inside the memory
 pub record IsTied (s : State) : Type 0 where
-  pub receive_0 : IsReceiving (length s.memory) s.receive_0
-  pub receive_1 : IsReceiving (length s.memory) s.receive_1
+  pub receive_0 : IsReceiving s.offloads.legacy_receive (length s.memory) s.receive_0
+  pub receive_1 : IsReceiving s.offloads.legacy_receive (length s.memory) s.receive_1
   pub transmit_0 : LiesInside (length s.memory) s.transmit_0.ring
   pub transmit_1 : LiesInside (length s.memory) s.transmit_1.ring
 
@@ -121,17 +142,31 @@ after_placing s d =
     (record s { memory = d.memory; receive_0 = record s.receive_0 { ring = d.ring }; frames_received = counted d.placed s.frames_received })
     (announced d.placed s.queue_vectors s.causes)
 
+-- receive queue 0 has legacy descriptors
+abbrev pub receives_legacy : State → Bool
+receives_legacy s = is_legacy s.offloads.legacy_receive s.receive_0
+
 -- how receive queue 0 places frames
 abbrev pub receive_config : State → RxConfig
-receive_config s = record { buffer_size = 1024 * (s.receive_0.buffers % BUFFER_SIZES); strip_tag = s.receive_0.strips_tag }
+receive_config s = record {
+  buffer_size = 1024 * (s.receive_0.buffers % BUFFER_SIZES);
+  strip_tag = s.receive_0.strips_tag;
+  format = if receives_legacy s then Legacy else Advanced;
+}
+
+-- it places none where its descriptors are legacy ones, with which it is also on before its buffers have a size
+abbrev pub places_none : State → Bool
+places_none s = receives_legacy s && not (has_size s.receive_0)
 
 -- a frame comes to the function, from the wire or from another pool; it goes to receive queue 0
 unfoldable pub delivered : Bool → List ℕ → State → Change State
-delivered loopback frame s = after_placing s (deliver (receive_config s) loopback frame s.memory s.receive_0.ring)
+delivered loopback frame s =
+    if places_none s then silent s else after_placing s (deliver (receive_config s) loopback frame s.memory s.receive_0.ring)
 
 -- the accesses to its memory that this makes
 abbrev pub delivered_accesses : Bool → List ℕ → State → List Access
-delivered_accesses loopback frame s = deliver_accesses (receive_config s) loopback frame s.memory s.receive_0.ring
+delivered_accesses loopback frame s =
+    if places_none s then [] else deliver_accesses (receive_config s) loopback frame s.memory s.receive_0.ring
 
 -- ---- the service of a transmit queue
 
@@ -140,17 +175,27 @@ abbrev pub transmit_vector : ℕ → Queue → ℕ
 transmit_vector vectors Q0 = field vectors TRANSMIT_VECTOR_0 VECTOR_SIZE
 transmit_vector vectors Q1 = field vectors TRANSMIT_VECTOR_1 VECTOR_SIZE
 
--- one descriptor taken
-abbrev pub fetched_from : ℕ → PortVlan → State → Queue → Fetching
-fetched_from limit rule s q = fetch limit rule s.memory (transmit_of s q).ring (transmit_of s q).pending
+-- under which terms its queues send
+abbrev pub terms_of : ℕ → PortVlan → State → Terms
+terms_of limit rule s = record { rule = rule; limit = limit; offloads = s.offloads }
+
+-- one descriptor taken, or one segment
+abbrev pub fetched_from : ℕ → PortVlan → State → Queue → Serving
+fetched_from limit rule s q = fetch_with (terms_of limit rule s) s.memory (transmit_of s q).ring (transmit_of s q).sending
 
 -- the accesses to the memory that this makes
-abbrev pub fetched_accesses : ℕ → State → Queue → List Access
-fetched_accesses limit s q = fetch_accesses limit s.memory (transmit_of s q).ring (transmit_of s q).pending
+abbrev pub fetched_accesses : ℕ → PortVlan → State → Queue → List Access
+fetched_accesses limit rule s q = fetch_with_accesses (terms_of limit rule s) s.memory (transmit_of s q).ring (transmit_of s q).sending
 
--- the state with what the descriptor left
-abbrev pub with_fetching : State → Queue → Fetching → State
-with_fetching s q v = with_transmit (record s { memory = v.memory }) q (record { ring = v.ring; pending = v.pending })
+-- what could not be done is counted, modulo 2^32
+abbrev pub counted_short : Bool → ℕ → ℕ
+counted_short true n = (n + 1) % 2 ^ 32
+counted_short false n = n
+
+-- the state with what this left
+abbrev pub with_fetching : State → Queue → Serving → State
+with_fetching s q v =
+    with_transmit (record s { memory = v.memory; shortfalls = counted_short v.falls_short s.shortfalls }) q (record { ring = v.ring; sending = v.sending })
 
 -- the queue's cause is raised where the descriptor was written back
 abbrev pub reported : Bool → ℕ → CauseState → Change CauseState

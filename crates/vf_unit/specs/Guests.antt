@@ -1,11 +1,13 @@
 -- Guests that come to a function and go.
-use Rattle.std.specs.Prelude.{◌≡◌, ℕ, Bool, List, length, if◌then◌else◌}
-use Rattle.vf_unit.specs.Function.{initial}
+use Rattle.std.specs.Prelude.{◌≡◌, ℕ, List, length, Option, Some, None}
+use Rattle.offload.specs.declared.offloads.Offloads.{Offloads}
+use Rattle.vf_unit.specs.Function.{initial_with}
 use Rattle.vf_unit.specs.Unit.{Function, Closed, Open}
 
--- over a memory as it is, open with every register initial, or closed
-abbrev pub over : List ℕ → Bool → Function
-over memory is_open = if is_open then Open (initial memory) else Closed (length memory)
+-- over a memory as it is: closed, or open with every register initial and these offloads
+abbrev pub over : Option Offloads → List ℕ → Function
+over None memory = Closed (length memory)
+over (Some offloads) memory = Open (initial_with offloads memory)
 
 -- the bytes are those of the function's memory; of a closed function it is said how many they are
 abbrev pub IsFormer : Function → List ℕ → Type 0

@@ -4,7 +4,7 @@ use Rattle.std.specs.Prelude.{ℕ, List, [], ◌∷◌, ◌==◌, if◌then◌el
 use Rattle.vf_unit.specs.declared.registers.Queue.TheVariants.{Q0, Q1}
 use Rattle.rings.specs.declared.ring.RingRegister.TheVariants.{BaseLow, BaseHigh, Length, Head, Tail}
 use Rattle.vf_unit.specs.declared.registers.Register.{Register}
-use Rattle.vf_unit.specs.declared.registers.Register.TheVariants.{Nowhere, Control, Links, CauseRead, CauseSet, MaskSet, MaskClear, AutoClear, QueueVectors, OtherVector, Receive, ReceiveBuffers, ReceiveControl, Transmit, TransmitControl, FramesReceived, FramesSent}
+use Rattle.vf_unit.specs.declared.registers.Register.TheVariants.{Nowhere, Control, Links, CauseRead, CauseSet, MaskSet, MaskClear, AutoClear, AutoMask, QueueVectors, OtherVector, Receive, ReceiveBuffers, ReceiveControl, Transmit, TransmitControl, FramesReceived, FramesSent}
 
 -- a line of the map
 pub record Line : Type 0 where
@@ -20,6 +20,7 @@ register_map =
     ∷ record { offset = 0x108; register = MaskSet }  -- VTEIMS
     ∷ record { offset = 0x10C; register = MaskClear }  -- VTEIMC
     ∷ record { offset = 0x110; register = AutoClear }  -- VTEIAC
+    ∷ record { offset = 0x114; register = AutoMask }  -- VTEIAM
     ∷ record { offset = 0x120; register = QueueVectors }  -- VTIVAR
     ∷ record { offset = 0x140; register = OtherVector }  -- VTIVAR_MISC
     ∷ record { offset = 0x1000; register = Receive Q0 BaseLow }  -- RDBAL0

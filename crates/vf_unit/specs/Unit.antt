@@ -8,7 +8,7 @@ use Rattle.tx_desc.specs.declared.outcome.Fetched.{Fetched}
 use Rattle.tx_desc.specs.Lent.{lent_after}
 use Rattle.irq_causes.specs.Causes.{Change, silent}
 use Rattle.vf_unit.specs.declared.registers.Queue.{Queue}
-use Rattle.vf_unit.specs.Function.{State, initial, told, delivered, delivered_accesses, after_fetching, fetched_from, fetched_accesses}
+use Rattle.vf_unit.specs.Function.{State, initial, initial_with, told, delivered, delivered_accesses, after_fetching, fetched_from, fetched_accesses}
 use Rattle.vf_unit.specs.Access.{word_at_offset, after_read_at, written_at}
 
 -- closed, with a memory of that size, or open
@@ -47,7 +47,7 @@ pub record IsMet (shared : Bool) (f : Function) (before now : List Access) : Typ
 
 -- ---- opening, ending, reset
 
--- open, with every register initial and every byte of the memory zero, whatever it was
+-- open, with every register initial and every byte of the memory zero, whatever it was, without offloads
 abbrev pub opened : Function → Function
 opened f = Open (initial (replicate (size_of f) 0))
 
@@ -58,10 +58,10 @@ opening_accesses f = clearing (size_of f)
 abbrev pub ended : Function → Function
 ended f = Closed (size_of f)
 
--- every register initial; the memory stays, and so does whether it is open
+-- every register initial; the memory and the offloads stay, and so does whether it is open
 abbrev pub reset : Function → Function
 reset (Closed size) = Closed size
-reset (Open s) = Open (initial s.memory)
+reset (Open s) = Open (initial_with s.offloads s.memory)
 
 -- ---- registers
 
@@ -103,9 +103,9 @@ service_outcome limit rule (Closed size) q = None
 service_outcome limit rule (Open s) q = Some (fetched_from limit rule s q).outcome
 
 -- the accesses of the service
-abbrev pub service_accesses : ℕ → Function → Queue → List Access
-service_accesses limit (Closed size) q = []
-service_accesses limit (Open s) q = fetched_accesses limit s q
+abbrev pub service_accesses : ℕ → PortVlan → Function → Queue → List Access
+service_accesses limit rule (Closed size) q = []
+service_accesses limit rule (Open s) q = fetched_accesses limit rule s q
 
 -- the frame that the caller lends, afterwards
 abbrev pub lent_to : Option Fetched → List ℕ → List ℕ
@@ -116,6 +116,11 @@ lent_to (Some outcome) frame = lent_after outcome frame
 abbrev pub one_more_sent : Function → Function
 one_more_sent (Closed size) = Closed size
 one_more_sent (Open s) = Open (record s { frames_sent = (s.frames_sent + 1) % 2 ^ 32 })
+
+-- how often something that its driver left to the card could not be done; a closed one has no such count
+abbrev pub shortfalls_of : Function → ℕ
+shortfalls_of (Closed size) = 0
+shortfalls_of (Open s) = s.shortfalls
 
 -- ---- memory
 

@@ -21,9 +21,12 @@ VME = 30
 abbrev pub SRRCTL_KEPT : ℕ
 SRRCTL_KEPT = 0xE00001F
 
--- DESCTYPE, of SRRCTL, from bit 25 on: 1 is one advanced descriptor for each buffer
+-- DESCTYPE, of SRRCTL, from bit 25 on: 0 is one legacy descriptor for each buffer, and 1 one advanced descriptor
 abbrev pub DESCTYPE : ℕ
 DESCTYPE = 25
+
+abbrev pub LEGACY : ℕ
+LEGACY = 0
 
 abbrev pub ADVANCED : ℕ
 ADVANCED = 1
@@ -31,6 +34,13 @@ ADVANCED = 1
 -- BSIZEPACKET, of SRRCTL: the low five bits are the size of a buffer in KiB, a number below this
 abbrev pub BUFFER_SIZES : ℕ
 BUFFER_SIZES = 32
+
+-- the least and the most KiB that a buffer may have
+abbrev pub LEAST_BUFFER : ℕ
+LEAST_BUFFER = 1
+
+abbrev pub MOST_BUFFER : ℕ
+MOST_BUFFER = 16
 
 -- Drop_En, of SRRCTL, which always reads 1
 abbrev pub DROP_EN : ℕ

@@ -15,6 +15,8 @@ pub const VTEIMS: u32 = 0x108;
 pub const VTEIMC: u32 = 0x10C;
 /// Causes that are cleared automatically.
 pub const VTEIAC: u32 = 0x110;
+/// Vectors that are masked automatically.
+pub const VTEIAM: u32 = 0x114;
 /// Vectors of the queues, a byte each.
 pub const VTIVAR: u32 = 0x120;
 /// Vector of other causes, which nothing raises.
@@ -90,6 +92,8 @@ pub const LINK_UP: u32 = 0x7000_0000;
 pub const DROP_EN: u32 = 28;
 /// The lowest bit of SRRCTL's descriptor type, bits 27:25.
 pub const DESCTYPE: u32 = 25;
+/// The descriptor type of legacy descriptors.
+pub const LEGACY: u32 = 0;
 /// The descriptor type of advanced descriptors with one buffer.
 pub const ADVANCED: u32 = 1;
 /// The bits of SRRCTL that a write keeps: buffer size and descriptor type.
@@ -98,6 +102,10 @@ pub const SRRCTL_KEPT: u32 = 0x0E00_001F;
 pub const VTIVAR_KEPT: u32 = 0x8383_8383;
 /// How many buffer sizes SRRCTL has in bits 4:0 (BSIZEPACKET), in KiB.
 pub const BUFFER_SIZES: u32 = 32;
+/// The least size of a buffer, in KiB.
+pub const LEAST_BUFFER: u32 = 1;
+/// The largest size of a buffer, in KiB.
+pub const MOST_BUFFER: u32 = 16;
 /// The lowest bit of VTIVAR's byte of receive queue 0.
 pub const RECEIVE_VECTOR_0: u32 = 0;
 /// The lowest bit of VTIVAR's byte of transmit queue 0.

@@ -6,7 +6,7 @@ ghost use Rattle.live_memory.specs.Clearing.{clearing};
 ghost use Rattle.live_memory.specs.Trace.{Read, Wrote, IsTraced};
 ghost use Rattle.rings.specs.Ring.{ring_written};
 ghost use Rattle.tx_desc.specs.Lent.{fetched_in, lent_after};
-ghost use Rattle.vf_unit.specs.Function.{State, initial, receive_of, transmit_of, with_receive, with_transmit, with_fetching, fetched_from, fetched_accesses, after_fetching, delivered, delivered_accesses, told};
+ghost use Rattle.vf_unit.specs.Function.{State, initial, initial_with, receive_of, transmit_of, with_receive, with_transmit, with_fetching, fetched_from, fetched_accesses, after_fetching, delivered, delivered_accesses, told};
 ghost use Rattle.vf_unit.specs.Access.{word, after_read, buffers_written, receive_switched, transmit_switched, register_written, word_at_offset, after_read_at, written_at};
 
 use crate::offsets::{
@@ -18,12 +18,13 @@ use crate::registers::{Queue, Register, register_of};
 use guest_memory::GuestMem;
 use irq_causes::{Causes, Vectors};
 use live_memory::{Alone, Dma, Traced};
+use offload::Offloads;
 use rings::RingRegister;
-use rx_desc::{Placed, RxConfig, place_in};
+use rx_desc::{Placed, RxConfig, RxFormat, place_in};
 use std::alloc::{AllocError, Global};
 use std::marker::Model;
 use std::mem::replace;
-use tx_desc::{Progress, Served, fetch_into};
+use tx_desc::{Progress, Terms, Turn};
 use wire_frame::{FrameBuf, FrameLimit, PortVlan, field, has_bit};
 
 /// What SRRCTL always reads, beside what is kept of it.
@@ -52,6 +53,9 @@ pub struct OpenVf<D: Dma<K>, K = Alone> {
     receive_1: ReceiveQueue,
     transmit_0: TransmitQueue,
     transmit_1: TransmitQueue,
+    // what the device does for its driver; no register changes it
+    offloads: Offloads,
+    shortfalls: u32,
 }
 
 impl<D: Dma<K>, K> Model for OpenVf<D, K> {
@@ -71,6 +75,8 @@ impl<D: Dma<K>, K> Model for OpenVf<D, K> {
         other_vector = f.other_vector;
         frames_received = f.frames_received;
         frames_sent = f.frames_sent;
+        offloads = f.offloads;
+        shortfalls = f.shortfalls;
       };
       accesses = f.memory.accesses;
     } };
@@ -87,11 +93,13 @@ impl<D: Dma<K>, K> Model for OpenVf<D, K> {
           other_vector = f.other_vector;
           frames_received = f.frames_received;
           frames_sent = f.frames_sent;
+          offloads = f.offloads;
+          shortfalls = f.shortfalls;
         }) };
 }
 
 impl<D: Dma<K>, K> OpenVf<D, K> {
-    /// A function over this memory, with every register initial.
+    /// A function over this memory, with every register initial and no offloads.
     pub fn new(alloc: Global, memory: D) -> Result<OpenVf<D, K>, AllocError>
         ensures state { IfOk result (λ f. f.state ≡ initial (D.seen memory)) }
         ensures noted { IfOk result (λ f. f.accesses ≡ D.noted memory) }
@@ -109,12 +117,14 @@ impl<D: Dma<K>, K> OpenVf<D, K> {
             other_vector: 0,
             frames_received: 0,
             frames_sent: 0,
+            offloads: Offloads::none(),
+            shortfalls: 0,
         })
     }
 
-    /// Makes every register initial. The memory stays.
+    /// Makes every register initial. The memory and the offloads stay.
     pub fn reset(&mut self)
-        ensures state { self.new.state ≡ initial self.old.state.memory }
+        ensures state { self.new.state ≡ initial_with self.old.state.offloads self.old.state.memory }
         ensures size { length self.new.state.memory ≡ length self.old.state.memory }
         ensures accesses { self.new.accesses ≡ self.old.accesses }
     {
@@ -127,9 +137,10 @@ impl<D: Dma<K>, K> OpenVf<D, K> {
         self.other_vector = 0;
         self.frames_received = 0;
         self.frames_sent = 0;
+        self.shortfalls = 0;
     }
 
-    /// Makes every register initial and every byte of the memory zero.
+    /// Makes every register initial and every byte of the memory zero. It has no offloads then.
     pub fn reopen(&mut self)
         ensures state { self.new.state ≡ initial (replicate (length self.old.state.memory) 0) }
         ensures size { length self.new.state.memory ≡ length self.old.state.memory }
@@ -137,23 +148,25 @@ impl<D: Dma<K>, K> OpenVf<D, K> {
             ≡ self.old.accesses ++ clearing (length self.old.state.memory) }
     {
         self.reset();
+        self.offloads = Offloads::none();
         self.memory.erase();
     }
 
-    /// Takes another memory in place of its own, which it hands out with its list, and makes every register initial. Neither memory
-    /// is accessed.
-    pub fn exchange(&mut self, memory: D) -> Traced<D, K>
-        ensures state { self.new.state ≡ initial (D.seen memory) }
+    /// Takes another memory in place of its own, which it hands out with its list, makes every register initial, and has these offloads
+    /// from now on. Neither memory is accessed.
+    pub fn exchange(&mut self, memory: D, offloads: Offloads) -> Traced<D, K>
+        ensures state { self.new.state ≡ initial_with offloads (D.seen memory) }
         ensures accesses { self.new.accesses ≡ D.noted memory }
         ensures former { D.seen result.memory ≡ self.old.state.memory }
         ensures listed { result.accesses ≡ self.old.accesses }
     {
         OpenVf::reset(self);
+        self.offloads = offloads;
         replace(&mut self.memory, Traced::new(memory))
     }
 
-    /// Takes another memory of as many bytes in place of its own, which it hands out with its list. No register changes, and neither
-    /// memory is accessed.
+    /// Takes another memory of as many bytes in place of its own, which it hands out with its list. No register changes and no
+    /// offload, and neither memory is accessed.
     pub fn replace_memory(&mut self, memory: D) -> Traced<D, K>
         requires { length (D.seen memory) ≡ length self.old.state.memory }
         ensures state { self.new.state ≡ record self.old.state { memory = D.seen memory } }
@@ -197,6 +210,7 @@ impl<D: Dma<K>, K> OpenVf<D, K> {
             Register::CauseRead => u32::from(self.causes.read_icr().bits()),
             Register::MaskSet => u32::from(self.causes.mask().bits()),
             Register::AutoClear => u32::from(self.causes.auto_clear().bits()),
+            Register::AutoMask => u32::from(self.causes.auto_mask().bits()),
             Register::QueueVectors => self.queue_vectors,
             Register::OtherVector => self.other_vector,
             Register::Receive(Queue::Q0, register) => self.receive_0.ring.read(register),
@@ -234,6 +248,11 @@ impl<D: Dma<K>, K> OpenVf<D, K> {
             Register::CauseRead => self.causes.write_icr(x),
             Register::MaskClear => self.causes.imc(x),
             Register::AutoClear => self.causes.iac(x),
+            Register::AutoMask => {
+                if self.offloads.auto_mask {
+                    self.causes.iam(x);
+                }
+            }
             Register::QueueVectors => self.queue_vectors = x & VTIVAR_KEPT,
             Register::OtherVector => self.other_vector = x & VTIVAR_MISC_KEPT,
             Register::Receive(queue, register) => self.write_receive(queue, register, x),
@@ -268,13 +287,16 @@ impl<D: Dma<K>, K> OpenVf<D, K> {
     // Writes SRRCTL.
     fn write_receive_buffers(&mut self, queue: Queue, x: u32)
         ensures state { self.new.state
-            ≡ with_receive self.old.state queue (buffers_written (receive_of self.old.state queue) x) }
+            ≡ with_receive self.old.state queue
+            (buffers_written self.old.state.offloads.legacy_receive
+            (receive_of self.old.state queue) x) }
         ensures size { length self.new.state.memory ≡ length self.old.state.memory }
         ensures accesses { self.new.accesses ≡ self.old.accesses }
     {
+        let legacy = self.offloads.legacy_receive;
         match queue {
-            Queue::Q0 => self.receive_0.write_buffers(x),
-            Queue::Q1 => self.receive_1.write_buffers(x),
+            Queue::Q0 => self.receive_0.write_buffers(x, legacy),
+            Queue::Q1 => self.receive_1.write_buffers(x, legacy),
         }
     }
 
@@ -282,14 +304,16 @@ impl<D: Dma<K>, K> OpenVf<D, K> {
     fn write_receive_control(&mut self, queue: Queue, x: u32)
         ensures state { self.new.state
             ≡ with_receive self.old.state queue
-            (receive_switched (length self.old.state.memory) (receive_of self.old.state queue) x) }
+            (receive_switched self.old.state.offloads.legacy_receive
+            (length self.old.state.memory) (receive_of self.old.state queue) x) }
         ensures size { length self.new.state.memory ≡ length self.old.state.memory }
         ensures accesses { self.new.accesses ≡ self.old.accesses }
     {
         let memory_size = self.memory.size();
+        let legacy = self.offloads.legacy_receive;
         match queue {
-            Queue::Q0 => self.receive_0.write_control(x, memory_size),
-            Queue::Q1 => self.receive_1.write_control(x, memory_size),
+            Queue::Q0 => self.receive_0.write_control(x, legacy, memory_size),
+            Queue::Q1 => self.receive_1.write_control(x, legacy, memory_size),
         }
     }
 
@@ -328,7 +352,7 @@ impl<D: Dma<K>, K> OpenVf<D, K> {
 
     /// Places a frame in receive queue 0; the messages that this issues. `loopback` says that another pool sent it.
     #[inline]
-    #[tactic(auto, unfolding(crate::specs::Function::delivered))]
+    #[tactic(auto, using(crate::proofs::Told::state_told), unfolding(crate::specs::Function::delivered))]
     pub fn deliver(&mut self, frame: &FrameBuf, loopback: bool) -> Vectors
         ensures state { self.new.state
             ≡ (delivered loopback frame.now
@@ -342,9 +366,18 @@ impl<D: Dma<K>, K> OpenVf<D, K> {
             (told self.old.accesses self.new.accesses self.old.state) }
         ensures traced { IsTraced D.shared self.old.state.memory self.old.accesses self.new.accesses }
     {
+        let is_legacy = self.receive_0.is_legacy(self.offloads.legacy_receive);
+        if is_legacy && !self.receive_0.has_size() {
+            return Vectors::none();
+        }
         let config = RxConfig {
             buffer_size: 1024 * (self.receive_0.buffers % BUFFER_SIZES) as usize,
             strip_tag: self.receive_0.strips_tag,
+            format: if is_legacy {
+                RxFormat::Legacy
+            } else {
+                RxFormat::Advanced
+            },
         };
         let placed = place_in(
             &mut self.memory,
@@ -361,8 +394,8 @@ impl<D: Dma<K>, K> OpenVf<D, K> {
             .raise_by(vector_at(self.queue_vectors, RECEIVE_VECTOR_0))
     }
 
-    /// Takes the descriptor at the head of a transmit queue. A frame that ends with it is left in `frame`, which else stays
-    /// as it was.
+    /// Takes the descriptor at the head of a transmit queue, or sends the next segment of the frame that ends with it. What leaves is left in
+    /// `frame`, which else stays as it was.
     #[tactic(auto, unfolding(crate::specs::Function::after_fetching))]
     pub fn serve(
         &mut self,
@@ -386,12 +419,12 @@ impl<D: Dma<K>, K> OpenVf<D, K> {
             (told self.old.accesses self.new.accesses self.old.state) queue).outcome frame.old }
         ensures size { length self.new.state.memory ≡ length self.old.state.memory }
         ensures listed { self.new.accesses ≡ self.old.accesses
-            ++ fetched_accesses limit
+            ++ fetched_accesses limit rule
             (told self.old.accesses self.new.accesses self.old.state) queue }
         ensures traced { IsTraced D.shared self.old.state.memory self.old.accesses self.new.accesses }
     {
-        let served = self.fetch_from(queue, frame, rule, limit);
-        let messages = if served.reported {
+        let turn = self.fetch_from(queue, frame, rule, limit);
+        let messages = if turn.reported {
             let vector = match queue {
                 Queue::Q0 => vector_at(self.queue_vectors, TRANSMIT_VECTOR_0),
                 Queue::Q1 => vector_at(self.queue_vectors, TRANSMIT_VECTOR_1),
@@ -401,7 +434,7 @@ impl<D: Dma<K>, K> OpenVf<D, K> {
             Vectors::none()
         };
         Service {
-            outcome: served.outcome,
+            outcome: turn.outcome,
             messages,
         }
     }
@@ -413,7 +446,7 @@ impl<D: Dma<K>, K> OpenVf<D, K> {
         frame: &mut FrameBuf,
         rule: PortVlan,
         limit: FrameLimit,
-    ) -> Served
+    ) -> Turn
         ensures state { self.new.state
             ≡ with_fetching
             (told self.old.accesses self.new.accesses self.old.state) queue
@@ -431,28 +464,23 @@ impl<D: Dma<K>, K> OpenVf<D, K> {
             (told self.old.accesses self.new.accesses self.old.state) queue).outcome frame.old }
         ensures size { length self.new.state.memory ≡ length self.old.state.memory }
         ensures listed { self.new.accesses ≡ self.old.accesses
-            ++ fetched_accesses limit
+            ++ fetched_accesses limit rule
             (told self.old.accesses self.new.accesses self.old.state) queue }
         ensures traced { IsTraced D.shared self.old.state.memory self.old.accesses self.new.accesses }
     {
-        match queue {
-            Queue::Q0 => fetch_into(
-                &mut self.memory,
-                &mut self.transmit_0.ring,
-                &mut self.transmit_0.pending,
-                frame,
-                rule,
-                limit,
-            ),
-            Queue::Q1 => fetch_into(
-                &mut self.memory,
-                &mut self.transmit_1.ring,
-                &mut self.transmit_1.pending,
-                frame,
-                rule,
-                limit,
-            ),
+        let terms = Terms {
+            rule,
+            limit,
+            offloads: self.offloads,
+        };
+        let turn = match queue {
+            Queue::Q0 => self.transmit_0.fetch(&mut self.memory, frame, &terms),
+            Queue::Q1 => self.transmit_1.fetch(&mut self.memory, frame, &terms),
+        };
+        if turn.falls_short {
+            self.shortfalls = self.shortfalls.wrapping_add(1);
         }
+        turn
     }
 
     /// Counts one more frame sent, modulo 2^32.
@@ -463,6 +491,15 @@ impl<D: Dma<K>, K> OpenVf<D, K> {
         ensures accesses { self.new.accesses ≡ self.old.accesses }
     {
         self.frames_sent = self.frames_sent.wrapping_add(1);
+    }
+
+    /// How often something that the driver left to the card could not be done, modulo 2^32: sums that a frame then lacks, or segments,
+    /// where the whole frame is dropped.
+    #[inline]
+    pub fn shortfalls(&self) -> u32
+        ensures { result ≡ self.now.state.shortfalls }
+    {
+        self.shortfalls
     }
 
     /// The size of the memory, in bytes.

@@ -1,15 +1,22 @@
 //! A receive and a transmit queue, as their registers see them.
-ghost use Rattle.std.specs.Prelude.{◌≡◌, ℕ, ◌+◌, ◌^◌, IfOk, if◌then◌else◌};
+ghost use Rattle.std.specs.Prelude.{◌≡◌, ℕ, Bool, ◌+◌, ◌^◌, ◌++◌, length, IfOk, if◌then◌else◌};
+ghost use Rattle.live_memory.specs.Trace.{met, IsTraced};
+ghost use Rattle.tx_desc.specs.Offloaded.{fetch_with};
+ghost use Rattle.tx_desc.specs.OffloadedAccesses.{fetch_with_accesses};
+ghost use Rattle.tx_desc.specs.Serves.{Serves};
 ghost use Rattle.rings.specs.Ring.{LiesInside, ring_written};
 ghost use Rattle.vf_unit.specs.Words.{VME};
-ghost use Rattle.vf_unit.specs.Function.{initial_receive, initial_transmit, IsReceiving};
+ghost use Rattle.vf_unit.specs.Function.{initial_receive, initial_transmit, is_legacy as is_legacy_of, has_size as has_size_of, IsReceiving};
 ghost use Rattle.vf_unit.specs.Access.{enable_word, buffers_written, receive_switched, transmit_switched};
 
-use crate::offsets::{ADVANCED, BUFFER_SIZES, DESCTYPE, ENABLE, SRRCTL_KEPT, VME};
+use crate::offsets::{
+    ADVANCED, BUFFER_SIZES, DESCTYPE, ENABLE, LEAST_BUFFER, LEGACY, MOST_BUFFER, SRRCTL_KEPT, VME,
+};
+use live_memory::{Dma, Traced};
 use rings::{Ring, RingRegister};
 use std::alloc::{AllocError, Global};
-use tx_desc::Pending;
-use wire_frame::has_bit;
+use tx_desc::{Sending, Terms, Turn, fetch_with_offloads};
+use wire_frame::{FrameBuf, has_bit};
 
 /// What RXDCTL and TXDCTL read where the queue is on.
 const ENABLED: u32 = 1 << ENABLE;
@@ -34,8 +41,8 @@ pub struct ReceiveQueue {
 pub struct TransmitQueue {
     /// Its ring.
     pub ring: Ring,
-    /// The frame that is being sent.
-    pub pending: Pending,
+    /// What is being sent, and the contexts that its driver set.
+    pub sending: Sending,
 }
 
 impl ReceiveQueue {
@@ -68,34 +75,55 @@ impl ReceiveQueue {
         on + strips
     }
 
+    /// Whether its descriptors are legacy ones, where these are `taken`.
+    #[inline]
+    pub fn is_legacy(&self, taken: bool) -> bool
+        ensures { result ≡ is_legacy_of taken self.now }
+    {
+        taken && self.buffers / TYPE == LEGACY
+    }
+
+    /// Whether its buffers have 1 to 16 KiB.
+    #[inline]
+    pub fn has_size(&self) -> bool
+        ensures { result ≡ has_size_of self.now }
+    {
+        let size = self.buffers % BUFFER_SIZES;
+        LEAST_BUFFER <= size && size <= MOST_BUFFER
+    }
+
     /// Writes a register of the ring.
     pub fn write_ring(&mut self, register: RingRegister, x: u32)
         ensures value { self.new
             ≡ record self.old { ring = ring_written self.old.ring register x } }
-        ensures kept { (n : ℕ) → IsReceiving n self.old → IsReceiving n self.new }
+        ensures kept { (legacy : Bool) (n : ℕ) → IsReceiving legacy n self.old
+            → IsReceiving legacy n self.new }
     {
         self.ring.write(register, x);
     }
 
-    /// Writes SRRCTL, which a queue that is on ignores.
-    pub fn write_buffers(&mut self, x: u32)
-        ensures value { self.new ≡ buffers_written self.old x }
-        ensures kept { (n : ℕ) → IsReceiving n self.old → IsReceiving n self.new }
+    /// Writes SRRCTL. A queue that is on ignores it, but where its descriptors are legacy ones and stay so: `legacy` is whether these are
+    /// taken.
+    pub fn write_buffers(&mut self, x: u32, legacy: bool)
+        ensures value { self.new ≡ buffers_written legacy self.old x }
+        ensures kept { (n : ℕ) → IsReceiving legacy n self.old → IsReceiving legacy n self.new }
     {
-        if !self.ring.is_enabled() {
-            self.buffers = x & SRRCTL_KEPT;
+        let kept = x & SRRCTL_KEPT;
+        let stays_legacy = self.is_legacy(legacy) && kept / TYPE == LEGACY;
+        if !self.ring.is_enabled() || stays_legacy {
+            self.buffers = kept;
         }
     }
 
-    /// Writes RXDCTL, of a function with a memory of `memory_size` bytes. The queue goes on only where its buffers are of
-    /// the advanced type and of 1 to 16 KiB, and its ring can be on.
-    pub fn write_control(&mut self, x: u32, memory_size: u64)
-        ensures value { self.new ≡ receive_switched memory_size self.old x }
-        ensures kept { IsReceiving memory_size self.old → IsReceiving memory_size self.new }
+    /// Writes RXDCTL, of a function with a memory of `memory_size` bytes. The queue goes on only where its ring can be on, and its
+    /// descriptors are legacy ones, where these are taken (`legacy`), or advanced ones with buffers of 1 to 16 KiB.
+    pub fn write_control(&mut self, x: u32, legacy: bool, memory_size: u64)
+        ensures value { self.new ≡ receive_switched legacy memory_size self.old x }
+        ensures kept { IsReceiving legacy memory_size self.old
+            → IsReceiving legacy memory_size self.new }
     {
-        let size = self.buffers % BUFFER_SIZES;
         let is_advanced = self.buffers / TYPE == ADVANCED;
-        let may = is_advanced && size >= 1 && size <= 16;
+        let may = self.is_legacy(legacy) || is_advanced && self.has_size();
         self.ring
             .switch(has_bit(u64::from(x), ENABLE), may, memory_size);
         self.strips_tag = has_bit(u64::from(x), VME);
@@ -107,10 +135,10 @@ impl TransmitQueue {
     pub fn new(alloc: Global) -> Result<TransmitQueue, AllocError>
         ensures { IfOk result (λ q. q ≡ initial_transmit) }
     {
-        let pending = Pending::new(alloc)?;
+        let sending = Sending::new(alloc)?;
         Ok(TransmitQueue {
             ring: Ring::new(),
-            pending,
+            sending,
         })
     }
 
@@ -119,7 +147,7 @@ impl TransmitQueue {
         ensures { self.new ≡ initial_transmit }
     {
         self.ring = Ring::new();
-        self.pending.clear();
+        self.sending.clear();
     }
 
     /// What TXDCTL reads.
@@ -129,7 +157,7 @@ impl TransmitQueue {
         if self.ring.is_enabled() { ENABLED } else { 0 }
     }
 
-    /// Writes TXDCTL, of a function with a memory of `memory_size` bytes. A queue that goes off loses its pending frame.
+    /// Writes TXDCTL, of a function with a memory of `memory_size` bytes. A queue that goes off loses all that was being sent, and its contexts.
     pub fn write_control(&mut self, x: u32, memory_size: u64)
         ensures value { self.new ≡ transmit_switched memory_size self.old x }
         ensures inside { LiesInside memory_size self.old.ring
@@ -138,7 +166,31 @@ impl TransmitQueue {
         let on = has_bit(u64::from(x), ENABLE);
         self.ring.switch(on, true, memory_size);
         if !on {
-            self.pending.clear();
+            self.sending.clear();
         }
+    }
+
+    /// Takes the descriptor at the head, or sends the next segment of the frame that ends with it.
+    #[inline]
+    pub fn fetch<D: Dma<K>, K>(
+        &mut self,
+        memory: &mut Traced<D, K>,
+        frame: &mut FrameBuf,
+        terms: &Terms,
+    ) -> Turn
+        requires inside { LiesInside (length (D.seen memory.old.memory)) self.old.ring }
+        ensures serves { Serves
+            (fetch_with terms.now
+            (met memory.old.accesses memory.new.accesses (D.seen memory.old.memory)) self.old.ring self.old.sending)
+            result (D.seen memory.new.memory) self.new.ring self.new.sending frame.old frame.new }
+        ensures listed { memory.new.accesses ≡ memory.old.accesses
+            ++ fetch_with_accesses terms.now
+            (met memory.old.accesses memory.new.accesses (D.seen memory.old.memory)) self.old.ring self.old.sending }
+        ensures traced { IsTraced D.shared (D.seen memory.old.memory)
+            memory.old.accesses memory.new.accesses }
+        ensures size { length (D.seen memory.new.memory) ≡ length (D.seen memory.old.memory) }
+        ensures inside { LiesInside (length (D.seen memory.new.memory)) self.new.ring }
+    {
+        fetch_with_offloads(memory, &mut self.ring, &mut self.sending, frame, terms)
     }
 }

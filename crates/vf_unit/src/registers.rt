@@ -33,6 +33,8 @@ pub enum Register {
     MaskClear,
     /// VTEIAC.
     AutoClear,
+    /// VTEIAM.
+    AutoMask,
     /// VTIVAR.
     QueueVectors,
     /// VTIVAR_MISC.
@@ -66,6 +68,7 @@ pub fn register_of(offset: u32) -> Register
         VTEIMS => Register::MaskSet,
         VTEIMC => Register::MaskClear,
         VTEIAC => Register::AutoClear,
+        VTEIAM => Register::AutoMask,
         VTIVAR => Register::QueueVectors,
         VTIVAR_MISC => Register::OtherVector,
         RDBAL0 => Register::Receive(Queue::Q0, RingRegister::BaseLow),

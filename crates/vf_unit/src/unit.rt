@@ -3,13 +3,14 @@ ghost use Rattle.std.specs.Prelude.{◌≡◌, ℕ, [], ◌++◌, length, Some, 
 ghost use Rattle.std.specs.Option.{option_map};
 ghost use Rattle.tx_desc.specs.Lent.{fetched_in};
 ghost use Rattle.vf_unit.specs.Guests.{over, moved_to, IsFormer};
-ghost use Rattle.vf_unit.specs.Unit.{Closed, IsMet, met_function, size_of, is_open, opened, opening_accesses, ended, reset, read_of, after_read_of, written, given, serviced, service_outcome, lent_to, one_more_sent, has_range, bytes_at, memory_written, given_accesses, service_accesses, load_accesses, store_accesses};
+ghost use Rattle.vf_unit.specs.Unit.{Closed, IsMet, met_function, size_of, shortfalls_of, is_open, opened, opening_accesses, ended, reset, read_of, after_read_of, written, given, serviced, service_outcome, lent_to, one_more_sent, has_range, bytes_at, memory_written, given_accesses, service_accesses, load_accesses, store_accesses};
 
 use crate::open::{OpenVf, Service};
 use crate::registers::Queue;
 use guest_memory::GuestMem;
 use irq_causes::Vectors;
 use live_memory::{Alone, Dma, Traced};
+use offload::Offloads;
 use std::alloc::{AllocError, Global};
 use std::marker::Model;
 use wire_frame::{FrameBuf, FrameLimit, PortVlan};
@@ -55,6 +56,18 @@ impl<D: Dma<K>, K> VfUnit<D, K> {
         self.is_open
     }
 
+    /// How often something that its driver left to the card could not be done, modulo 2^32; 0 of a closed one.
+    #[inline]
+    pub fn shortfalls(&self) -> u32
+        ensures { result ≡ shortfalls_of self.now.function }
+    {
+        if self.is_open {
+            self.inner.shortfalls()
+        } else {
+            0
+        }
+    }
+
     /// The size of its memory, in bytes.
     #[inline]
     pub fn memory_size(&self) -> u64
@@ -63,7 +76,7 @@ impl<D: Dma<K>, K> VfUnit<D, K> {
         self.inner.memory_size()
     }
 
-    /// Opens it: every register is initial and every byte of the memory zero, whatever it was.
+    /// Opens it: every register is initial and every byte of the memory zero, whatever it was. It has no offloads.
     pub fn open(&mut self)
         ensures function { self.new.function ≡ opened self.old.function }
         ensures size { size_of self.new.function ≡ size_of self.old.function }
@@ -82,17 +95,18 @@ impl<D: Dma<K>, K> VfUnit<D, K> {
         self.is_open = false;
     }
 
-    /// Takes another memory in place of its own, which it hands out with its list, and is open or closed then, with every register
-    /// initial. Neither memory is accessed.
-    pub fn exchange(&mut self, memory: D, is_open: bool) -> Traced<D, K>
-        ensures function { self.new.function ≡ over (D.seen memory) is_open }
+    /// Takes another memory in place of its own, which it hands out with its list. It is closed then, or open with every register initial
+    /// and the offloads of `opening`. Neither memory is accessed.
+    pub fn exchange(&mut self, memory: D, opening: Option<Offloads>) -> Traced<D, K>
+        ensures function { self.new.function ≡ over opening (D.seen memory) }
         ensures accesses { self.new.accesses ≡ D.noted memory }
         ensures former { IsFormer self.old.function (D.seen result.memory) }
         ensures size { length (D.seen result.memory) ≡ size_of self.old.function }
         ensures listed { result.accesses ≡ self.old.accesses }
     {
-        self.is_open = is_open;
-        self.inner.exchange(memory)
+        self.is_open = opening.is_some();
+        self.inner
+            .exchange(memory, opening.unwrap_or(Offloads::none()))
     }
 
     /// Takes another memory of as many bytes in place of its own, which it hands out with its list. Nothing else changes, and neither
@@ -108,7 +122,7 @@ impl<D: Dma<K>, K> VfUnit<D, K> {
         self.inner.replace_memory(memory)
     }
 
-    /// Makes every register initial (SR-IOV 1.1, function-level reset). The memory stays.
+    /// Makes every register initial (SR-IOV 1.1, function-level reset). The memory and the offloads stay.
     pub fn reset(&mut self)
         ensures function { self.new.function ≡ reset self.old.function }
         ensures size { size_of self.new.function ≡ size_of self.old.function }
@@ -200,7 +214,7 @@ impl<D: Dma<K>, K> VfUnit<D, K> {
             else None) }
         ensures size { size_of self.new.function ≡ size_of self.old.function }
         ensures listed { self.new.accesses ≡ self.old.accesses
-            ++ service_accesses limit (met_function self.old self.new) queue }
+            ++ service_accesses limit rule (met_function self.old self.new) queue }
         ensures met { IsMet D.shared self.old.function self.old.accesses self.new.accesses }
     {
         if self.is_open {

@@ -18,6 +18,8 @@ returns-clause-state g c =
       other_vector = was.other_vector;
       frames_received = was.frames_received;
       frames_sent = was.frames_sent;
+      offloads = was.offloads;
+      shortfalls = was.shortfalls;
     } in
     subst (λ (s : TracedState). now ≡ told s.accesses c.load.new.self.accesses s.state) c.self.view_is (λ i. record {
       memory = read.met_is i;
@@ -30,4 +32,6 @@ returns-clause-state g c =
       other_vector = was.other_vector;
       frames_received = was.frames_received;
       frames_sent = was.frames_sent;
+      offloads = was.offloads;
+      shortfalls = was.shortfalls;
     })

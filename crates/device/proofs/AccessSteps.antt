@@ -81,13 +81,13 @@ serve_made p w q queue = at (eqb_tells q p)
   where
     at : ((eqb q p ≡ true) × (q ≡ p)) ⊎ ((eqb q p ≡ false) × (q ≢ p)) → accesses_by w (Serve q queue) p ≡ made (lone_of p w) (kept p w (Serve q queue))
     at (inl same) =
-        ap (λ (b : Bool). (if b then serve_accesses w.limit (own w.settings p) (function_of p w) queue else []) ++ sent_accesses w q (sent_by w (Serve q queue)) p) (flip p q ∙ same.0)
-        ∙ ap (λ (k : ℕ). serve_accesses w.limit (own w.settings p) (function_of p w) queue ++ sent_accesses w k (sent_by w (Serve q queue)) p) same.1
-        ∙ ap (λ (t : List Access). serve_accesses w.limit (own w.settings p) (function_of p w) queue ++ t) (sender_made w p (sent_by w (Serve q queue)))
-        ∙ append-nil (serve_accesses w.limit (own w.settings p) (function_of p w) queue)
+        ap (λ (b : Bool). (if b then serve_accesses w.profile.limit (own w.settings p) (function_of p w) queue else []) ++ sent_accesses w q (sent_by w (Serve q queue)) p) (flip p q ∙ same.0)
+        ∙ ap (λ (k : ℕ). serve_accesses w.profile.limit (own w.settings p) (function_of p w) queue ++ sent_accesses w k (sent_by w (Serve q queue)) p) same.1
+        ∙ ap (λ (t : List Access). serve_accesses w.profile.limit (own w.settings p) (function_of p w) queue ++ t) (sender_made w p (sent_by w (Serve q queue)))
+        ∙ append-nil (serve_accesses w.profile.limit (own w.settings p) (function_of p w) queue)
         ∙ ap (λ (b : Bool). made (lone_of p w) (if b then Some (OwnEvent (Serve q queue)) else kept_sent w q p (sent_by w (Serve q queue)))) (sym same.0)
     at (inr other) =
-        ap (λ (b : Bool). (if b then serve_accesses w.limit (own w.settings p) (function_of p w) queue else []) ++ sent_accesses w q (sent_by w (Serve q queue)) p) (flip p q ∙ other.0)
+        ap (λ (b : Bool). (if b then serve_accesses w.profile.limit (own w.settings p) (function_of p w) queue else []) ++ sent_accesses w q (sent_by w (Serve q queue)) p) (flip p q ∙ other.0)
         ∙ others_made w p q (sent_by w (Serve q queue))
         ∙ ap (λ (b : Bool). made (lone_of p w) (if b then Some (OwnEvent (Serve q queue)) else kept_sent w q p (sent_by w (Serve q queue)))) (sym other.0)
 
@@ -101,7 +101,7 @@ settings_made s o n = by (same_settings o n)
     by false = refl
 
 wire_made : (p : ℕ) (w : World) (frame : List ℕ) → accesses_by w (Wire frame) p ≡ made (lone_of p w) (kept p w (Wire frame))
-wire_made p w frame = by (nat_lt w.limit (length frame))
+wire_made p w frame = by (nat_lt w.profile.limit (length frame))
   where
     by : (long : Bool) → (if long then [] else arrived_accesses w.settings w.functions FromWire frame p) ≡ made (lone_of p w) (if long then None else kept_frame w FromWire p frame)
     by true = refl

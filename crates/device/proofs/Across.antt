@@ -6,7 +6,7 @@ use Rattle.std.specs.List.{cons_option}
 use Rattle.std.specs.Option.{option_map}
 use Rattle.wire_frame.specs.declared.fault.Fault.{Fault}
 use Rattle.vf_unit.specs.Unit.{Function, Closed, Open, size_of}
-use Rattle.vf_unit.specs.Function.{initial}
+use Rattle.vf_unit.specs.Function.{initial_with}
 use Rattle.vf_unit.specs.Guests.{moved_to}
 use Rattle.pool_filter.specs.Own.{own}
 use Rattle.device.specs.Events.{Event}
@@ -24,7 +24,7 @@ use Rattle.device.specs.Across.{Step, Happens, Comes, Goes, Replaces, came, repl
 -- ---- as many functions after a step
 
 came_count : (w : World) (q : ℕ) (memory : List ℕ) (r : Option Fault) → length (came w q memory r).functions ≡ length w.functions
-came_count w q memory None = length-set w.functions q (Open (initial memory))
+came_count w q memory None = length-set w.functions q (Open (initial_with w.profile.offloads memory))
 came_count w q memory (Some fault) = refl
 
 went_count : (w : World) (q : ℕ) (vacant : Bool) → is_vacant w q ≡ vacant → length (detached w q).functions ≡ length w.functions
@@ -53,21 +53,21 @@ event_on s seen after None h = (ap (option_map Saw) h.0, h.1)
 event_on s seen after (Some k) h = (ap (option_map Saw) h.0, h.1)
 
 -- the function that is there, or another one
-lone_set : (p : ℕ) (w : World) (f : Function) → p < length w.functions → lone_of p (with_function w p f) ≡ record { limit = w.limit; function = f; settings = own w.settings p }
-lone_set p w f below = λ i. record { limit = w.limit; function = get_or-set_same w.functions p f (Closed 0) below i; settings = own w.settings p }
+lone_set : (p : ℕ) (w : World) (f : Function) → p < length w.functions → lone_of p (with_function w p f) ≡ record { profile = w.profile; function = f; settings = own w.settings p }
+lone_set p w f below = λ i. record { profile = w.profile; function = get_or-set_same w.functions p f (Closed 0) below i; settings = own w.settings p }
 
 lone_kept : (p q : ℕ) (w : World) (f : Function) → (p ≡ q → ⊥) → lone_of p (with_function w q f) ≡ lone_of p w
-lone_kept p q w f differ = λ i. record { limit = w.limit; function = get_or-set_other w.functions q p f (Closed 0) differ i; settings = own w.settings p }
+lone_kept p q w f differ = λ i. record { profile = w.profile; function = get_or-set_other w.functions q p f (Closed 0) differ i; settings = own w.settings p }
 
 there : (p n : ℕ) → p < n → nat_le n p ≡ false
 there p n below = lt-leb n p below
 
 came_mine : (p : ℕ) (w : World) (memory : List ℕ) (r : Option Fault) → p < length w.functions → lone_of p (came w p memory r) ≡ came_alone (lone_of p w) memory r
-came_mine p w memory None below = lone_set p w (Open (initial memory)) below
+came_mine p w memory None below = lone_set p w (Open (initial_with w.profile.offloads memory)) below
 came_mine p w memory (Some fault) below = refl
 
 came_other : (p q : ℕ) (w : World) (memory : List ℕ) (r : Option Fault) → (p ≡ q → ⊥) → lone_of p (came w q memory r) ≡ lone_of p w
-came_other p q w memory None differ = lone_kept p q w (Open (initial memory)) differ
+came_other p q w memory None differ = lone_kept p q w (Open (initial_with w.profile.offloads memory)) differ
 came_other p q w memory (Some fault) differ = refl
 
 comes_mine : (p : ℕ) (w : World) (memory : List ℕ) → p < length w.functions

@@ -19,10 +19,10 @@ use Rattle.device.proofs.Shape.{SameShape, step_shape}
 -- ---- worlds that are alike but for the group
 
 pub alike_itself : (group : ℕ → Bool) (w : World) → AlikeOutside group w w
-alike_itself group w = record { limit = refl; settings = refl; count = refl; functions = λ r below there. refl }
+alike_itself group w = record { profile = refl; settings = refl; count = refl; functions = λ r below there. refl }
 
 pub alike_lone : (group : ℕ → Bool) (w v : World) → AlikeOutside group w v → (r : ℕ) → r < length w.functions → group r ≡ false → lone_of r w ≡ lone_of r v
-alike_lone group w v a r below there = λ i. record { limit = a.limit i; function = a.functions r below there i; settings = own (a.settings i) r }
+alike_lone group w v a r below there = λ i. record { profile = a.profile i; function = a.functions r below there i; settings = own (a.settings i) r }
 
 follow_none : (s : Lone) (seen : Option Observation) (after : Lone) (k : Option Item) → k ≡ None → Follows s seen after k → after ≡ s
 follow_none s seen after k none h = (subst (Follows s seen after) none h).1
@@ -37,7 +37,7 @@ pub alike_groups : (group : ℕ → Bool) (w v : World) (e : Event) → length w
 alike_groups group w v e few a is none =
     let shape : SameShape w (step w e).world = step_shape w e in
     record {
-      limit = shape.limit ∙ a.limit;
+      profile = shape.profile ∙ a.profile;
       settings = settings_stepped w e ∙ groups_leave_settings group w.settings e is ∙ a.settings;
       count = shape.functions ∙ a.count;
       functions = λ r below there.
@@ -51,7 +51,7 @@ alike_groups group w v e few a is none =
 sent_alike : (group : ℕ → Bool) (w v : World) (q : ℕ) (k : Queue) (inside : Bool) → AlikeOutside group w v → group q ≡ false → ltb q (length w.functions) ≡ inside → sent_by w (Serve q k) ≡ sent_by v (Serve q k)
 sent_alike group w v q k true a there is =
     let f : function_of q w ≡ function_of q v = a.functions q (ltb-true q (length w.functions) is) there in
-    rw (is, sym (ap (ltb q) a.count) ∙ is) (λ i. (serve (a.limit i) (own (a.settings i) q) (f i) k).sent)
+    rw (is, sym (ap (ltb q) a.count) ∙ is) (λ i. (serve (a.profile i).limit (own (a.settings i) q) (f i) k).sent)
 sent_alike group w v q k false a there is = rw (is, sym (ap (ltb q) a.count) ∙ is) refl
 
 kept_sent_alike : (w v : World) (q p : ℕ) (o : Option (List ℕ)) → w.settings ≡ v.settings → kept_sent w q p o ≡ kept_sent v q p o
@@ -76,14 +76,14 @@ kept_alike group w v (PfWrite offset x) p a is =
     λ i. changed_settings (own (a.settings i) p) (own (after i) p)
 kept_alike group w v PfReset p a is = refl
 kept_alike group w v (Wire frame) p a is =
-    λ i. if ltb (a.limit i) (length frame) then None else (if is_for_pool (a.settings i) FromWire frame p then Some (Offer frame false) else None)
+    λ i. if ltb (a.profile i).limit (length frame) then None else (if is_for_pool (a.settings i) FromWire frame p then Some (Offer frame false) else None)
 
 pub alike_others : (group : ℕ → Bool) (w v : World) (e : Event) → length w.functions ≤ 64 → AlikeOutside group w v → is_groups group e ≡ false → AlikeOutside group (step w e).world (step v e).world
 alike_others group w v e few a is =
     let shape : SameShape w (step w e).world = step_shape w e in
     let shape' : SameShape v (step v e).world = step_shape v e in
     record {
-      limit = shape.limit ∙ a.limit ∙ sym shape'.limit;
+      profile = shape.profile ∙ a.profile ∙ sym shape'.profile;
       settings = settings_stepped w e ∙ ap (λ s. settings_then s e) a.settings ∙ sym (settings_stepped v e);
       count = shape.functions ∙ a.count ∙ sym shape'.functions;
       functions = λ r below there.

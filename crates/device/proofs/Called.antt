@@ -12,6 +12,7 @@ use Rattle.pool_filter.specs.Settings.{Settings, initial_settings}
 use Rattle.pool_filter.specs.Own.{own}
 use Rattle.vf_unit.specs.declared.registers.Queue.{Queue}
 use Rattle.vf_unit.specs.Unit.{Function, TracedFunction, Closed, IsMet, size_of, ended, met_function, told_of}
+use Rattle.device.specs.declared.profile.Profile.{Profile}
 use Rattle.device.specs.Events.{Event}
 use Rattle.device.specs.declared.event.Event.TheVariants.{Flr}
 use Rattle.device.specs.Units.{closed}
@@ -31,13 +32,13 @@ use Rattle.device.proofs.Views.{functions_of, traces_of, IsHere, function_here, 
 
 -- what a device is beside its functions
 pub record Base : Type 0 where
-  pub limit : ℕ
+  pub profile : Profile
   pub settings : Settings
   pub resets : ℕ
   pub wire : List (List ℕ)
 
 abbrev pub world_with : Base → List TracedFunction → World
-world_with b us = record { limit = b.limit; settings = b.settings; resets = b.resets; functions = functions_of us; wire = b.wire }
+world_with b us = record { profile = b.profile; settings = b.settings; resets = b.resets; functions = functions_of us; wire = b.wire }
 
 abbrev pub device_with : Base → List TracedFunction → TracedWorld
 device_with b us = record { world = world_with b us; accesses = traces_of us }
@@ -51,7 +52,7 @@ pub own_world : (b : Base) (us : List TracedFunction) (t : TracedWorld) (i p : �
     → world_with b (set us i new) ≡ (own_step t.world p e).world
 own_world b us t i p here new e view h is =
     subst (λ (d : TracedWorld). world_with b (set us i new) ≡ (own_step d.world p e).world) view
-    (ap (λ (fs : List Function). record { limit = b.limit; settings = b.settings; resets = b.resets; functions = fs; wire = b.wire })
+    (ap (λ (fs : List Function). record { profile = b.profile; settings = b.settings; resets = b.resets; functions = fs; wire = b.wire })
     (functions_now us i p here new h ∙ ap (set (functions_of us) p) (is ∙ ap (λ (f : Function). (act f e).function) (sym (function_here us i p here h))))
     ∙ sym (ap (λ (s : Stepped). s.world) (own_there (world_with b us) p e (there us i p here h))))
 
@@ -146,7 +147,7 @@ own_told b us t i p here new e view h =
     ∙ ap (λ (f : Function). acted (world_with b us) p (act (told_of here.accesses new.accesses f) e)) (function_here us i p here h))
 
 after_is : (b : Base) (us : List TracedFunction) (i p : ℕ) (here new : TracedFunction) → IsHere us i p here → with_function (world_with b us) p new.function ≡ world_with b (set us i new)
-after_is b us i p here new h = ap (λ (fs : List Function). record { limit = b.limit; settings = b.settings; resets = b.resets; functions = fs; wire = b.wire }) (sym (functions_now us i p here new h))
+after_is b us i p here new h = ap (λ (fs : List Function). record { profile = b.profile; settings = b.settings; resets = b.resets; functions = fs; wire = b.wire }) (sym (functions_now us i p here new h))
 
 pub read_world : (b : Base) (us : List TracedFunction) (t : TracedWorld) (i p : ℕ) (here new : TracedFunction) (e : Event) → device_with b us ≡ t → IsHere us i p here → new.function ≡ (act (met_function here new) e).function
     → world_with b (set us i new) ≡ (own_step (told_world t.accesses (traces_of (set us i new)) t.world) p e).world
@@ -167,9 +168,9 @@ read_holds b us i p here new cells o h mine held = subst (λ (w : World). HoldsI
 -- ---- a service of its queue
 
 pub serve_told : (b : Base) (us : List TracedFunction) (t : TracedWorld) (i p : ℕ) (q : Queue) (here new : TracedFunction) → device_with b us ≡ t → IsHere us i p here
-    → serve b.limit (own b.settings p) (met_function here new) q ≡ told_service t.accesses (traces_of (set us i new)) t.world p q
+    → serve b.profile.limit (own b.settings p) (met_function here new) q ≡ told_service t.accesses (traces_of (set us i new)) t.world p q
 serve_told b us t i p q here new view h =
-    subst (λ (d : TracedWorld). serve b.limit (own b.settings p) (met_function here new) q ≡ told_service d.accesses (traces_of (set us i new)) d.world p q) view
+    subst (λ (d : TracedWorld). serve b.profile.limit (own b.settings p) (met_function here new) q ≡ told_service d.accesses (traces_of (set us i new)) d.world p q) view
     (told_service_by (traces_of us) (traces_of (set us i new)) (world_with b us) p q here.accesses new.accesses b.settings here.function (noted us i p here h) (trace_here us i p here h) (traces_now us i p here new h) refl (sym (function_here us i p here h)))
 
 pub served_world : (b : Base) (us : List TracedFunction) (t : TracedWorld) (i p : ℕ) (here new : TracedFunction) (f : Function) → device_with b us ≡ t → IsHere us i p here → new.function ≡ f → world_with b (set us i new) ≡ with_function t.world p f
@@ -196,9 +197,9 @@ is_done_of (Err fault) ok is = is
 
 pub reset_done : (b : Base) (us : List TracedFunction) (t : TracedWorld) (i p resets : ℕ) (here new : TracedFunction) (reply : Reply) → device_with b us ≡ t → IsHere us i p here → new.function ≡ (act here.function (Flr p)).function
     → (act here.function (Flr p)).reply ≡ reply → (act here.function (Flr p)).messages ≡ 0 → is_done reply ≡ true → resets ≡ with_bit b.resets p
-    → record { limit = b.limit; settings = b.settings; resets = resets; functions = functions_of (set us i new); wire = b.wire } ≡ (flagged p (own_step t.world p (Flr p))).world
+    → record { profile = b.profile; settings = b.settings; resets = resets; functions = functions_of (set us i new); wire = b.wire } ≡ (flagged p (own_step t.world p (Flr p))).world
 reset_done b us t i p resets here new reply view h is reply_is silent done flag =
-    ap (λ (n : ℕ). record { limit = b.limit; settings = b.settings; resets = n; functions = functions_of (set us i new); wire = b.wire }) flag
+    ap (λ (n : ℕ). record { profile = b.profile; settings = b.settings; resets = n; functions = functions_of (set us i new); wire = b.wire }) flag
     ∙ ap (λ (w : World). record w { resets = with_bit w.resets p }) (own_world b us t i p here new (Flr p) view h is)
     ∙ sym (flagged_done p (own_step t.world p (Flr p)) (sym (ap (λ (a : Answer). is_done a.reply) (own_answer b us t i p here (Flr p) reply 0 view h reply_is silent)) ∙ done))
 
@@ -223,9 +224,9 @@ traces_closed [] = refl
 traces_closed (u ∷ us) = ap (λ (ts : List (List Access)). u.accesses ∷ ts) (traces_closed us)
 
 pub all_closed : (b : Base) (us vs : List TracedFunction) (t : TracedWorld) (settings : Settings) → device_with b us ≡ t → vs ≡ map closed us → settings ≡ initial_settings
-    → record { limit = b.limit; settings = settings; resets = 0; functions = functions_of vs; wire = b.wire } ≡ all_reset t.world
+    → record { profile = b.profile; settings = settings; resets = 0; functions = functions_of vs; wire = b.wire } ≡ all_reset t.world
 all_closed b us vs t settings view is initial =
-    (λ i. record { limit = b.limit; settings = initial i; resets = 0; functions = (ap functions_of is ∙ functions_closed us) i; wire = b.wire }) ∙ ap (λ (d : TracedWorld). all_reset d.world) view
+    (λ i. record { profile = b.profile; settings = initial i; resets = 0; functions = (ap functions_of is ∙ functions_closed us) i; wire = b.wire }) ∙ ap (λ (d : TracedWorld). all_reset d.world) view
 
 pub closed_kept : (b : Base) (us vs : List TracedFunction) (t : TracedWorld) → device_with b us ≡ t → vs ≡ map closed us → traces_of vs ≡ t.accesses
 closed_kept b us vs t view is = ap traces_of is ∙ traces_closed us ∙ ap (λ (d : TracedWorld). d.accesses) view

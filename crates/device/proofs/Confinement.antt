@@ -7,7 +7,7 @@ use Rattle.wire_frame.specs.declared.vlan.PortVlan.{PortVlan}
 use Rattle.wire_frame.specs.declared.vlan.PortVlan.TheVariants.{Descriptor, Always, Never}
 use Rattle.tx_desc.specs.declared.outcome.Fetched.{Fetched}
 use Rattle.tx_desc.specs.declared.outcome.Fetched.TheVariants.{Idle, More, Frame, Dropped, Faulted}
-use Rattle.tx_desc.proofs.PortTags.{bears_port_tag as fetched_bears_port_tag}
+use Rattle.tx_desc.proofs.PortTagsWith.{bears_port_tag_with as fetched_bears_port_tag}
 use Rattle.irq_causes.specs.Causes.{Change}
 use Rattle.vf_unit.specs.declared.registers.Queue.{Queue}
 use Rattle.vf_unit.specs.Function.{transmit_of}
@@ -33,7 +33,7 @@ service_bears limit Descriptor f k frame is = refl
 service_bears limit Never f k frame is = refl
 service_bears limit (Always tag) (Closed size) k frame is = absurd (true≢false (sym (ap is_some is)))
 service_bears limit (Always tag) (Opened s) k frame is =
-    fetched_bears_port_tag limit tag s.memory (transmit_of s k).ring (transmit_of s k).pending frame (ap (λ o. unwrap_or o Idle) is)
+    fetched_bears_port_tag limit tag s.offloads s.memory (transmit_of s k).ring (transmit_of s k).sending frame (ap (λ o. unwrap_or o Idle) is)
 
 frame_unkept : (w : World) (q r : ℕ) (o : OwnSettings) (c : Change Function) (frame : List ℕ) (b : Bool) → permitted o frame ≡ b
     → (permitted o frame ≡ true → is_for_pool w.settings (Pool q) frame r ≡ false)
@@ -77,7 +77,7 @@ sent_unkept : (group : ℕ → Bool) (w : World) (q r : ℕ) (k : Queue) (inside
 sent_unkept group w q r k true few small is here there apart =
     let below : q < length w.functions = ltb-true q (length w.functions) is in
     let small' : q < 64 = omega arith in
-    rw is (serve_unkept w q r w.limit (own w.settings q) (function_of q w) k (λ frame may. apart q r frame small' small here there may))
+    rw is (serve_unkept w q r w.profile.limit (own w.settings q) (function_of q w) k (λ frame may. apart q r frame small' small here there may))
 sent_unkept group w q r k false few small is here there apart = rw is refl
 
 -- ---- any event of the group's own

@@ -31,7 +31,7 @@ told_alike before now other_before other_now (Open s) same = ap (λ (ws : List W
 pub alike_told : (group : ℕ → Bool) (before now other_before other_now : List (List Access)) (w v : World) → length w.functions ≤ 64 → AnsweredAlike group before now other_before other_now → AlikeOutside group w v
     → AlikeOutside group (told_world before now w) (told_world other_before other_now v)
 alike_told group before now other_before other_now w v few same a = record {
-  limit = a.limit;
+  profile = a.profile;
   settings = a.settings;
   count = length_told before now w.functions ∙ a.count ∙ sym (length_told other_before other_now v.functions);
   functions = λ r below there.

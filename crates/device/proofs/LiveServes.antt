@@ -7,7 +7,7 @@ use Rattle.irq_causes.specs.Messages.{no_messages}
 use Rattle.live_memory.specs.Trace.{Access}
 use Rattle.vf_unit.specs.declared.registers.Queue.{Queue}
 use Rattle.vf_unit.specs.Unit.{Function, Closed, IsMet, told_of, given_accesses, service_accesses}
-use Rattle.pool_filter.specs.Own.{OwnSettings, own}
+use Rattle.pool_filter.specs.Own.{OwnSettings, own, port_vlan_of}
 use Rattle.local_switch.specs.declared.ways.Source.TheVariants.{Wire as FromWire, Pool}
 use Rattle.local_switch.specs.Switch.{leaves, receives, takes_from_pool}
 use Rattle.pool_filter.specs.Settings.{Settings}
@@ -114,7 +114,7 @@ sent_live shared first mid last w sender after p q frame taken raised vectors be
         ∙ ap (λ (s : Service). set (told_functions first last w.functions) p s.function) (sym later)
 
     in_turn : told_world mid last sender ≡ with_function (told_world first last w) p (told_service first last w p q).function
-    in_turn = λ i. record { limit = (world i).limit; settings = (world i).settings; resets = (world i).resets; functions = functions i; wire = (world i).wire }
+    in_turn = λ i. record { profile = (world i).profile; settings = (world i).settings; resets = (world i).resets; functions = functions i; wire = (world i).wire }
 
     told_raised : taken.messages ≡ slice_set (all_raised w.settings (set (told_functions first last w.functions) p (told_service first last w p q).function) (Pool p) frame) p (told_service first last w p q).messages
     told_raised = messages ∙ (λ i. slice_set (raised_is i) p ((vectors_are ∙ ap (λ (s : Service). s.messages) (sym later)) i)) ∙ (λ i. slice_set (all_raised (world i).settings (functions i) (Pool p) frame) p (told_service first last w p q).messages)
@@ -157,7 +157,7 @@ sent_listed first mid last w sender p q frame below own_listed all world sent = 
 
     at_sender : trace_of last p ≡ trace_of first p ++ accesses_by (told_world first last w) (Serve p q) p
     at_sender =
-        same ∙ own_listed p ∙ ap (λ (f : Function). trace_of first p ++ (if eqb p p then serve_accesses w.limit (own w.settings p) f q else [])) met_later
+        same ∙ own_listed p ∙ ap (λ (f : Function). trace_of first p ++ (if eqb p p then serve_accesses w.profile.limit (own w.settings p) f q else [])) met_later
         ∙ ap (λ (t : List Access). trace_of first p ++ t) (sym (by_sent p
         ∙ ap (λ (b : Bool). own_service_accesses (told_world first last w) p q p ++ (if b then given_accesses true frame (function_of p (told_world first last w)) else [])) (not_for_sender w.settings p frame)
         ∙ append-nil (own_service_accesses (told_world first last w) p q p)))
@@ -169,7 +169,7 @@ sent_listed first mid last w sender p q frame below own_listed all world sent = 
     elsewhere r other =
         all r ∙ (λ i. others_kept first mid (told_world first mid w) p q own_listed r other i
         ++ (if receives (world i).settings (Pool p) frame r then given_accesses true frame ((ap (λ (fs : List Function). get_or fs r (Closed 0)) functions ∙ get_or-set_other (told_functions first last w.functions) p r (told_service first mid w p q).function (Closed 0) other) i) else []))
-        ∙ ap (λ (t : List Access). trace_of first r ++ (t ++ arrived_accesses w.settings (told_functions first last w.functions) (Pool p) frame r)) (sym (only_here p r (serve_accesses w.limit (own w.settings r) (function_of r (told_world first last w)) q) other))
+        ∙ ap (λ (t : List Access). trace_of first r ++ (t ++ arrived_accesses w.settings (told_functions first last w.functions) (Pool p) frame r)) (sym (only_here p r (serve_accesses w.profile.limit (own w.settings r) (function_of r (told_world first last w)) q) other))
         ∙ ap (λ (t : List Access). trace_of first r ++ t) (sym (by_sent r))
 
     at : (r : ℕ) → ((eqb r p ≡ true) × (r ≡ p)) ⊎ ((eqb r p ≡ false) × (r ≢ p)) → trace_of last r ≡ trace_of first r ++ accesses_by (told_world first last w) (Serve p q) r
@@ -181,7 +181,7 @@ sent_listed first mid last w sender p q frame below own_listed all world sent = 
 -- a function that isn't there is not served
 pub absent_served : (t : TracedWorld) (p : ℕ) (q : Queue) → length t.world.functions ≤ p → AreListed (accesses_by (told_world t.accesses t.accesses t.world) (Serve p q)) t.accesses t.accesses
 absent_served t p q past = λ r.
-    absent_listed t p (λ r f. serve_accesses t.world.limit (own t.world.settings r) f q) past (silent_service t.world.limit (own t.world.settings p) q) r
+    absent_listed t p (λ r f. serve_accesses t.world.profile.limit (own t.world.settings r) f q) past (silent_service t.world.profile.limit (own t.world.settings p) q) r
     ∙ sym (ap (λ (s : List Access). trace_of t.accesses r ++ s)
     (ap (λ (b : Bool). own_service_accesses (told_world t.accesses t.accesses t.world) p q r ++ sent_accesses (told_world t.accesses t.accesses t.world) p (if b then (service (told_world t.accesses t.accesses t.world) p q).sent else None) r)
     (ap (nat_lt p) (length_told t.accesses t.accesses t.world.functions) ∙ gone) ∙ append-nil (own_service_accesses (told_world t.accesses t.accesses t.world) p q r)))
@@ -192,17 +192,17 @@ absent_served t p q past = λ r.
     silent_service : (limit : ℕ) (o : OwnSettings) (q : Queue) → serve_accesses limit o (Closed 0) q ≡ []
     silent_service limit o q = may o.may_transmit
       where
-        may : (b : Bool) → (if b then service_accesses limit (Closed 0) q else []) ≡ []
+        may : (b : Bool) → (if b then service_accesses limit (port_vlan_of o.port_vlan) (Closed 0) q else []) ≡ []
         may true = refl
         may false = refl
 
 -- a frame that is too long comes to nobody
-pub refused_listed : (t : TracedWorld) (frame : List ℕ) → t.world.limit < length frame → AreListed (accesses_by (told_world t.accesses t.accesses t.world) (Wire frame)) t.accesses t.accesses
-refused_listed t frame long = let is : nat_lt t.world.limit (length frame) ≡ true = grind (arith, long) in λ r. rw is (sym (append-nil (trace_of t.accesses r)))
+pub refused_listed : (t : TracedWorld) (frame : List ℕ) → t.world.profile.limit < length frame → AreListed (accesses_by (told_world t.accesses t.accesses t.world) (Wire frame)) t.accesses t.accesses
+refused_listed t frame long = let is : nat_lt t.world.profile.limit (length frame) ≡ true = grind (arith, long) in λ r. rw is (sym (append-nil (trace_of t.accesses r)))
 
 -- and one that isn't comes to those that receive it
-pub taken_listed : (before now : List (List Access)) (w : World) (frame : List ℕ) → length frame ≤ w.limit → AreListed (arrived_accesses w.settings (told_functions before now w.functions) FromWire frame) before now → AreListed (accesses_by (told_world before now w) (Wire frame)) before now
-taken_listed before now w frame short all = let is : nat_lt w.limit (length frame) ≡ false = grind (arith, short) in λ r. rw is (all r)
+pub taken_listed : (before now : List (List Access)) (w : World) (frame : List ℕ) → length frame ≤ w.profile.limit → AreListed (arrived_accesses w.settings (told_functions before now w.functions) FromWire frame) before now → AreListed (accesses_by (told_world before now w) (Wire frame)) before now
+taken_listed before now w frame short all = let is : nat_lt w.profile.limit (length frame) ≡ false = grind (arith, short) in λ r. rw is (all r)
 
 -- the function isn't there
 pub absent_service : (w : World) (p : ℕ) (q : Queue) (taken : Response) → length w.functions ≤ p → answer_in w taken ≡ silently (Refused 1) → option_copied taken.sent ≡ None → option_copied taken.left ≡ None → Takes w (Serve p q) w taken
@@ -216,5 +216,5 @@ absent_service w p q taken past answer none_sent none_left =
     }
 
 -- the frame is longer than the device takes
-pub refused_frame : (w : World) (frame : List ℕ) → w.limit < length frame → (step w (Wire frame)).world ≡ w
-refused_frame w frame long = let is : nat_lt w.limit (length frame) ≡ true = grind (arith, long) in rw is refl
+pub refused_frame : (w : World) (frame : List ℕ) → w.profile.limit < length frame → (step w (Wire frame)).world ≡ w
+refused_frame w frame long = let is : nat_lt w.profile.limit (length frame) ≡ true = grind (arith, long) in rw is refl

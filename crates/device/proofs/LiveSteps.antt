@@ -81,14 +81,14 @@ own_step_told before now w p e trace mine below begun became =
 -- ---- a service
 
 pub service_told : (before now : List (List Access)) (w : World) (p : ℕ) (q : Queue) → service (told_world before now w) p q ≡ told_service before now w p q
-service_told before now w p q = ap (λ (f : Function). serve w.limit (own w.settings p) f q) (get_told before now w.functions p)
+service_told before now w p q = ap (λ (f : Function). serve w.profile.limit (own w.settings p) f q) (get_told before now w.functions p)
 
-pub told_service_is : (before now : List (List Access)) (w : World) (p : ℕ) (q : Queue) (trace mine : List Access) → p < length before → trace ≡ trace_of before p → now ≡ set before p mine → told_service before now w p q ≡ serve w.limit (own w.settings p) (told_of trace mine (function_of p w)) q
-told_service_is before now w p q trace mine below begun became = ap (λ (f : Function). serve w.limit (own w.settings p) f q) (told_is before now w.functions p trace mine below begun became)
+pub told_service_is : (before now : List (List Access)) (w : World) (p : ℕ) (q : Queue) (trace mine : List Access) → p < length before → trace ≡ trace_of before p → now ≡ set before p mine → told_service before now w p q ≡ serve w.profile.limit (own w.settings p) (told_of trace mine (function_of p w)) q
+told_service_is before now w p q trace mine below begun became = ap (λ (f : Function). serve w.profile.limit (own w.settings p) f q) (told_is before now w.functions p trace mine below begun became)
 
 -- the sender's memory was read first, and then those of others
 pub told_service_later : (first mid last : List (List Access)) (w : World) (p : ℕ) (q : Queue) → trace_of last p ≡ trace_of mid p → told_service first last w p q ≡ told_service first mid w p q
-told_service_later first mid last w p q same = ap (λ (t : List Access). serve w.limit (own w.settings p) (told_of (trace_of first p) t (function_of p w)) q) same
+told_service_later first mid last w p q same = ap (λ (t : List Access). serve w.profile.limit (own w.settings p) (told_of (trace_of first p) t (function_of p w)) q) same
 
 pub told_in_turn : (first mid last : List (List Access)) (fs : List Function) (p : ℕ) (f : Function) → trace_of last p ≡ trace_of mid p → ((r : ℕ) → r ≢ p → trace_of mid r ≡ trace_of first r) → told_functions mid last (set fs p f) ≡ set (told_functions first last fs) p f
 told_in_turn first mid last fs p f same others =
@@ -117,6 +117,6 @@ pub unit_is : (fs : List Function) (i p : ℕ) (f : Function) → f ≡ get_or f
 unit_is fs i p f here place below = here ∙ ap (λ (k : ℕ). get_or fs k f) place ∙ get_or_default fs p f (Closed 0) below
 
 pub told_service_by : (before now : List (List Access)) (w : World) (p : ℕ) (q : Queue) (trace mine : List Access) (settings : Settings) (f : Function) → p < length before → trace ≡ trace_of before p → now ≡ set before p mine → settings ≡ w.settings → f ≡ function_of p w
-    → serve w.limit (own settings p) (told_of trace mine f) q ≡ told_service before now w p q
+    → serve w.profile.limit (own settings p) (told_of trace mine f) q ≡ told_service before now w p q
 told_service_by before now w p q trace mine settings f below begun became same unit =
-    (λ i. serve w.limit (own (same i) p) (told_of trace mine (unit i)) q) ∙ sym (told_service_is before now w p q trace mine below begun became)
+    (λ i. serve w.profile.limit (own (same i) p) (told_of trace mine (unit i)) q) ∙ sym (told_service_is before now w p q trace mine below begun became)

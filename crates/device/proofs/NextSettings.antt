@@ -34,7 +34,7 @@ pf_write_settings : (w : World) (offset x : ℕ) (bad : Bool) → is_bad_offset 
 pf_write_settings w offset x true is = rw is refl
 pf_write_settings w offset x false is = rw is refl
 
-wire_settings : (w : World) (frame : List ℕ) (long : Bool) → ltb w.limit (length frame) ≡ long → (step w (Wire frame)).world.settings ≡ w.settings
+wire_settings : (w : World) (frame : List ℕ) (long : Bool) → ltb w.profile.limit (length frame) ≡ long → (step w (Wire frame)).world.settings ≡ w.settings
 wire_settings w frame true is = rw is refl
 wire_settings w frame false is = rw is refl
 

@@ -90,7 +90,7 @@ IsKept w s = (s.world ≡ w) × (s.answer.raised ≡ no_messages)
 put_back : (w : World) (p : ℕ) (f : Function) → f ≡ function_of p w → with_function w p f ≡ w
 put_back w p f same =
     let functions : slice_set w.functions p f ≡ w.functions = ap (slice_set w.functions p) same ∙ set-get_or w.functions p (Closed 0) in
-    λ i. record { limit = w.limit; settings = w.settings; resets = w.resets; functions = functions i; wire = w.wire }
+    λ i. record { profile = w.profile; settings = w.settings; resets = w.resets; functions = functions i; wire = w.wire }
 
 raised_none : (p messages : ℕ) → messages ≡ 0 → slice_set no_messages p messages ≡ no_messages
 raised_none p messages none = ap (slice_set no_messages p) none ∙ raised_nothing p
@@ -127,7 +127,7 @@ served_keeps w p s h = subst (λ sent. IsKept w (served w p s sent)) (sym h.sent
 
 serve_step_keeps : (w : World) (p : ℕ) (q : Queue) (inside : Bool) → ltb p (length w.functions) ≡ inside → is_refused (step w (Serve p q)).answer.reply ≡ true → IsKept w (step w (Serve p q))
 serve_step_keeps w p q true here = rw here (λ is.
-    served_keeps w p (service w p q) (serve_keeps w.limit (own w.settings p) (function_of p w) q (ap is_refused (sym (served_reply w p (service w p q) (service w p q).sent)) ∙ is)))
+    served_keeps w p (service w p q) (serve_keeps w.profile.limit (own w.settings p) (function_of p w) q (ap is_refused (sym (served_reply w p (service w p q) (service w p q).sent)) ∙ is)))
 serve_step_keeps w p q false here = rw here (λ is. (refl, refl))
 
 pf_read_keeps : (w : World) (offset : ℕ) (bad : Bool) → is_bad_offset PF_SPACE offset ≡ bad → is_refused (step w (PfRead offset)).answer.reply ≡ true → IsKept w (step w (PfRead offset))
@@ -138,7 +138,7 @@ pf_write_keeps : (w : World) (offset x : ℕ) (bad : Bool) → is_bad_offset PF_
 pf_write_keeps w offset x true is = rw is (λ _. (refl, refl))
 pf_write_keeps w offset x false is = rw is (not_refused Done refl)
 
-wire_keeps : (w : World) (frame : List ℕ) (long : Bool) → ltb w.limit (length frame) ≡ long → is_refused (step w (Wire frame)).answer.reply ≡ true → IsKept w (step w (Wire frame))
+wire_keeps : (w : World) (frame : List ℕ) (long : Bool) → ltb w.profile.limit (length frame) ≡ long → is_refused (step w (Wire frame)).answer.reply ≡ true → IsKept w (step w (Wire frame))
 wire_keeps w frame true is = rw is (λ _. (refl, refl))
 wire_keeps w frame false is = rw is (not_refused Done refl)
 

@@ -103,12 +103,12 @@ step_unread w (MemRead p at count) not = absurd (not p at count refl)
 step_unread w (MemWrite p at bytes) not = own_unread w p (MemWrite p at bytes.bytes.now) refl
 step_unread w (Serve p q) not =
     either (nat_lt p (length w.functions)) (served w p (service w p q) (service w p q).sent) (refused w NoSuchVf)
-    (served_unread w p (service w p q) (service w p q).sent (serve_unread w.limit (own w.settings p) (function_of p w) q)) refl
+    (served_unread w p (service w p q) (service w p q).sent (serve_unread w.profile.limit (own w.settings p) (function_of p w) q)) refl
 step_unread w (Flr p) not = flagged_unread p (own_step w p (Flr p)) (own_unread w p (Flr p) refl)
 step_unread w (PfRead offset) not = either (is_bad_offset 0x20000 offset) _ _ refl refl
 step_unread w (PfWrite offset x) not = either (is_bad_offset 0x20000 offset) _ _ refl refl
 step_unread w PfReset not = refl
-step_unread w (Wire frame) not = either (nat_lt w.limit (length frame.now)) _ _ refl refl
+step_unread w (Wire frame) not = either (nat_lt w.profile.limit (length frame.now)) _ _ refl refl
 
 pub unread : (w w' : World) (r : Request) (t : Response) → ((p at count : ℕ) → r ≡ MemRead p at count → ⊥) → answer_in w' t ≡ (step w (event_of r)).answer → reads t.outcome ≡ false
 unread w w' r t not same = sym (is_bytes_of w' t.outcome) ∙ ap (λ (a : Answer). is_bytes a.reply) same ∙ step_unread w r not

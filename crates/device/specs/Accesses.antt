@@ -25,7 +25,7 @@ sent_accesses w sender (Some frame) r = arrived_accesses w.settings w.functions 
 
 -- those of a service of pool q's queue to its own memory
 abbrev pub own_service_accesses : World → ℕ → Queue → ℕ → List Access
-own_service_accesses w q queue p = if p == q then serve_accesses w.limit (own w.settings p) (function_of p w) queue else []
+own_service_accesses w q queue p = if p == q then serve_accesses w.profile.limit (own w.settings p) (function_of p w) queue else []
 
 -- ---- one event
 
@@ -36,7 +36,7 @@ accesses_by w (Open q) p = if p == q then act_accesses (function_of p w) (Open q
 accesses_by w (MemRead q at count) p = if p == q then act_accesses (function_of p w) (MemRead q at count) else []
 accesses_by w (MemWrite q at bytes) p = if p == q then act_accesses (function_of p w) (MemWrite q at bytes) else []
 accesses_by w (Serve q queue) p = own_service_accesses w q queue p ++ sent_accesses w q (sent_by w (Serve q queue)) p
-accesses_by w (Wire frame) p = if nat_lt w.limit (length frame) then [] else arrived_accesses w.settings w.functions FromWire frame p
+accesses_by w (Wire frame) p = if nat_lt w.profile.limit (length frame) then [] else arrived_accesses w.settings w.functions FromWire frame p
 accesses_by w _ p = []
 
 -- the same, where the bytes of a read are looked at elsewhere

@@ -5,7 +5,7 @@ use Rattle.std.specs.Option.{option_map}
 use Rattle.live_memory.specs.Trace.{Access}
 use Rattle.wire_frame.specs.declared.fault.Fault.{Fault}
 use Rattle.wire_frame.specs.declared.fault.Fault.TheVariants.{AlreadyOpen, BadMake}
-use Rattle.vf_unit.specs.Function.{initial}
+use Rattle.vf_unit.specs.Function.{initial_with}
 use Rattle.vf_unit.specs.Guests.{moved_to}
 use Rattle.vf_unit.specs.Unit.{Function, Closed, Open, size_of}
 use Rattle.device.specs.Accesses.{accesses_by}
@@ -97,7 +97,7 @@ lone_refusal s n = if not (size_of s.function == 0) then Some AlreadyOpen
     else None)
 
 abbrev pub came_alone : Lone → List ℕ → Option Fault → Lone
-came_alone s memory None = with_unit s (Open (initial memory))
+came_alone s memory None = with_unit s (Open (initial_with s.profile.offloads memory))
 came_alone s memory (Some fault) = s
 
 -- why it can't have a memory of so many bytes

@@ -127,4 +127,4 @@ serve limit o f q = if is_open f
 
 -- the accesses to the function's memory that it makes
 abbrev pub serve_accesses : ℕ → OwnSettings → Function → Queue → List Access
-serve_accesses limit o f q = if o.may_transmit then service_accesses limit f q else []
+serve_accesses limit o f q = if o.may_transmit then service_accesses limit (port_vlan_of o.port_vlan) f q else []

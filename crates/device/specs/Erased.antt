@@ -69,7 +69,7 @@ IsConfined group w (e ∷ es) = (is_groups group e ≡ true → (r : ℕ) → r 
 
 -- two worlds that differ at most in the group's functions, in the flags of resets, and in what went to the wire
 pub record AlikeOutside (group : ℕ → Bool) (w v : World) : Type 0 where
-  pub limit : w.limit ≡ v.limit
+  pub profile : w.profile ≡ v.profile
   pub settings : w.settings ≡ v.settings
   pub count : length w.functions ≡ length v.functions
   pub functions : (r : ℕ) → r < length w.functions → group r ≡ false → function_of r w ≡ function_of r v

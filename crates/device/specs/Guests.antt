@@ -3,7 +3,7 @@ use Rattle.std.specs.Prelude.{ℕ, Bool, not, ◌&&◌, ◌||◌, ◌==◌, nat_
 use Rattle.std.specs.List.{list_all}
 use Rattle.wire_frame.specs.declared.fault.Fault.{Fault}
 use Rattle.wire_frame.specs.declared.fault.Fault.TheVariants.{NoSuchVf, AlreadyOpen, BadMake}
-use Rattle.vf_unit.specs.Function.{initial}
+use Rattle.vf_unit.specs.Function.{initial_with}
 use Rattle.vf_unit.specs.Guests.{moved_to}
 use Rattle.vf_unit.specs.Unit.{Closed, Open, size_of}
 use Rattle.device.specs.World.{World, function_of, with_function}
@@ -35,9 +35,9 @@ attach_refusal w p n = if nat_le (length w.functions) p then Some NoSuchVf
     else (if not (is_guest_size n) then Some BadMake
     else None))
 
--- a guest came, with its memory: its function is open, with every register initial
+-- a guest came, with its memory: its function is open, with every register initial and the offloads that the device was made with
 abbrev pub attached : World → ℕ → List ℕ → World
-attached w p memory = with_function w p (Open (initial memory))
+attached w p memory = with_function w p (Open (initial_with w.profile.offloads memory))
 
 -- a guest went: its function is closed, over no bytes
 abbrev pub detached : World → ℕ → World

@@ -35,13 +35,13 @@ unfoldable pub told_functions : List (List Access) → List (List Access) → Li
 told_functions before now functions = map (told_at before now functions) (range_with_len 0 (length functions))
 
 abbrev pub told_world : List (List Access) → List (List Access) → World → World
-told_world before now w = record { limit = w.limit; settings = w.settings; resets = w.resets; functions = told_functions before now w.functions; wire = w.wire }
+told_world before now w = record { profile = w.profile; settings = w.settings; resets = w.resets; functions = told_functions before now w.functions; wire = w.wire }
 
 -- ---- one event
 
 -- the service of a pool's queue, where its memory answered so
 abbrev pub told_service : List (List Access) → List (List Access) → World → ℕ → Queue → Service
-told_service before now w p q = serve w.limit (own w.settings p) (told_at before now w.functions p) q
+told_service before now w p q = serve w.profile.limit (own w.settings p) (told_at before now w.functions p) q
 
 -- no byte of a function's memory was read after it was read or written, and where nobody else writes the memories, the functions
 -- that were met are those that were there

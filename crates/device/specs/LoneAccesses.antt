@@ -9,7 +9,7 @@ use Rattle.device.specs.Lone.{Item, OwnEvent, NewSettings, Gone, Offer, Lone, mo
 
 -- those of an event of its own
 abbrev pub made_by_own : Lone → Event → List Access
-made_by_own s (Serve p q) = serve_accesses s.limit s.settings s.function q
+made_by_own s (Serve p q) = serve_accesses s.profile.limit s.settings s.function q
 made_by_own s e = act_accesses s.function e
 
 -- those of what it is given

@@ -307,7 +307,7 @@ impl<D: Dma<K>, K> Device<D, K> {
         };
         let index = usize::from(pool.get());
         let unit = &mut self.units[index];
-        serve_queue_live(&rules, self.limit, unit, queue, frame)
+        serve_queue_live(&rules, self.profile.limit, unit, queue, frame)
     }
 
     /// Reads the register of the physical function at an offset in bytes. An offset that no register has reads 0.
@@ -376,7 +376,7 @@ impl<D: Dma<K>, K> Device<D, K> {
         ensures sizes { sizes_of self.new.world ≡ sizes_of self.old.world }
         ensures met { AreMet D.shared self.old.accesses self.new.accesses self.old.world }
     {
-        if frame.bytes().len() > usize::from(self.limit.get()) {
+        if frame.bytes().len() > usize::from(self.profile.limit.get()) {
             return Err(Fault::BadFrame);
         }
         Ok(self.switch(Source::Wire, frame).messages)

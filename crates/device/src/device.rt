@@ -1,9 +1,10 @@
 //! The device: how it is made, and what it shows.
 ghost use Rattle.std.specs.Prelude.{◌≡◌, ℕ, [], ◌<◌, ◌≤◌, ◌&&◌, true, false, length, replicate, map, slice_get, option_copied, IfOk, IfErr};
 ghost use Rattle.pool_filter.specs.Settings.{initial_settings};
-ghost use Rattle.vf_unit.specs.Unit.{Closed, size_of, bytes_at};
-ghost use Rattle.device.specs.World.{fresh, is_frame_limit, is_makeable, function_of};
+ghost use Rattle.vf_unit.specs.Unit.{Closed, size_of, shortfalls_of, bytes_at};
+ghost use Rattle.device.specs.World.{fresh, fresh_with, is_frame_limit, is_makeable, function_of};
 
+use crate::profile::Profile;
 use crate::span::Span;
 use crate::wire_out::WireOut;
 use guest_memory::is_memory_size;
@@ -17,7 +18,7 @@ use wire_frame::{Fault, FrameBuf, FrameLimit, PoolId};
 /// A device over the memories of its guests.
 #[derive(Drop)]
 pub struct Device<D: Dma<K>, K = Alone> {
-    pub(crate) limit: FrameLimit,
+    pub(crate) profile: Profile,
     // in a box, so that a device is a few words, and moved in few steps over a small stack
     pub(crate) tables: Box<Tables>,
     // bit p where function p was reset
@@ -34,7 +35,7 @@ impl<D: Dma<K>, K> Model for Device<D, K> {
 
     ghost view = { λ d. record {
       world = record {
-        limit = d.limit;
+        profile = d.profile;
         settings = d.tables.value;
         resets = d.resets;
         functions = map (λ u. u.function) d.units.items;
@@ -106,7 +107,7 @@ impl<D: Dma<K>, K> Device<D, K> {
         if !is_makeable(memories.as_slice()) {
             return Err(Fault::BadMake);
         }
-        Device::over(alloc, memories, limit)
+        Device::over(alloc, memories, Profile::plain(limit))
     }
 
     // A closed function over each of the memories.
@@ -114,11 +115,11 @@ impl<D: Dma<K>, K> Device<D, K> {
     pub(crate) fn over(
         alloc: Global,
         memories: Vec<D>,
-        limit: FrameLimit,
+        profile: Profile,
     ) -> Result<Device<D, K>, Fault>
         requires { length memories.items ≤ 64 }
         ensures ok { IfOk result
-            (λ d. d.world ≡ fresh limit (map (λ m. length (D.seen m)) memories.items)) }
+            (λ d. d.world ≡ fresh_with profile (map (λ m. length (D.seen m)) memories.items)) }
         ensures untouched { IfOk result (λ d. d.accesses ≡ map (λ m. D.noted m) memories.items) }
         ensures no_memory { IfErr result (λ e. e ≡ Fault.NoMemory) }
     {
@@ -126,7 +127,7 @@ impl<D: Dma<K>, K> Device<D, K> {
         let wire = WireOut::new(alloc)?;
         let units = close_all(alloc, memories)?;
         Ok(Device {
-            limit,
+            profile,
             tables,
             resets: 0,
             units,
@@ -144,9 +145,16 @@ impl<D: Dma<K>, K> Device<D, K> {
 
     /// How long the frames may be that it takes, in bytes.
     pub fn limit(&self) -> FrameLimit
-        ensures { result ≡ self.now.world.limit }
+        ensures { result ≡ self.now.world.profile.limit }
     {
-        self.limit
+        self.profile.limit
+    }
+
+    /// What it was made with.
+    pub fn profile(&self) -> Profile
+        ensures { result ≡ self.now.world.profile }
+    {
+        self.profile
     }
 
     /// The size of the memory of a virtual function that is there, in bytes.
@@ -155,6 +163,15 @@ impl<D: Dma<K>, K> Device<D, K> {
         ensures { result ≡ size_of (function_of pool self.now.world) }
     {
         self.units[pool].memory_size()
+    }
+
+    /// How often something that the driver of a virtual function that is there left to the card could not be done, modulo 2^32, since it was
+    /// opened, its guest came or it was reset: sums that a frame then lacks, or segments, where the whole frame is dropped.
+    pub fn shortfalls(&self, pool: usize) -> u32
+        requires { pool < length self.now.world.functions }
+        ensures { result ≡ shortfalls_of (function_of pool self.now.world) }
+    {
+        self.units[pool].shortfalls()
     }
 
     /// How many frames are kept of those that went to the wire, at most 1024.

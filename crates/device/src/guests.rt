@@ -10,12 +10,14 @@
 ghost use Rattle.std.specs.Prelude.{◌≡◌, ◌<◌, ◌≤◌, ◌&&◌, true, false, length, map, set, Some, None, Err, IfOk, IfErr, OnOk, OnErr};
 ghost use Rattle.vf_unit.specs.Guests.{over, IsFormer};
 ghost use Rattle.vf_unit.specs.Unit.{size_of};
-ghost use Rattle.device.specs.World.{fresh, is_frame_limit, function_of, with_function};
+ghost use Rattle.device.specs.World.{fresh_with, is_frame_limit, function_of, with_function};
 ghost use Rattle.device.specs.Live.{trace_of};
 ghost use Rattle.device.specs.Guests.{is_for_guests, is_vacant, attach_refusal, attached, detached, replace_refusal, over_memory};
 
 use crate::device::Device;
+use crate::profile::Profile;
 use live_memory::{Dma, Traced};
+use offload::Offloads;
 use std::alloc::Global;
 use wire_frame::{Fault, FrameLimit, PoolId};
 
@@ -33,14 +35,22 @@ pub struct NotTaken<D> {
 
 impl<D: Dma<K>, K> Device<D, K> {
     /// A device with a closed function over each of the memories, 1 to 64, of up to [`MOST_MEMORY`] bytes each. A function over a
-    /// memory of no bytes is vacant. It takes frames of up to `limit` bytes, 1518 to 9018.
+    /// memory of no bytes is vacant. It takes frames of up to `limit` bytes, 1518 to 9018, and does `offloads` for the driver of each guest
+    /// that comes.
     ///
     /// [`Fault::BadMake`] comes exactly where there are no memories or more than 64, one has more bytes, or the limit is another;
     /// [`Fault::NoMemory`] only where the host refused the room.
     #[inline(never)]
-    pub fn for_guests(alloc: Global, memories: Vec<D>, limit: u16) -> Result<Device<D, K>, Fault>
+    pub fn for_guests(
+        alloc: Global,
+        memories: Vec<D>,
+        limit: u16,
+        offloads: Offloads,
+    ) -> Result<Device<D, K>, Fault>
         ensures ok { IfOk result
-            (λ d. d.world ≡ fresh limit (map (λ m. length (D.seen m)) memories.items)) }
+            (λ d. d.world
+            ≡ fresh_with (record { limit = limit; offloads = offloads })
+            (map (λ m. length (D.seen m)) memories.items)) }
         ensures untouched { IfOk result (λ d. d.accesses ≡ map (λ m. D.noted m) memories.items) }
         ensures bad_make { (is_frame_limit limit && is_for_guests
             (map (λ m. length (D.seen m)) memories.items)) ≡ false → result ≡ Err Fault.BadMake }
@@ -55,11 +65,11 @@ impl<D: Dma<K>, K> Device<D, K> {
         if !is_for_guests(memories.as_slice()) {
             return Err(Fault::BadMake);
         }
-        Device::over(alloc, memories, limit)
+        Device::over(alloc, memories, Profile { limit, offloads })
     }
 
-    /// A guest comes to a vacant function, with its memory as it is: the function is open then, and every register initial. No byte
-    /// is read or written. The memory of no bytes that was there is handed out. Where the guest is refused, nothing changes.
+    /// A guest comes to a vacant function, with its memory as it is: the function is open then, every register initial, and it has the
+    /// offloads that the device was made with. No byte is read or written. The memory of no bytes that was there is handed out. Where the guest is refused, nothing changes.
     ///
     /// [`Fault::NoSuchVf`], then [`Fault::AlreadyOpen`] where the function isn't vacant, then [`Fault::BadMake`] where the memory has
     /// no byte or more than [`MOST_MEMORY`].
@@ -95,7 +105,8 @@ impl<D: Dma<K>, K> Device<D, K> {
                 memory,
             });
         }
-        Ok(self.exchange(index, memory, true).into_memory())
+        let opening = Some(self.profile().offloads);
+        Ok(self.exchange(index, memory, opening).into_memory())
     }
 
     /// A guest goes: its function is closed and vacant then, over `vacancy`, a memory of no bytes, and the guest's memory is handed out
@@ -118,7 +129,7 @@ impl<D: Dma<K>, K> Device<D, K> {
         if index >= self.functions() || self.memory_size(index) == 0 {
             return Err(vacancy);
         }
-        Ok(self.exchange(index, vacancy, false))
+        Ok(self.exchange(index, vacancy, None))
     }
 
     /// Gives a function another memory of as many bytes, as it is, and hands out its own, with the list of what was read and written
@@ -172,15 +183,15 @@ impl<D: Dma<K>, K> Device<D, K> {
     }
 
     // Gives a function that is there another memory, and hands out its own with its list.
-    fn exchange(&mut self, index: usize, memory: D, is_open: bool) -> Traced<D, K>
+    fn exchange(&mut self, index: usize, memory: D, opening: Option<Offloads>) -> Traced<D, K>
         requires { index < length self.old.world.functions }
-        ensures world { self.new.world ≡ with_function self.old.world index (over (D.seen memory) is_open) }
+        ensures world { self.new.world ≡ with_function self.old.world index (over opening (D.seen memory)) }
         ensures accesses { self.new.accesses ≡ set self.old.accesses index (D.noted memory) }
         ensures former { IsFormer (function_of index self.old.world) (D.seen result.memory) }
         ensures size { length (D.seen result.memory) ≡ size_of (function_of index self.old.world) }
         ensures listed { result.accesses ≡ trace_of self.old.accesses index }
     {
-        self.units[index].exchange(memory, is_open)
+        self.units[index].exchange(memory, opening)
     }
 }
 

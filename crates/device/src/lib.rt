@@ -5,7 +5,7 @@
 //! Its meaning is the world of `specs/`, over [`Event`]s and [`Answer`]s, and each event that it takes keeps the isolation
 //! law: each virtual function sees what a lone function would see that is given only its own events, its own settings and
 //! the frames that its filters accept. [`Device::run`] promises so of every list of events, and [`laws`] of a device as it
-//! is made. Where the settings keep a group of functions apart, [`erased`] promises that no other function can tell whether
+//! is made. What it is made with, its [`Profile`], never changes. Where the settings keep a group of functions apart, [`erased`] promises that no other function can tell whether
 //! the group's own events were left out. [`act::act`] and [`serve_queue`] are what an event does to one function by itself;
 //! the device does the same, and so may whoever has a function without a device. The crate stands on `vf_unit`,
 //! `local_switch` and `anti_spoof`; no call takes memory but the makers and [`Device::run`], which takes it before its first
@@ -21,6 +21,7 @@ pub mod event;
 pub mod guests;
 pub mod laws;
 mod outcome;
+mod profile;
 mod resets;
 mod response;
 mod service;
@@ -34,6 +35,7 @@ pub use device::Device;
 pub use event::{Answer, Event, Reply, Request};
 pub use guests::NotTaken;
 pub use outcome::{Acted, Outcome};
+pub use profile::Profile;
 pub use response::Response;
 pub use service::serve_queue;
 pub use span::Span;

@@ -10,6 +10,6 @@ pub record IsAtRest (held : Held) : Type 0 where
   pub legal : Legal held.base held.kept held.live
   pub few : length held.kept ≤ held.cap
   -- until calls are folded away, the base is a device as it is made, of the live one's make
-  pub first : folded held ≡ 0 → held.base ≡ fresh held.live.limit (sizes_of held.live)
+  pub first : folded held ≡ 0 → held.base ≡ fresh held.live.profile.limit (sizes_of held.live)
   -- each message that was raised is one of a kept answer, or of a call that was folded away
   pub raised : (p v : ℕ) → p < 64 → raised p v held.line.raises ≡ kept_raises p v held.kept + folded_raises p v held

@@ -7,6 +7,7 @@ use Rattle.std.proofs.Math.Seq.{drop-cons}
 use Rattle.std.proofs.lemmas.List.{map-append}
 use mathlib.Core.Logic.{◌↔◌}
 use Rattle.vf_unit.specs.Unit.{Closed, size_of}
+use Rattle.device.specs.declared.profile.Profile.{Profile}
 use Rattle.device.specs.Events.{Event}
 use Rattle.device.specs.World.{World, step, fresh, sizes_of, answers, world_after}
 use Rattle.device.specs.Live.{TracedWorld}
@@ -23,9 +24,9 @@ sizes_closed : (sizes : List ℕ) → map size_of (map Closed sizes) ≡ sizes
 sizes_closed [] = refl
 sizes_closed (size ∷ sizes) = ap (λ xs. size ∷ xs) (sizes_closed sizes)
 
-pub fresh_again : (w : World) (limit : ℕ) (sizes : List ℕ) → w ≡ fresh limit sizes → w ≡ fresh w.limit (sizes_of w)
+pub fresh_again : (w : World) (limit : ℕ) (sizes : List ℕ) → w ≡ fresh limit sizes → w ≡ fresh w.profile.limit (sizes_of w)
 fresh_again w limit sizes made =
-    let long : w.limit ≡ limit = ap (λ (v : World). v.limit) made in
+    let long : w.profile.limit ≡ limit = ap (λ (v : World). v.profile.limit) made in
     let all : sizes_of w ≡ sizes = ap sizes_of made ∙ sizes_closed sizes in
     made ∙ (λ i. fresh (sym long i) (sym all i))
 
@@ -54,7 +55,7 @@ leads_more base calls live c e l = record {
 -- a device without a twin has the same base after a step, which changes neither limit nor sizes
 pub base_kept : (twin : Option (Box TracedWorld)) (live lent new : World) (e : Event) → lent ≡ live → new ≡ (step lent e).world → sizes_of new ≡ sizes_of lent
     → base_of twin new ≡ base_of twin live
-base_kept None live lent new e same world sizes = let limit : new.limit ≡ live.limit = ap (λ (w : World). w.limit) world ∙ (step_shape lent e).limit ∙ ap (λ (w : World). w.limit) same in
+base_kept None live lent new e same world sizes = let limit : new.profile.limit ≡ live.profile.limit = ap (λ (w : World). w.profile.limit) world ∙ ap (λ (p : Profile). p.limit) (step_shape lent e).profile ∙ ap (λ (w : World). w.profile.limit) same in
     let long : sizes_of new ≡ sizes_of live = sizes ∙ ap sizes_of same in λ i. fresh (limit i) (long i)
 base_kept (Some twin) live lent new e same world sizes = refl
 

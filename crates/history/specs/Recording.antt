@@ -19,7 +19,7 @@ pub record Logged : Type 0 where
 
 -- a device as it is made, of the live one's frame limit and sizes of memories
 abbrev pub made_like : World → World
-made_like live = fresh live.limit (sizes_of live)
+made_like live = fresh live.profile.limit (sizes_of live)
 
 -- no call was made yet
 abbrev pub begun : World → ℕ → Bool → Logged

@@ -87,7 +87,7 @@ plain w (Serve p q) not = service_plain (nat_lt p (length w.functions)) w p q
 plain w (PfRead offset) not = either_plain (is_bad_offset PF_SPACE offset) _ _ refl refl
 plain w (PfWrite offset x) not = either_plain (is_bad_offset PF_SPACE offset) _ _ refl refl
 plain w PfReset not = refl
-plain w (Wire frame) not = either_plain (nat_lt w.limit (length frame)) _ _ refl refl
+plain w (Wire frame) not = either_plain (nat_lt w.profile.limit (length frame)) _ _ refl refl
 
 -- ---- so the cells hold what an answer says was read
 

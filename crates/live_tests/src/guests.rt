@@ -7,6 +7,7 @@ use device::{Device, Event, Outcome, Queue, Reply, Request};
 use live_memory::{Dma, Shared};
 use live_run::run_live;
 use mapped_memory::LiveMem;
+use offload::Offloads;
 use script_support::registers::{
     ENABLE, PFVFTE, TDBAH0, TDBAL0, TDH0, TDLEN0, TDT0, TXDCTL0, VTEICR, VTEICS, VTEIMS,
 };
@@ -27,7 +28,7 @@ fn vacant_device<'a>(alloc: Global, functions: usize) -> Result<Device<LiveMem<'
     for _ in 0..functions {
         memories.push(LiveMem::for_guest(alloc, 0)?)?;
     }
-    Ok(Device::for_guests(alloc, memories, 1518)?)
+    Ok(Device::for_guests(alloc, memories, 1518, Offloads::none())?)
 }
 
 // Memory with a descriptor at RING, of a frame of 60 bytes at FRAME.
@@ -289,7 +290,7 @@ fn make_fault(alloc: Global, sizes: &[u64], limit: u16) -> Result<Option<Fault>,
     for size in sizes {
         memories.push(LiveMem::for_guest(alloc, *size)?)?;
     }
-    Ok(Device::for_guests(alloc, memories, limit).err())
+    Ok(Device::for_guests(alloc, memories, limit, Offloads::all()).err())
 }
 
 #[test]

@@ -8,7 +8,7 @@ ghost use Rattle.lone.specs.Kept.{item_of, observation_of};
 
 use crate::item::{Given, Seen};
 use device::act::{act, read_or_zero};
-use device::{Request, Span, serve_queue};
+use device::{Profile, Request, Span, serve_queue};
 use guest_memory::GuestMem;
 use pool_filter::Own;
 use std::alloc::Global;
@@ -19,7 +19,7 @@ use wire_frame::{Fault, FrameBuf, FrameLimit};
 /// One function and its own settings.
 #[derive(Drop)]
 pub struct Lone<M: GuestMem> {
-    limit: FrameLimit,
+    profile: Profile,
     unit: VfUnit<M>,
     settings: Own,
     // a frame that is sent is put together here
@@ -31,18 +31,18 @@ impl<M: GuestMem> Model for Lone<M> {
 
     ghost Value = { Lone };
 
-    ghost view = { λ l. record { limit = l.limit; function = l.unit.function; settings = l.settings } };
+    ghost view = { λ l. record { profile = l.profile; function = l.unit.function; settings = l.settings } };
 }
 
 impl<M: GuestMem> Lone<M> {
-    /// A closed function over this memory that has no settings. Its frames have up to `limit` bytes. [`Fault::NoMemory`]
+    /// A closed function over this memory that has no settings and no offloads. Its frames have up to `limit` bytes. [`Fault::NoMemory`]
     /// comes only where the host refused the room.
     pub fn new(alloc: Global, memory: M, limit: FrameLimit) -> Result<Lone<M>, Fault>
         ensures ok { IfOk result (λ l. l ≡ alone limit (length (M.bytes memory))) }
         ensures err { IfErr result (λ e. e ≡ Fault.NoMemory) }
     {
         Ok(Lone {
-            limit,
+            profile: Profile::plain(limit),
             unit: VfUnit::new(alloc, memory)?,
             settings: Own::none(),
             frame: FrameBuf::blank(),
@@ -88,7 +88,7 @@ impl<M: GuestMem> Lone<M> {
         let acted = match request {
             Request::Serve(_, queue) => serve_queue(
                 &self.settings,
-                self.limit,
+                self.profile.limit,
                 &mut self.unit,
                 queue,
                 &mut self.frame,

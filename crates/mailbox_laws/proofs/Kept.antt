@@ -17,7 +17,8 @@ use Rattle.device.specs.Replies.{is_done}
 use Rattle.device.specs.declared.event.Reply.TheVariants.{Done, Value}
 use Rattle.device.specs.Events.{Event}
 use Rattle.device.specs.declared.event.Event.TheVariants.{Open, End, VfRead, VfWrite, MemRead, MemWrite, Serve, Flr, PfRead, PfWrite, PfReset, Wire}
-use Rattle.device.specs.World.{World, fresh, step, world_after, function_of, acted, own_step, service, served, switched, all_raised, pf_word, pf_written, refused, replied}
+use Rattle.device.specs.declared.profile.Profile.{Profile}
+use Rattle.device.specs.World.{World, fresh_with, step, world_after, function_of, acted, own_step, service, served, switched, all_raised, pf_word, pf_written, refused, replied}
 use Rattle.device.specs.Lone.{NewSettings, kept, keep, changed_settings}
 use Rattle.device.proofs.Append.{world_after_append, keep_append}
 use Rattle.mailbox.specs.declared.slot.Slot.{Slot}
@@ -220,7 +221,7 @@ event_stays w (PfRead offset) none = go (is_bad_offset PF_SPACE offset)
     go false = refl
 event_stays w (PfWrite offset x) none = absurd (true≢false none)
 event_stays w PfReset none = absurd (true≢false none)
-event_stays w (Wire frame) none = go (ltb w.limit (length frame))
+event_stays w (Wire frame) none = go (ltb w.profile.limit (length frame))
   where
     go : (b : Bool) → (cond b (refused w BadFrame) (record { world = switched w FromWire frame; answer = record { reply = Done; raised = all_raised w.settings w.functions FromWire frame } })).world.settings ≡ w.settings
     go true = refl
@@ -306,5 +307,5 @@ run_keeps q h w (t ∷ ts) q_small is few all =
     ∙ (λ i. turn_keeps q h w t q_small is few (All-head IsTurn t ts all) i
     ++ run_keeps q (host_of h t) (world_after w (events_in h t)) ts q_small (turn_settles h w t is few (All-head IsTurn t ts all)) (few_still h t few) (All-tail IsTurn t ts all) i)
 
-pub first_run : (h : HostState) (limit : ℕ) (sizes : List ℕ) → (world_after (fresh limit sizes) (write_events (first_writes h))).settings ≡ settings_of h
-first_run h limit sizes = writes_done (fresh limit sizes) (first_writes h) (first_taken h) ∙ first_settled h (fresh limit sizes).settings whole_at_first
+pub first_run : (h : HostState) (profile : Profile) (sizes : List ℕ) → (world_after (fresh_with profile sizes) (write_events (first_writes h))).settings ≡ settings_of h
+first_run h profile sizes = writes_done (fresh_with profile sizes) (first_writes h) (first_taken h) ∙ first_settled h (fresh_with profile sizes).settings whole_at_first

@@ -1,7 +1,8 @@
 //! Laws of a device and a host of mailboxes beside it. Each function does nothing: its contract is the law.
 ghost use Rattle.std.specs.Prelude.{◌≡◌, ℕ, ◌<◌, ◌≤◌, List, length};
 ghost use Rattle.std.specs.List.{All};
-ghost use Rattle.device.specs.World.{World, fresh, world_after};
+ghost use Rattle.device.specs.declared.profile.Profile.{Profile};
+ghost use Rattle.device.specs.World.{World, fresh_with, world_after};
 ghost use Rattle.device.specs.Lone.{keep};
 ghost use Rattle.mailbox.specs.State.{HostState};
 ghost use Rattle.mailbox.specs.Start.{first_writes};
@@ -10,8 +11,8 @@ ghost use Rattle.mailbox_laws.specs.Turns.{Turn, IsTurn, write_events, host_at_e
 
 /// A device that was just made, and did the first writes of a host, has the settings that the host stands for.
 pub fn brought_up()
-    ensures { (h : HostState) (limit : ℕ) (sizes : List ℕ) →
-        (world_after (fresh limit sizes) (write_events (first_writes h))).settings ≡ settings_of h }
+    ensures { (h : HostState) (profile : Profile) (sizes : List ℕ) →
+        (world_after (fresh_with profile sizes) (write_events (first_writes h))).settings ≡ settings_of h }
 {}
 
 /// Where nobody but the host writes to the physical function's registers, or resets it, the device always has the settings

@@ -140,12 +140,12 @@ step_len w (MemRead p at count) = own_step_len w p (MemRead p at count) (bytes_a
 step_len w (MemWrite p at bytes) = own_step_len w p (MemWrite p at bytes) 0 (own_len (function_of p w) (MemWrite p at bytes) 0 refl)
 step_len w (Serve p q) =
     either (nat_lt p (length w.functions)) (served w p (service w p q) (service w p q).sent) (refused w NoSuchVf) 0
-    (omega (arith, served_len w p (service w p q) (service w p q).sent (serve_len w.limit (own w.settings p) (function_of p w) q))) (omega arith)
+    (omega (arith, served_len w p (service w p q) (service w p q).sent (serve_len w.profile.limit (own w.settings p) (function_of p w) q))) (omega arith)
 step_len w (Flr p) = flagged_len p (own_step w p (Flr p)) 0 (own_step_len w p (Flr p) 0 (own_len (function_of p w) (Flr p) 0 refl))
 step_len w (PfRead offset) = either (is_bad_offset 0x20000 offset) _ _ 0 (omega arith) (omega arith)
 step_len w (PfWrite offset x) = either (is_bad_offset 0x20000 offset) _ _ 0 (omega arith) (omega arith)
 step_len w PfReset = omega arith
-step_len w (Wire frame) = either (nat_lt w.limit (length frame)) _ _ 0 (omega arith) (omega arith)
+step_len w (Wire frame) = either (nat_lt w.profile.limit (length frame)) _ _ 0 (omega arith) (omega arith)
 
 -- ---- the bytes of the call that was kept last
 

@@ -22,5 +22,5 @@ pub one_make : (live twin : World) → IsFresh live → IsFresh twin → SameMak
 one_make live twin one other same = fresh_again twin _ _ other.2 ∙ (λ i. fresh (sym same.0 i) (sym same.1 i)) ∙ sym (fresh_again live _ _ one.2)
 
 -- a base that is made like its live device is any other as it is made, of the live one's make
-pub one_base : (base live other : World) → base ≡ fresh live.limit (sizes_of live) → SameMake live other → IsFresh other → base ≡ other
+pub one_base : (base live other : World) → base ≡ fresh live.profile.limit (sizes_of live) → SameMake live other → IsFresh other → base ≡ other
 one_base base live other made same one = made ∙ (λ i. fresh (same.0 i) (same.1 i)) ∙ sym (fresh_again other _ _ one.2)

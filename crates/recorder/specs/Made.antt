@@ -12,7 +12,7 @@ IsFresh w = (limit : ℕ) × (sizes : List ℕ) × (w ≡ fresh limit sizes)
 
 -- two devices whose frames may be as long, and whose memories have the same sizes
 abbrev pub SameMake : World → World → Type 0
-SameMake w v = (w.limit ≡ v.limit) × (sizes_of w ≡ sizes_of v)
+SameMake w v = (w.profile.limit ≡ v.profile.limit) × (sizes_of w ≡ sizes_of v)
 
 -- no call was made yet
 abbrev pub begun : World → ℕ → Bool → DeviceEnd → Held

@@ -178,7 +178,7 @@ impl<M: GuestMem> Journal<M> {
         ensures legal { Legal self.now.base self.now.kept self.now.live }
         ensures few { length self.now.kept ≤ self.now.cap }
         ensures first { folded self.now ≡ 0
-            → self.now.base ≡ fresh self.now.live.limit (sizes_of self.now.live) }
+            → self.now.base ≡ fresh self.now.live.profile.limit (sizes_of self.now.live) }
         ensures raised { (p v : ℕ) → p < 64 →
             raised p v self.now.line.raises
             ≡ kept_raises p v self.now.kept + folded_raises p v self.now }

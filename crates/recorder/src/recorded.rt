@@ -265,7 +265,7 @@ impl<M: GuestMem, L: Ledger> Recorded<M, L> {
         // of the base, and of a device of the live one's make while no calls were folded away
         ensures base { device.old.world ≡ self.now.base → IsTrue result }
         ensures fresh { folded self.now ≡ 0
-            → device.old.world ≡ fresh self.now.live.limit (sizes_of self.now.live) → IsTrue result }
+            → device.old.world ≡ fresh self.now.live.profile.limit (sizes_of self.now.live) → IsTrue result }
     {
         self.journal.agrees();
         self.journal.recording().history().gives_all(device)
@@ -317,7 +317,7 @@ impl<M: GuestMem, L: Ledger> Recorded<M, L> {
         ensures few { length self.now.kept ≤ self.now.cap }
         // until calls are folded away, the base is a device as it is made
         ensures first { folded self.now ≡ 0
-            → self.now.base ≡ fresh self.now.live.limit (sizes_of self.now.live) }
+            → self.now.base ≡ fresh self.now.live.profile.limit (sizes_of self.now.live) }
         // each message that was raised is one of a kept answer, or of a call that was folded away
         ensures raised { (p v : ℕ) → p < 64 →
             raised p v self.now.line.raises

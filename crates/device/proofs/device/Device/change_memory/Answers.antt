@@ -6,11 +6,11 @@ use Rattle.device.proofs.device.Device.change_memory.Goals as goal
 use Rattle.device.proofs.device.Device.change_memory.Given as given
 use Rattle.device.specs.Live.{TracedWorld, trace_of}
 use Rattle.device.specs.World.{function_of, with_function}
-use Rattle.vf_unit.specs.Guests.{moved_to, over}
+use Rattle.vf_unit.specs.Guests.{moved_to}
 use Rattle.vf_unit.specs.Unit.{Function}
 
 abbrev base : (g : given.Over) (c : goal.After-self-1 g) → Base
-base g c = record { limit = c.self.inside.limit; settings = c.self.inside.tables.value; resets = c.self.inside.resets; wire = c.self.inside.wire }
+base g c = record { profile = c.self.inside.profile; settings = c.self.inside.tables.value; resets = c.self.inside.resets; wire = c.self.inside.wire }
 
 here : (g : given.Over) (c : goal.After-self-1 g) → IsHere c.self.inside.units.items c.args.index c.args.index c.index_mut.result.now
 here g c = record {

@@ -1,16 +1,14 @@
 -- The function that is over another memory is the one of its pool.
-use Rattle.std.proofs.Common.{◌≡◌, ◌∙◌, ap, arith, length, refl, sym}
+use Rattle.std.proofs.Common.{◌∙◌, ap, arith, length, refl}
 use Rattle.device.proofs.Called.{Base, own_exchanged, served_world}
-use Rattle.device.proofs.Views.{IsHere, function_here, lengths, trace_here}
+use Rattle.device.proofs.Views.{IsHere, lengths, trace_here}
 use Rattle.device.proofs.device.Device.exchange.Goals as goal
 use Rattle.device.proofs.device.Device.exchange.Given as given
 use Rattle.device.specs.Live.{TracedWorld, trace_of}
-use Rattle.device.specs.World.{function_of, with_function}
-use Rattle.vf_unit.specs.Guests.{moved_to, over}
-use Rattle.vf_unit.specs.Unit.{Function}
+use Rattle.vf_unit.specs.Guests.{over}
 
 abbrev base : (g : given.Over) (c : goal.After-self-1 g) → Base
-base g c = record { limit = c.self.inside.limit; settings = c.self.inside.tables.value; resets = c.self.inside.resets; wire = c.self.inside.wire }
+base g c = record { profile = c.self.inside.profile; settings = c.self.inside.tables.value; resets = c.self.inside.resets; wire = c.self.inside.wire }
 
 here : (g : given.Over) (c : goal.After-self-1 g) → IsHere c.self.inside.units.items c.args.index c.args.index c.index_mut.result.now
 here g c = record {
@@ -21,7 +19,7 @@ here g c = record {
 
 pub returns-clause-world : goal.returns-clause-world
 returns-clause-world g c =
-    served_world (base g c) c.self.inside.units.items c.args.self.now c.args.index c.args.index c.index_mut.result.now c.exchange.new.self (over (g.D.Dma.seen c.args.memory) c.args.is_open) c.self.view_is (here g c) c.exchange.ensures.function
+    served_world (base g c) c.self.inside.units.items c.args.self.now c.args.index c.args.index c.index_mut.result.now c.exchange.new.self (over c.args.opening (g.D.Dma.seen c.args.memory)) c.self.view_is (here g c) c.exchange.ensures.function
 
 pub returns-clause-accesses : goal.returns-clause-accesses
 returns-clause-accesses g c =

@@ -9,7 +9,7 @@ pub invariant_of-result : goal.invariant_of-result
 invariant_of-result g c = omega (arith, c.requires, ap length c.in_ok-units.ensures ∙ length-map c.args.memories.items _)
 
 pub returns-clause-ok : goal.returns-clause-ok
-returns-clause-ok g c = made (λ m. length (g.D.Dma.seen m)) c.args.memories.items c.args.limit c.in_ok-tables.tables.value (functions_of c.in_ok-units.units.items) c.in_ok-wire.wire c.in_ok-tables.ensures.ok (ap functions_of c.in_ok-units.ensures ∙ all_closed_over (λ m. length (g.D.Dma.seen m)) g.D.Dma.noted c.args.memories.items) c.in_ok-wire.ensures
+returns-clause-ok g c = made (λ m. length (g.D.Dma.seen m)) c.args.memories.items c.args.profile c.in_ok-tables.tables.value (functions_of c.in_ok-units.units.items) c.in_ok-wire.wire c.in_ok-tables.ensures.ok (ap functions_of c.in_ok-units.ensures ∙ all_closed_over (λ m. length (g.D.Dma.seen m)) g.D.Dma.noted c.args.memories.items) c.in_ok-wire.ensures
 
 pub returns-clause-untouched : goal.returns-clause-untouched
 returns-clause-untouched g c = ap traces_of c.in_ok-units.ensures ∙ all_noted (λ m. length (g.D.Dma.seen m)) g.D.Dma.noted c.args.memories.items

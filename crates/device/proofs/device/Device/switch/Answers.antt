@@ -19,7 +19,7 @@ use Rattle.device.proofs.device.Device.switch.Goals as goal
 use Rattle.device.proofs.device.Device.switch.Given as given
 
 abbrev base : (g : given.Over) (c : goal.After-self-1 g) → Base
-base g c = record { limit = c.self.inside.limit; settings = c.self.inside.tables.value; resets = c.self.inside.resets; wire = c.self.inside.wire }
+base g c = record { profile = c.self.inside.profile; settings = c.self.inside.tables.value; resets = c.self.inside.resets; wire = c.self.inside.wire }
 
 -- the functions afterwards
 abbrev after : (g : given.Over) (c : goal.After-self-1 g) → List TracedFunction
@@ -51,7 +51,7 @@ returns-clause-world g c =
     let frame = c.args.frame.now in
     let wire : c.push_where.new.self ≡ (if leaves s from frame then keep_last 1024 (c.self.inside.wire ++ frame ∷ []) else c.self.inside.wire) =
     c.push_where.ensures ∙ ap (λ b. if b then keep_last 1024 (c.self.inside.wire ++ frame ∷ []) else c.self.inside.wire) (c.route-route.ensures.wire ∙ ap (λ t. leaves t from frame) c.deref.ensures) in
-    subst (λ (d : TracedWorld). record { limit = c.self.inside.limit; settings = s; resets = c.self.inside.resets; functions = functions_of (after g c); wire = c.push_where.new.self } ≡ switched (told_world d.accesses (traces_of (after g c)) d.world) from frame) c.self.view_is
+    subst (λ (d : TracedWorld). record { profile = c.self.inside.profile; settings = s; resets = c.self.inside.resets; functions = functions_of (after g c); wire = c.push_where.new.self } ≡ switched (told_world d.accesses (traces_of (after g c)) d.world) from frame) c.self.view_is
     (switched_as (told_world (traces_of c.self.inside.units.items) (traces_of (after g c)) (world_with (base g c) c.self.inside.units.items)) from frame (functions_of (after g c)) c.push_where.new.self
     (came g.D.Dma.shared c.is_looped-loopback.result frame c.route-route.result.local c.self.inside.units.items (after g c) c.deliver_to_all.result s from (delivers g c) (receivers g c)) wire)
 

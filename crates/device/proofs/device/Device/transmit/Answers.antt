@@ -11,7 +11,7 @@ use Rattle.device.proofs.device.Device.transmit.Goals as goal
 use Rattle.device.proofs.device.Device.transmit.Given as given
 
 abbrev base : (g : given.Over) (c : goal.After-self-1 g) → Base
-base g c = record { limit = c.self.inside.limit; settings = c.self.inside.tables.value; resets = c.self.inside.resets; wire = c.self.inside.wire }
+base g c = record { profile = c.self.inside.profile; settings = c.self.inside.tables.value; resets = c.self.inside.resets; wire = c.self.inside.wire }
 
 abbrev here : (g : given.Over) (c : goal.After-self-1 g) → IsHere c.self.inside.units.items c.from-index.result c.args.pool c.index_mut-unit.result.now
 here g c = record {
@@ -21,9 +21,9 @@ here g c = record {
 }
 
 abbrev told : (g : given.Over) (c : goal.After-self-1 g)
-    → serve c.self.inside.limit (own c.deref.result.now c.args.pool) (met_function c.index_mut-unit.result.now c.serve_queue_live.new.unit) c.args.queue ≡ told_service c.args.self.now.accesses (traces_of (set c.self.inside.units.items c.from-index.result c.serve_queue_live.new.unit)) c.args.self.now.world c.args.pool c.args.queue
+    → serve c.self.inside.profile.limit (own c.deref.result.now c.args.pool) (met_function c.index_mut-unit.result.now c.serve_queue_live.new.unit) c.args.queue ≡ told_service c.args.self.now.accesses (traces_of (set c.self.inside.units.items c.from-index.result c.serve_queue_live.new.unit)) c.args.self.now.world c.args.pool c.args.queue
 told g c =
-    ap (λ (s : Settings). serve c.self.inside.limit (own s c.args.pool) (met_function c.index_mut-unit.result.now c.serve_queue_live.new.unit) c.args.queue) c.deref.ensures
+    ap (λ (s : Settings). serve c.self.inside.profile.limit (own s c.args.pool) (met_function c.index_mut-unit.result.now c.serve_queue_live.new.unit) c.args.queue) c.deref.ensures
     ∙ serve_told (base g c) c.self.inside.units.items c.args.self.now c.from-index.result c.args.pool c.args.queue c.index_mut-unit.result.now c.serve_queue_live.new.unit c.self.view_is (here g c)
 
 pub returns-clause-world : goal.returns-clause-world
@@ -47,7 +47,7 @@ returns-clause-met g c = own_met g.D.Dma.shared (base g c) c.self.inside.units.i
 
 pub returns-clause-listed : goal.returns-clause-listed
 returns-clause-listed g c =
-    own_listed (base g c) c.self.inside.units.items c.args.self.now c.from-index.result c.args.pool c.index_mut-unit.result.now c.serve_queue_live.new.unit (λ r f. serve_accesses c.args.self.now.world.limit (own c.args.self.now.world.settings r) f c.args.queue) c.self.view_is (here g c)
+    own_listed (base g c) c.self.inside.units.items c.args.self.now c.from-index.result c.args.pool c.index_mut-unit.result.now c.serve_queue_live.new.unit (λ r f. serve_accesses c.args.self.now.world.profile.limit (own c.args.self.now.world.settings r) f c.args.queue) c.self.view_is (here g c)
     (c.serve_queue_live.ensures.listed
-    ∙ ap (λ (s : Settings). c.index_mut-unit.result.now.accesses ++ serve_accesses c.self.inside.limit (own s c.args.pool) (met_function c.index_mut-unit.result.now c.serve_queue_live.new.unit) c.args.queue) c.deref.ensures
-    ∙ ap (λ (d : TracedWorld). c.index_mut-unit.result.now.accesses ++ serve_accesses d.world.limit (own d.world.settings c.args.pool) (met_function c.index_mut-unit.result.now c.serve_queue_live.new.unit) c.args.queue) c.self.view_is)
+    ∙ ap (λ (s : Settings). c.index_mut-unit.result.now.accesses ++ serve_accesses c.self.inside.profile.limit (own s c.args.pool) (met_function c.index_mut-unit.result.now c.serve_queue_live.new.unit) c.args.queue) c.deref.ensures
+    ∙ ap (λ (d : TracedWorld). c.index_mut-unit.result.now.accesses ++ serve_accesses d.world.profile.limit (own d.world.settings c.args.pool) (met_function c.index_mut-unit.result.now c.serve_queue_live.new.unit) c.args.queue) c.self.view_is)

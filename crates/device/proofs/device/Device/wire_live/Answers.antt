@@ -6,8 +6,8 @@ use Rattle.device.proofs.LiveServes.{refused_frame, refused_listed, taken_listed
 use Rattle.device.proofs.device.Device.wire_live.Goals as goal
 use Rattle.device.proofs.device.Device.wire_live.Given as given
 
-abbrev long : (g : given.Over) (c : goal.Then-bytes-from g) → c.args.self.now.world.limit < length c.args.frame.now
-long g c = subst (λ (d : TracedWorld). d.world.limit < length c.args.frame.now) c.self.view_is (omega (arith, c.if-bytes-from.true, c.from.ensures, c.get.ensures.value, ap length c.bytes.ensures.value))
+abbrev long : (g : given.Over) (c : goal.Then-bytes-from g) → c.args.self.now.world.profile.limit < length c.args.frame.now
+long g c = subst (λ (d : TracedWorld). d.world.profile.limit < length c.args.frame.now) c.self.view_is (omega (arith, c.if-bytes-from.true, c.from.ensures, c.get.ensures.value, ap length c.bytes.ensures.value))
 
 pub returns-then-bytes-from-clause-world : goal.returns-then-bytes-from-clause-world
 returns-then-bytes-from-clause-world g c =
@@ -21,5 +21,5 @@ returns-then-bytes-from-clause-listed g c = refused_listed c.args.self.now c.arg
 
 pub returns-clause-listed : goal.returns-clause-listed
 returns-clause-listed g c =
-    let short : length c.args.frame.now ≤ c.args.self.now.world.limit = subst (λ (d : TracedWorld). length c.args.frame.now ≤ d.world.limit) c.self.view_is (omega (arith, c.if-bytes-from.false, c.from.ensures, c.get.ensures.value, ap length c.bytes.ensures.value)) in
+    let short : length c.args.frame.now ≤ c.args.self.now.world.profile.limit = subst (λ (d : TracedWorld). length c.args.frame.now ≤ d.world.profile.limit) c.self.view_is (omega (arith, c.if-bytes-from.false, c.from.ensures, c.get.ensures.value, ap length c.bytes.ensures.value)) in
     taken_listed c.args.self.now.accesses c.switch.new.self.accesses c.args.self.now.world c.args.frame.now short c.switch.ensures.listed

@@ -5,6 +5,7 @@ use Rattle.std.specs.Int.{bit_at}
 use Rattle.irq_line.specs.Line.{raised}
 use Rattle.device.specs.declared.event.Answer.{Answer}
 use Rattle.device.specs.Request.{event_of}
+use Rattle.device.specs.declared.profile.Profile.{Profile}
 use Rattle.device.specs.World.{step, fresh}
 use Rattle.device.proofs.Shape.{step_shape}
 use Rattle.history.specs.Entries.{Entry, entry}
@@ -30,8 +31,8 @@ kept_more g c p v = ap (λ (r : Logged). kept_raises p v r.kept) c.record-taken.
 -- the device that it is made like stays
 same_make : (g : given.Over) (c : goal.After-raise_all g) → made_like c.record-taken.new.self.live ≡ made_like c.self.inside.recording.live
 same_make g c =
-    let limit : c.record-taken.new.self.live.limit ≡ c.self.inside.recording.live.limit =
-    ap (λ (r : Logged). r.live.limit) c.record-taken.ensures.kept ∙ (step_shape c.self.inside.recording.live (event_of c.args.request)).limit in
+    let limit : c.record-taken.new.self.live.profile.limit ≡ c.self.inside.recording.live.profile.limit =
+    ap (λ (r : Logged). r.live.profile.limit) c.record-taken.ensures.kept ∙ ap (λ (p : Profile). p.limit) (step_shape c.self.inside.recording.live (event_of c.args.request)).profile in
     λ i. fresh (limit i) (c.record-taken.ensures.takes.sizes i)
 
 pub invariant_of-self : goal.invariant_of-self

@@ -7,5 +7,5 @@ use Rattle.recorder.proofs.recorded.Recorded.begins_as.Goals as goal
 pub returns-then-folded-eq0-clause-base : goal.returns-then-folded-eq0-clause-base
 returns-then-folded-eq0-clause-base g c = λ is one.
     let live : c.device.result.now.world ≡ c.args.self.now.live = search rules in
-    let made : c.args.self.now.base ≡ fresh c.args.self.now.live.limit (sizes_of c.args.self.now.live) = search rules in
-    one_base c.args.self.now.base c.device.result.now.world c.args.other.now.world (made ∙ ap (λ (w : World). fresh w.limit (sizes_of w)) (sym live)) (c.is_same_make.ensures.0 is) one
+    let made : c.args.self.now.base ≡ fresh c.args.self.now.live.profile.limit (sizes_of c.args.self.now.live) = search rules in
+    one_base c.args.self.now.base c.device.result.now.world c.args.other.now.world (made ∙ ap (λ (w : World). fresh w.profile.limit (sizes_of w)) (sym live)) (c.is_same_make.ensures.0 is) one

@@ -223,7 +223,7 @@ own_sent p w v (MemWrite r at bytes) there also_there same its = refl
 own_sent p w v (Serve r q) there also_there same its =
     ap (λ (o : Option (List ℕ)). if r == p then o else None)
     (subst (λ (k : ℕ). sent_by w (Serve k q) ≡ sent_by v (Serve k q)) (sym (eqb-true r p its))
-    (sent_here p w q there ∙ ap (λ (s : Lone). (serve s.limit s.settings s.function q).sent) same ∙ sym (sent_here p v q also_there)))
+    (sent_here p w q there ∙ ap (λ (s : Lone). (serve s.profile.limit s.settings s.function q).sent) same ∙ sym (sent_here p v q also_there)))
 own_sent p w v (Flr r) there also_there same its = refl
 own_sent p w v (PfRead offset) there also_there same its = refl
 own_sent p w v (PfWrite offset x) there also_there same its = refl

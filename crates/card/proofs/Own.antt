@@ -80,7 +80,7 @@ events_alike p w v e mine there few also_there also_few same =
     told : sight (step w e).answer ≡ sight (step v e).answer
     told = one.0 ∙ ap (λ (s : Lone). shown s (OwnEvent e)) same ∙ sym two.0
 
--- writes of the physical function's registers leave the functions and the limit as they are
+-- writes of the physical function's registers leave the functions and the profile as they are
 write_functions : (w : World) (offset x : ℕ) → (step w (PfWrite offset x)).world.functions ≡ w.functions
 write_functions w offset x = go (is_bad_offset PF_SPACE offset)
   where
@@ -88,10 +88,10 @@ write_functions w offset x = go (is_bad_offset PF_SPACE offset)
     go true = refl
     go false = refl
 
-write_limit : (w : World) (offset x : ℕ) → (step w (PfWrite offset x)).world.limit ≡ w.limit
-write_limit w offset x = go (is_bad_offset PF_SPACE offset)
+write_profile : (w : World) (offset x : ℕ) → (step w (PfWrite offset x)).world.profile ≡ w.profile
+write_profile w offset x = go (is_bad_offset PF_SPACE offset)
   where
-    go : (b : Bool) → (if b then refused w BadOffset else step_replied (pf_written w offset x) Done).world.limit ≡ w.limit
+    go : (b : Bool) → (if b then refused w BadOffset else step_replied (pf_written w offset x) Done).world.profile ≡ w.profile
     go true = refl
     go false = refl
 
@@ -99,14 +99,14 @@ writes_functions : (w : World) (ws : List Write) → (world_after w (write_event
 writes_functions w [] = refl
 writes_functions w (r ∷ ws) = writes_functions (step w (write_event r)).world ws ∙ write_functions w r.offset r.value
 
-writes_limit : (w : World) (ws : List Write) → (world_after w (write_events ws)).limit ≡ w.limit
-writes_limit w [] = refl
-writes_limit w (r ∷ ws) = writes_limit (step w (write_event r)).world ws ∙ write_limit w r.offset r.value
+writes_profile : (w : World) (ws : List Write) → (world_after w (write_events ws)).profile ≡ w.profile
+writes_profile w [] = refl
+writes_profile w (r ∷ ws) = writes_profile (step w (write_event r)).world ws ∙ write_profile w r.offset r.value
 
 -- so of a function alone its settings change, and nothing else
 pub lone_written : (p : ℕ) (w : World) (ws : List Write) → lone_of p (world_after w (write_events ws)) ≡ with_settings (lone_of p w) (own (world_after w (write_events ws)).settings p)
 lone_written p w ws = λ i. record {
-  limit = writes_limit w ws i;
+  profile = writes_profile w ws i;
   function = slice_index_or (writes_functions w ws i) p (Closed 0);
   settings = own (world_after w (write_events ws)).settings p;
 }

@@ -5,7 +5,7 @@ use Rattle.std.specs.List.{All}
 use Rattle.std.proofs.lemmas.List.{get_or-set_other, length-set}
 use Rattle.std.proofs.lemmas.List.Elements.{All-cons, All-head, All-nil, All-tail}
 use Rattle.wire_frame.specs.declared.fault.Fault.{Fault}
-use Rattle.vf_unit.specs.Function.{initial}
+use Rattle.vf_unit.specs.Function.{initial_with}
 use Rattle.vf_unit.specs.Guests.{moved_to}
 use Rattle.vf_unit.specs.Unit.{Closed, Function, Open}
 use Rattle.device.specs.Across.{replaced}
@@ -257,7 +257,7 @@ guest_does q c f below is =
     (turns_same c.hosted.host (Forgets q ∷ [])) (set_apart q quiet quiet c.ends) (set_apart q 0 0 c.raised) (set_small c.raised q 0 is.sets (omega arith))
 
 coming_does : (q : ℕ) (c : CardState) (memory : List ℕ) (r : Option Fault) → q < 64 → IsCard c → Does q c (after_coming c q memory r)
-coming_does q c memory None below is = guest_does q c (Open (initial memory)) below is
+coming_does q c memory None below is = guest_does q c (Open (initial_with (world_of c).profile.offloads memory)) below is
 coming_does q c memory (Some fault) below is = does_nothing q c is
 
 going_does : (q : ℕ) (c : CardState) (b : Bool) → q < 64 → IsCard c

@@ -1,6 +1,7 @@
 -- A card: a device with its host, and the end of each function's connection.
 use Rattle.std.specs.Prelude.{◌≡◌, ◌≢◌, ℕ, Bool, false, List, replicate, slice_index, slice_index_or, slice_set}
 use Rattle.irq_causes.specs.Messages.{no_messages}
+use Rattle.offload.specs.declared.offloads.Offloads.{Offloads}
 use Rattle.mailbox.specs.State.{HostState}
 use Rattle.vfio_session.specs.Sessions.{SessionState, fresh}
 use Rattle.hosted.specs.Hosted.{HostedState, IsBegun, LeavesOthers}
@@ -31,9 +32,9 @@ with_end c p e = record c { ends = slice_set c.ends p e }
 abbrev pub cleared : CardState → ℕ → CardState
 cleared c p = record c { ends = slice_set c.ends p quiet; raised = slice_set c.raised p 0 }
 
--- as it is made
-pub record IsMade (begins : HostState) (sizes : List ℕ) (c : CardState) : Type 0 where
-  pub hosted : IsBegun begins sizes c.hosted
+-- as it is made, with these offloads
+pub record IsMade (begins : HostState) (offloads : Offloads) (sizes : List ℕ) (c : CardState) : Type 0 where
+  pub hosted : IsBegun begins offloads sizes c.hosted
   pub ends : c.ends ≡ replicate 64 quiet
   pub raised : c.raised ≡ no_messages
 

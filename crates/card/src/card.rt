@@ -1,5 +1,7 @@
 //! The card.
 ghost use Rattle.std.specs.Prelude.{◌≡◌, ◌≤◌, ◌&&◌, false, true, nat_le, length, map, replicate, Err, IfErr, IfOk};
+ghost use Rattle.vf_unit.specs.Unit.{shortfalls_of};
+ghost use Rattle.device.specs.World.{function_of};
 ghost use Rattle.device.specs.Guests.{is_for_guests};
 ghost use Rattle.hosted.specs.Hosted.{host_of_ids};
 ghost use Rattle.card.specs.Alike.{IsCard};
@@ -8,6 +10,7 @@ ghost use Rattle.card.specs.Card.{IsMade, quiet};
 use hosted::HostedDevice;
 use irq_causes::Messages;
 use live_memory::Dma;
+use offload::Offloads;
 use std::alloc::{AllocError, Global};
 use std::marker::Model;
 use vfio_session::Session;
@@ -69,7 +72,7 @@ impl<D: Dma<K>, K> Model for Card<D, K> {
 
 impl<D: Dma<K>, K> Card<D, K> {
     /// A card of closed functions, each over one of the memories, 1 to 64, where one of no bytes is vacant. What a policy may name, the
-    /// pool that takes what no pool accepts, and how long a frame may be, are as
+    /// pool that takes what no pool accepts, how long a frame may be, and the offloads are as
     /// [`HostedDevice::for_guests`](hosted::HostedDevice::for_guests) says. No later call takes memory.
     ///
     /// [`Fault::BadMake`] comes exactly where there are more than 64 ids, no memories or more than 64, or one has more than 2^46 bytes;
@@ -80,8 +83,9 @@ impl<D: Dma<K>, K> Card<D, K> {
         ids: &[Vid],
         default_pool: Option<PoolId>,
         limit: FrameLimit,
+        offloads: Offloads,
     ) -> Result<Card<D, K>, Fault>
-        ensures made { IfOk result (IsMade (host_of_ids ids.now default_pool limit)
+        ensures made { IfOk result (IsMade (host_of_ids ids.now default_pool limit) offloads
             (map (λ m. length (D.seen m)) memories.items)) }
         ensures untouched { IfOk result (λ c.
             c.hosted.device.accesses ≡ map (λ m. D.noted m) memories.items) }
@@ -92,7 +96,7 @@ impl<D: Dma<K>, K> Card<D, K> {
             && is_for_guests (map (λ m. length (D.seen m)) memories.items)) ≡ true
             → e ≡ Fault.NoMemory) }
     {
-        let hosted = HostedDevice::for_guests(alloc, memories, ids, default_pool, limit)?;
+        let hosted = HostedDevice::for_guests(alloc, memories, ids, default_pool, limit, offloads)?;
         let ends = quiet_ends(alloc)?;
         Ok(Card {
             hosted,
@@ -111,6 +115,14 @@ impl<D: Dma<K>, K> Card<D, K> {
         self.raised.masks_are_small();
         let _ends = self.ends.len();
         self.hosted.functions()
+    }
+
+    /// How often something that a function's driver left to the card could not be done, as
+    /// [`HostedDevice::shortfalls`](hosted::HostedDevice::shortfalls) says.
+    pub fn shortfalls(&self, pool: PoolId) -> u32
+        ensures { result ≡ shortfalls_of (function_of pool self.now.hosted.device.world) }
+    {
+        self.hosted.shortfalls(pool)
     }
 }
 

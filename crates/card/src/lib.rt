@@ -26,6 +26,7 @@
 //!     &[Vid::of_tag(0)],
 //!     None,
 //!     FrameLimit::standard(),
+//!     Offloads::none(),
 //! )?;
 //! let pool = PoolId::new(0).ok_or("no such pool")?;
 //! // a guest comes, with 64 TiB of addresses, of which its client will map some

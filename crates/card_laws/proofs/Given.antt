@@ -210,7 +210,7 @@ kept_same laws group p c d (PfRead offset) b free none same = refl
 kept_same laws group p c d (PfWrite offset x) b free none same = absurd (true≢false none)
 kept_same laws group p c d PfReset b free none same = absurd (true≢false none)
 kept_same laws group p c d (Wire frame) b free none same =
-    let limit : (world_of c).limit ≡ (world_of d).limit = ap (λ (r : Part). r.lone.limit) (alike_here group p c d b).part in
+    let limit : (world_of c).profile.limit ≡ (world_of d).profile.limit = ap (λ (r : Part). r.lone.profile.limit) (alike_here group p c d b).part in
     (λ i. if ltb (limit i) (length frame) then None else (if wire_same group p c d frame b (some_is same) i then Some (Offer frame false) else None))
 
 loses_same : (group : ℕ → Bool) (p q : ℕ) (policy : Policy) (c d : CardState) → Pair group p c d → loses_to c.hosted.host q policy p ≡ loses_to d.hosted.host q policy p

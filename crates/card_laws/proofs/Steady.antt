@@ -4,7 +4,7 @@ use Rattle.std.specs.Prelude.{if◌then◌else◌}
 use Rattle.std.specs.List.{All}
 use Rattle.std.proofs.lemmas.List.{length-set}
 use Rattle.wire_frame.specs.declared.fault.Fault.{Fault}
-use Rattle.vf_unit.specs.Function.{initial}
+use Rattle.vf_unit.specs.Function.{initial_with}
 use Rattle.vf_unit.specs.Guests.{moved_to}
 use Rattle.vf_unit.specs.Unit.{Closed, Open}
 use Rattle.device.specs.Across.{replaced}
@@ -58,7 +58,7 @@ forgot_many : (c : CardState) (w : World) (q : ℕ) → length (world_of (withou
 forgot_many c w q = as_many_after w (events_of c.hosted.host (Forgets q ∷ []))
 
 coming_many : (c : CardState) (q : ℕ) (memory : List ℕ) (r : Option Fault) → length (world_of (after_coming c q memory r)).functions ≡ length (world_of c).functions
-coming_many c q memory None = forgot_many c (attached (world_of c) q memory) q ∙ length-set (world_of c).functions q (Open (initial memory))
+coming_many c q memory None = forgot_many c (attached (world_of c) q memory) q ∙ length-set (world_of c).functions q (Open (initial_with (world_of c).profile.offloads memory))
 coming_many c q memory (Some fault) = refl
 
 going_many : (c : CardState) (q : ℕ) (b : Bool)

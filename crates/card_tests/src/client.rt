@@ -5,6 +5,7 @@ use live_memory::Shared;
 use live_run::Frames;
 use mailbox::{Notice, Policy, VlanPolicy};
 use mapped_memory::LiveMem;
+use offload::Offloads;
 use script_support::registers::{VFMAILBOX, VFMBMEM};
 use std::alloc::Global;
 use std::test::Fail;
@@ -43,7 +44,14 @@ impl<'a> Clients<'a> {
             memories.push(LiveMem::for_guest(alloc, 0)?)?;
         }
         let ids = [Vid::of_tag(0), Vid::of_tag(100)];
-        let card = Card::for_guests(alloc, memories, &ids, None, FrameLimit::standard())?;
+        let card = Card::for_guests(
+            alloc,
+            memories,
+            &ids,
+            None,
+            FrameLimit::standard(),
+            Offloads::none(),
+        )?;
         Ok(Clients {
             card,
             room: [0xA5; ROOM],

@@ -2,6 +2,7 @@
 use card::{Card, Step};
 use live_run::Frames;
 use mapped_memory::LiveMem;
+use offload::Offloads;
 use std::test::Fail;
 use vfio_session::{ROOM, Settled};
 use wire_frame::{FrameBuf, FrameLimit, PoolId, Vid};
@@ -17,6 +18,7 @@ fn example_of_card(rt: HostRuntime) -> Result<(), Fail> {
         &[Vid::of_tag(0)],
         None,
         FrameLimit::standard(),
+        Offloads::none(),
     )?;
     let pool = PoolId::new(0).ok_or("no such pool")?;
     // a guest comes, with 64 TiB of addresses, of which its client will map some

@@ -5,6 +5,7 @@ use Rattle.std.specs.Prelude.{◌&&◌, Option, None, Some, is_none, OnErr, Resu
 use Rattle.std.proofs.lemmas.Bool.Decides.{nat_tests}
 use Rattle.wire_frame.specs.declared.fault.Fault.{Fault}
 use Rattle.wire_frame.specs.declared.fault.Fault.TheVariants.{BadMake}
+use Rattle.offload.specs.declared.offloads.Offloads.{Offloads}
 use Rattle.device.specs.Guests.{is_for_guests}
 use Rattle.device.specs.Events.{Event}
 use Rattle.std.proofs.lemmas.List.Elements.{All-cons, All-nil}
@@ -12,7 +13,7 @@ use Rattle.std.proofs.lemmas.List.{append-nil, get_or-set_other, map-append, len
 use Rattle.device.specs.declared.event.Event.TheVariants.{Flr, VfWrite}
 use Rattle.device.specs.Lone.{lone_of}
 use Rattle.device.proofs.Append.{world_after_append}
-use Rattle.device.specs.World.{World, fresh, is_frame_limit, step, with_function, world_after}
+use Rattle.device.specs.World.{World, fresh_with, is_frame_limit, step, with_function, world_after}
 use Rattle.device.proofs.LiveLemmas.{length_told}
 use Rattle.device.proofs.Shape.{step_shape}
 use Rattle.device.specs.Live.{TracedWorld, told_world}
@@ -41,7 +42,7 @@ use Rattle.mailbox.specs.Host.{host_without}
 use Rattle.mailbox.specs.Mailbox.{MailboxState, after_reset, blank}
 use Rattle.mailbox_laws.specs.Turns.Turn.{Admits, Answers, Dismisses, Forgets, Happens}
 use Rattle.pool_filter.specs.Own.{own}
-use Rattle.hosted.specs.Hosted.{HaveTaken, HostedState, IsBegun, IsHosted, LeavesOthers, LeavesUnconcerned, mailbox_at, with_world}
+use Rattle.hosted.specs.Hosted.{HaveTaken, HostedState, IsBegun, IsHosted, LeavesOthers, LeavesUnconcerned, mailbox_at, profile_for, with_world}
 use Rattle.hosted.specs.Turns.{mail_turns, mailed, reset_turns, takes, write_turns}
 use Rattle.hosted.proofs.Others.{IsOf, are_turns, box_stays, leaves_others, own_dismiss, own_forget, own_reset, own_write}
 
@@ -113,14 +114,14 @@ stays_live old new before now e is none world host boxes = record {
 }
 
 -- as it is made
-pub begins : (h : HostedState) (host : HostState) (sizes : List ℕ) → IsBegun host sizes h → IsWithin host → length host.ids ≤ 64 → length host.slots ≡ 64 → length sizes ≤ 64 → IsHosted h
-begins h host sizes is within ids slots few = record {
-  settings = ap (λ (w : World). w.settings) is.world ∙ first_run host host.limit sizes ∙ ap settings_of (sym is.host);
+pub begins : (h : HostedState) (host : HostState) (offloads : Offloads) (sizes : List ℕ) → IsBegun host offloads sizes h → IsWithin host → length host.ids ≤ 64 → length host.slots ≡ 64 → length sizes ≤ 64 → IsHosted h
+begins h host offloads sizes is within ids slots few = record {
+  settings = ap (λ (w : World). w.settings) is.world ∙ first_run host (profile_for host offloads) sizes ∙ ap settings_of (sym is.host);
   within = subst IsWithin (sym is.host) within;
   ids = subst (λ (k : HostState). length k.ids ≤ 64) (sym is.host) ids;
   slots = ap (λ (k : HostState). length k.slots) is.host ∙ slots;
   functions = subst (λ (n : ℕ). n ≤ 64)
-      (sym (ap (λ (w : World). length w.functions) is.world ∙ as_many (fresh host.limit sizes) (write_events (first_writes host)) ∙ length-map sizes Closed)) few;
+      (sym (ap (λ (w : World). length w.functions) is.world ∙ as_many (fresh_with (profile_for host offloads) sizes) (write_events (first_writes host)) ∙ length-map sizes Closed)) few;
   many = ap length is.mailboxes;
 }
 
@@ -171,7 +172,7 @@ moved old new p mid below is (f, at) world host within boxes =
       hosted = then.hosted;
       others = record {
         functions = λ q inside other. then.others.functions q (subst (λ (n : ℕ). q < n) (sym many) inside) other
-            ∙ ap (lone_of q) at ∙ ap (λ (g : Function). record { limit = old.device.world.limit; function = g; settings = own old.device.world.settings q }) (get_or-set_other old.device.world.functions p q f (Closed 0) other);
+            ∙ ap (lone_of q) at ∙ ap (λ (g : Function). record { profile = old.device.world.profile; function = g; settings = own old.device.world.settings q }) (get_or-set_other old.device.world.functions p q f (Closed 0) other);
         slots = then.others.slots;
         mailboxes = then.others.mailboxes;
       };
@@ -280,7 +281,7 @@ remade p old new f is world host boxes = record {
     many = ap length boxes ∙ is.many;
   };
   others = record {
-    functions = λ q inside other. ap (lone_of q) world ∙ ap (λ (g : Function). record { limit = old.device.world.limit; function = g; settings = own old.device.world.settings q }) (get_or-set_other old.device.world.functions p q f (Closed 0) other);
+    functions = λ q inside other. ap (lone_of q) world ∙ ap (λ (g : Function). record { profile = old.device.world.profile; function = g; settings = own old.device.world.settings q }) (get_or-set_other old.device.world.functions p q f (Closed 0) other);
     slots = λ q other. ap (λ (h : HostState). slot_at h q) host;
     mailboxes = λ q other. ap (λ (ms : List MailboxState). get_or ms q blank) boxes;
   };

@@ -2,7 +2,9 @@
 use Rattle.std.specs.Prelude.{◌≡◌, ◌≢◌, false, ℕ, ◌<◌, ◌≤◌, List, Option, length, replicate, slice_index_or}
 use Rattle.device.specs.Live.{TracedWorld}
 use Rattle.device.specs.Lone.{lone_of}
-use Rattle.device.specs.World.{World, fresh, world_after}
+use Rattle.offload.specs.declared.offloads.Offloads.{Offloads}
+use Rattle.device.specs.declared.profile.Profile.{Profile}
+use Rattle.device.specs.World.{World, fresh_with, world_after}
 use Rattle.mailbox.specs.Mailbox.{MailboxState, blank}
 use Rattle.mailbox.specs.declared.slot.Slot.TheVariants.{Absent}
 use Rattle.mailbox.specs.Start.{first_writes}
@@ -38,11 +40,15 @@ pub record IsHosted (h : HostedState) : Type 0 where
 abbrev pub host_of_ids : List ℕ → Option ℕ → ℕ → HostState
 host_of_ids ids pool limit = record { slots = replicate 64 Absent; ids = ids; default_pool = pool; limit = limit }
 
+-- what its device is made with: the host's limit, and these offloads
+abbrev pub profile_for : HostState → Offloads → Profile
+profile_for host offloads = record { limit = host.limit; offloads = offloads }
+
 -- as it is made: a device of closed functions over memories of these sizes, every register of whose physical function has the word that it
 -- has for the host, and mailboxes in which nothing stands
-pub record IsBegun (begins : HostState) (sizes : List ℕ) (h : HostedState) : Type 0 where
+pub record IsBegun (begins : HostState) (offloads : Offloads) (sizes : List ℕ) (h : HostedState) : Type 0 where
   pub host : h.host ≡ begins
-  pub world : h.device.world ≡ world_after (fresh begins.limit sizes) (write_events (first_writes begins))
+  pub world : h.device.world ≡ world_after (fresh_with (profile_for begins offloads) sizes) (write_events (first_writes begins))
   pub mailboxes : h.mailboxes ≡ replicate 64 blank
 
 -- turns were taken, in order: the device had their events, writes of the physical function's registers among them, and the host is as

@@ -1,7 +1,8 @@
 //! The device with its host.
 ghost use Rattle.std.specs.Prelude.{◌≡◌, ◌≤◌, ◌&&◌, false, true, nat_le, length, map, replicate, Err, IfErr, IfOk};
 ghost use Rattle.device.specs.Guests.{is_for_guests};
-ghost use Rattle.device.specs.World.{fresh, world_after};
+ghost use Rattle.vf_unit.specs.Unit.{shortfalls_of};
+ghost use Rattle.device.specs.World.{function_of, world_after};
 ghost use Rattle.mailbox.specs.Mailbox.{blank};
 ghost use Rattle.mailbox.specs.Start.{first_writes};
 ghost use Rattle.mailbox_laws.specs.Turns.{write_events};
@@ -10,6 +11,7 @@ ghost use Rattle.hosted.specs.Hosted.{IsBegun, IsHosted, host_of_ids};
 use device::Device;
 use live_memory::Dma;
 use mailbox::{Host, Mailbox};
+use offload::Offloads;
 use std::alloc::{AllocError, Global};
 use std::marker::Model;
 use wire_frame::{Fault, FrameLimit, PoolId, Vid};
@@ -41,7 +43,7 @@ impl<D: Dma<K>, K> HostedDevice<D, K> {
     /// A device of closed functions, each over one of the memories, 1 to 64, where one of no bytes is vacant, and a host whose policies
     /// may name these VLAN ids, at most 64. Every register of the physical function has the word that it has for this host: no function
     /// may receive or send, until a policy admits it and its driver asks. The pool, if one is given, takes what no pool accepts. No byte of a
-    /// memory is read or written.
+    /// memory is read or written. The device has these offloads for the driver of each guest that comes.
     ///
     /// [`Fault::BadMake`] comes exactly where there are more than 64 ids, no memories or more than 64, or one has more than 2^46 bytes;
     /// [`Fault::NoMemory`] only where the host refused the room.
@@ -51,8 +53,9 @@ impl<D: Dma<K>, K> HostedDevice<D, K> {
         ids: &[Vid],
         default_pool: Option<PoolId>,
         limit: FrameLimit,
+        offloads: Offloads,
     ) -> Result<HostedDevice<D, K>, Fault>
-        ensures begun { IfOk result (IsBegun (host_of_ids ids.now default_pool limit)
+        ensures begun { IfOk result (IsBegun (host_of_ids ids.now default_pool limit) offloads
             (map (λ m. length (D.seen m)) memories.items)) }
         ensures untouched { IfOk result (λ h. h.device.accesses ≡ map (λ m. D.noted m) memories.items) }
         ensures bad_make { (nat_le (length ids.now) 64 && is_for_guests
@@ -65,7 +68,7 @@ impl<D: Dma<K>, K> HostedDevice<D, K> {
         let Some(host) = Host::new(ids, default_pool, limit) else {
             return Err(Fault::BadMake);
         };
-        let mut device = Device::for_guests(alloc, memories, limit.get())?;
+        let mut device = Device::for_guests(alloc, memories, limit.get(), offloads)?;
         let mailboxes = blank_mailboxes(alloc)?;
         bring_up(&mut device, &host);
         Ok(HostedDevice {
@@ -83,6 +86,19 @@ impl<D: Dma<K>, K> HostedDevice<D, K> {
         ensures stands { IsHosted self.now }
     {
         self.device.functions()
+    }
+
+    /// How often something that a function's driver left to the device could not be done, modulo 2^32: sums that a frame then lacks, or
+    /// segments, where the whole frame is dropped. 0 where there is no such function, or it is closed.
+    pub fn shortfalls(&self, pool: PoolId) -> u32
+        ensures { result ≡ shortfalls_of (function_of pool self.now.device.world) }
+    {
+        let index = usize::from(pool.get());
+        if index < self.device.functions() {
+            self.device.shortfalls(index)
+        } else {
+            0
+        }
     }
 }
 

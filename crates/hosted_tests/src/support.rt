@@ -3,6 +3,7 @@ use hosted::HostedDevice;
 use live_memory::Shared;
 use mailbox::{Policy, VlanPolicy};
 use mapped_memory::LiveMem;
+use offload::Offloads;
 use script_support::registers::{VFMAILBOX, VFMBMEM};
 use std::alloc::Global;
 use std::test::Fail;
@@ -18,7 +19,14 @@ pub fn vacant(alloc: Global) -> Result<Hosted<'static>, Fail> {
         memories.push(LiveMem::for_guest(alloc, 0)?)?;
     }
     let ids = [Vid::of_tag(0), Vid::of_tag(100)];
-    Ok(HostedDevice::for_guests(alloc, memories, &ids, None, FrameLimit::standard())?)
+    Ok(HostedDevice::for_guests(
+        alloc,
+        memories,
+        &ids,
+        None,
+        FrameLimit::standard(),
+        Offloads::none(),
+    )?)
 }
 
 /// The pool of a number.

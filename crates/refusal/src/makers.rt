@@ -14,6 +14,7 @@ use lock_support::{answer, frame_to_3, is_scripted, line_of, locked, recorded};
 use mapped_memory::LiveMem;
 use modes::Mode;
 use modes::drive::drive;
+use offload::Offloads;
 use std::alloc::Global;
 use std::sync::Wait;
 use std::sync::ledger::{Blank, Ledger};
@@ -58,6 +59,7 @@ pub fn card(alloc: Global) -> Came {
         &[Vid::of_tag(0)],
         None,
         FrameLimit::standard(),
+        Offloads::none(),
     ) {
         Ok(card) => Came::whole(card.functions() == 3),
         Err(fault) => Came::refused(fault, true),

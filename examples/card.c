@@ -171,7 +171,7 @@ int main(void)
     static const uint16_t ids[] = {0};
     if (vfdev_version() != VFDEV_VERSION)
         return 1;
-    must(vfdev_card_make(&card, GUESTS, ids, 1, VFDEV_CARD_NOBODY, 1518));
+    must(vfdev_card_make(&card, GUESTS, ids, 1, VFDEV_CARD_NOBODY, 1518, 0));
     for (uint8_t guest = 0; guest < GUESTS; guest++) {
         /* the administrator's word: an address, and VLAN 0 */
         const vfdev_card_policy policy = {.address = {2, 0, 0, 0, 0, guest}, .link_up = 1, .joins = 1};

@@ -5,7 +5,7 @@
 use std::alloc::{alloc_zeroed, dealloc, handle_alloc_error, Layout};
 use std::error::Error;
 use std::ptr::NonNull;
-use vfdev::card::{Access, Card, Order, Policy, Step, Vlans, ROOM};
+use vfdev::card::{Access, Card, Offloads, Order, Policy, Step, Vlans, ROOM};
 use vfdev::regs;
 
 const GUESTS: u8 = 2;
@@ -227,7 +227,7 @@ impl Shell {
 }
 
 fn main() -> Result<(), Box<dyn Error>> {
-    let card = Card::new(u32::from(GUESTS), &[0], None, 1518)?;
+    let card = Card::new(u32::from(GUESTS), &[0], None, 1518, Offloads::NONE)?;
     let memories = (0..GUESTS).map(|_| Memory::new()).collect();
     let mut shell = Shell {
         card,

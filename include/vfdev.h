@@ -44,7 +44,7 @@ extern "C" {
 #endif
 
 /* The version of this interface, which vfdev_version answers. It grows with each change that a caller has to know. */
-#define VFDEV_VERSION 1u
+#define VFDEV_VERSION 2u
 /* The release that this header came with, as text. Two releases may have the same interface. */
 #define VFDEV_RELEASE "0.1.0"
 

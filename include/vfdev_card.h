@@ -35,6 +35,18 @@ extern "C" {
 /* No function, where one may be named. */
 #define VFDEV_CARD_NOBODY 255u
 
+/* What a card does for the drivers of its guests beyond frames as they stand: flags of vfdev_card_make, which no later call changes. */
+/* It inserts the VLAN tag of a context descriptor where a data descriptor asks for it (VLE). */
+#define VFDEV_OFFLOAD_VLAN 1u
+/* It makes the checksums that a data descriptor asks for (IXSM, TXSM). */
+#define VFDEV_OFFLOAD_CHECKSUM 2u
+/* It cuts the TCP data of a frame into segments where a data descriptor asks for it (TSE). */
+#define VFDEV_OFFLOAD_SEGMENTATION 4u
+/* It masks a vector by itself when it issues its message, where the driver asks for it (VTEIAM). */
+#define VFDEV_OFFLOAD_AUTO_MASK 8u
+/* It takes legacy receive descriptors (SRRCTL.DESCTYPE 0). */
+#define VFDEV_OFFLOAD_LEGACY_RECEIVE 16u
+
 /* A handle. It is empty, or holds a card. */
 typedef struct vfdev_card {
     bool live;
@@ -126,11 +138,11 @@ typedef struct vfdev_card_more_result {
 
 /* Makes a card of so many vacant functions, 1 to 64. Policies may name the VLAN ids by their places, at most 64 ids of 0 to 4095. Frames that
  * nobody accepts go to the default function, a number below 64; they are dropped where it is VFDEV_CARD_NOBODY, or one that the card doesn't
- * have. Frames have up to `limit` bytes, 1518 to 9018.
- * VFDEV_HELD where the handle holds a card; VFDEV_BAD_MAKE exactly where a number is outside its limits; VFDEV_NO_MEMORY only where the host
- * refused. Some 500 KB are taken, and 5 KB for each function. */
+ * have. Frames have up to `limit` bytes, 1518 to 9018. `offloads` are flags VFDEV_OFFLOAD_.. that are or-ed, 0 for none.
+ * VFDEV_HELD where the handle holds a card; VFDEV_BAD_MAKE exactly where a number is outside its limits, or another flag is set; VFDEV_NO_MEMORY only
+ * where the host refused. Some 500 KB are taken, and 5 KB for each function. */
 VFDEV_LOOK uint32_t vfdev_card_make(vfdev_card *card, uint32_t functions, const uint16_t *ids, size_t ids_len, uint8_t default_function,
-                                    uint16_t limit);
+                                    uint16_t limit, uint32_t offloads);
 
 /* Frees what the handle holds. Blocks that were mapped are the caller's again. */
 void vfdev_card_free(vfdev_card *card);
@@ -170,7 +182,8 @@ void vfdev_card_receive(vfdev_card *card, uint8_t function, const uint8_t *messa
 
 /* ---- frames and interrupts */
 
-/* Takes descriptors of a function's busy transmit queues, 128 of each at most. */
+/* Takes descriptors of a function's busy transmit queues, and sends segments of frames that are cut: 128 services of each at most, of one
+ * descriptor or one segment. */
 VFDEV_LOOK vfdev_card_more_result vfdev_card_more(vfdev_card *card, uint8_t function);
 
 /* The frame of that number, of those that left at the last vfdev_card_more: its length, and its bytes at the front of `out`. 0 where there is
@@ -179,6 +192,10 @@ VFDEV_LOOK size_t vfdev_card_frame(vfdev_card *card, uint32_t number, uint8_t *o
 
 /* Whether a transmit queue of the function may have descriptors that were not taken. */
 bool vfdev_card_is_busy(vfdev_card *card, uint8_t function);
+
+/* How often something that the function's driver left to the card could not be done, modulo 2^32, since its guest came or it was reset: sums
+ * that a frame then lacks, or segments, where the whole frame is dropped. 0 where there is no such function. */
+uint32_t vfdev_card_shortfalls(vfdev_card *card, uint8_t function);
 
 /* A frame comes from the wire. VFDEV_DONE; VFDEV_REFUSED with VFDEV_BAD_FRAME; VFDEV_NO_DEVICE where the handle is empty. */
 vfdev_reply vfdev_card_wire(vfdev_card *card, const uint8_t *frame, size_t len);

@@ -35,6 +35,9 @@
 /* The causes that are cleared automatically. */
 #define VFDEV_VTEIAC 0x110u
 
+/* The vectors that are masked automatically. */
+#define VFDEV_VTEIAM 0x114u
+
 /* The vectors of the queues. */
 #define VFDEV_VTIVAR 0x120u
 #define VFDEV_VTIVAR_RX0(x) ((uint32_t)(x) << 0) /* of receive queue 0 */
@@ -68,7 +71,7 @@
 #define VFDEV_SRRCTL(q) (0x1014u + 0x40u * (uint32_t)(q))
 #define VFDEV_SRRCTL_BSIZEPACKET(x) ((uint32_t)(x) << 0) /* the size of a buffer in KiB */
 #define VFDEV_SRRCTL_BSIZEPACKET_MASK 0x1Fu
-#define VFDEV_SRRCTL_DESCTYPE(x) ((uint32_t)(x) << 25) /* the type of the descriptors: 1 is advanced with one buffer */
+#define VFDEV_SRRCTL_DESCTYPE(x) ((uint32_t)(x) << 25) /* the type of the descriptors: 1 is advanced with one buffer, 0 is legacy */
 #define VFDEV_SRRCTL_DESCTYPE_MASK 0xE000000u
 #define VFDEV_SRRCTL_DROP_EN (1u << 28) /* frames without room are dropped; always 1 */
 
@@ -189,7 +192,7 @@
 
 /* ---- words of descriptors ---- */
 
-/* The second word of a receive descriptor that was written back. */
+/* The second word of an advanced receive descriptor that was written back. */
 #define VFDEV_RXD_DD ((uint64_t)1 << 0) /* done */
 #define VFDEV_RXD_EOP ((uint64_t)1 << 1) /* the last of the frame */
 #define VFDEV_RXD_VP ((uint64_t)1 << 3) /* a tag was stripped */
@@ -198,6 +201,15 @@
 #define VFDEV_RXD_LENGTH_MASK 0xFFFF00000000ull
 #define VFDEV_RXD_VLAN(x) ((uint64_t)(x) << 48) /* the tag control that was stripped */
 #define VFDEV_RXD_VLAN_MASK 0xFFFF000000000000ull
+
+/* The second word of a legacy receive descriptor that was written back. */
+#define VFDEV_RXL_LENGTH(x) ((uint64_t)(x) << 0) /* bytes of the piece */
+#define VFDEV_RXL_LENGTH_MASK 0xFFFFull
+#define VFDEV_RXL_DD ((uint64_t)1 << 32) /* done */
+#define VFDEV_RXL_EOP ((uint64_t)1 << 33) /* the last of the frame */
+#define VFDEV_RXL_VP ((uint64_t)1 << 35) /* a tag was stripped */
+#define VFDEV_RXL_VLAN(x) ((uint64_t)(x) << 48) /* the tag control that was stripped */
+#define VFDEV_RXL_VLAN_MASK 0xFFFF000000000000ull
 
 /* The second word of a transmit descriptor. */
 #define VFDEV_TXD_LENGTH(x) ((uint64_t)(x) << 0) /* bytes */
@@ -210,7 +222,28 @@
 #define VFDEV_TXD_VLE ((uint64_t)1 << 30) /* insert a tag */
 #define VFDEV_TXD_TSE ((uint64_t)1 << 31) /* of an advanced one: segment */
 #define VFDEV_TXD_DD ((uint64_t)1 << 32) /* done */
+#define VFDEV_TXD_IDX ((uint64_t)1 << 36) /* of an advanced one: which context is meant */
+#define VFDEV_TXD_IXSM ((uint64_t)1 << 40) /* of an advanced one: sum the IPv4 header */
+#define VFDEV_TXD_TXSM ((uint64_t)1 << 41) /* of an advanced one: sum what stands behind the IP header */
 #define VFDEV_TXD_VLAN(x) ((uint64_t)(x) << 48) /* of a legacy one: the tag control */
 #define VFDEV_TXD_VLAN_MASK 0xFFFF000000000000ull
+
+/* The first word of a context descriptor. */
+#define VFDEV_TXC_FIRST_IPLEN(x) ((uint64_t)(x) << 0) /* bytes of the IP header */
+#define VFDEV_TXC_FIRST_IPLEN_MASK 0x1FFull
+#define VFDEV_TXC_FIRST_MACLEN(x) ((uint64_t)(x) << 9) /* bytes in front of it */
+#define VFDEV_TXC_FIRST_MACLEN_MASK 0xFE00ull
+#define VFDEV_TXC_FIRST_VLAN(x) ((uint64_t)(x) << 16) /* the tag control to insert */
+#define VFDEV_TXC_FIRST_VLAN_MASK 0xFFFF0000ull
+
+/* The second word of a context descriptor, whose DTYP and DEXT are those of TXD. */
+#define VFDEV_TXC_SECOND_IPV4 ((uint64_t)1 << 10) /* the IP header is one of IPv4, else of IPv6 */
+#define VFDEV_TXC_SECOND_L4T(x) ((uint64_t)(x) << 11) /* the protocol behind it: 0 is UDP, 1 TCP, 2 SCTP */
+#define VFDEV_TXC_SECOND_L4T_MASK 0x1800ull
+#define VFDEV_TXC_SECOND_IDX ((uint64_t)1 << 36) /* which context it sets */
+#define VFDEV_TXC_SECOND_L4LEN(x) ((uint64_t)(x) << 40) /* bytes of the TCP header */
+#define VFDEV_TXC_SECOND_L4LEN_MASK 0xFF0000000000ull
+#define VFDEV_TXC_SECOND_MSS(x) ((uint64_t)(x) << 48) /* the most bytes of payload of a segment */
+#define VFDEV_TXC_SECOND_MSS_MASK 0xFFFF000000000000ull
 
 #endif

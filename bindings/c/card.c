@@ -1,6 +1,7 @@
-/* The calls of vfdev_card.h, by numbers worked out by hand: makers and freeing, guests and their regions, messages of a client, frames, and
- * policies. It writes nothing, and ends with 0, where all is as it should be. */
+/* The calls of vfdev_card.h, by numbers worked out by hand: makers and freeing, guests and their regions, messages of a client, frames,
+ * policies, and what a driver leaves to a card. It writes nothing, and ends with 0, where all is as it should be. */
 #include "client.h"
+#include "vfdev_regs.h"
 
 static uint8_t memory[0x3000], other[0x3000], frame[VFDEV_MOST_FRAME];
 static const uint16_t ids[] = {0, 7};
@@ -9,15 +10,16 @@ static void makers(vfdev_card *card)
 {
     const uint16_t past[] = {4096};
     EQUAL(vfdev_card_functions(card), 0);
-    EQUAL(vfdev_card_make(card, 0, ids, 2, VFDEV_CARD_NOBODY, 1518), VFDEV_BAD_MAKE);
-    EQUAL(vfdev_card_make(card, 65, ids, 2, VFDEV_CARD_NOBODY, 1518), VFDEV_BAD_MAKE);
-    EQUAL(vfdev_card_make(card, 2, past, 1, VFDEV_CARD_NOBODY, 1518), VFDEV_BAD_MAKE);
-    EQUAL(vfdev_card_make(card, 2, ids, 2, 64, 1518), VFDEV_BAD_MAKE);
-    EQUAL(vfdev_card_make(card, 2, ids, 2, VFDEV_CARD_NOBODY, 1517), VFDEV_BAD_MAKE);
+    EQUAL(vfdev_card_make(card, 0, ids, 2, VFDEV_CARD_NOBODY, 1518, 0), VFDEV_BAD_MAKE);
+    EQUAL(vfdev_card_make(card, 65, ids, 2, VFDEV_CARD_NOBODY, 1518, 0), VFDEV_BAD_MAKE);
+    EQUAL(vfdev_card_make(card, 2, past, 1, VFDEV_CARD_NOBODY, 1518, 0), VFDEV_BAD_MAKE);
+    EQUAL(vfdev_card_make(card, 2, ids, 2, 64, 1518, 0), VFDEV_BAD_MAKE);
+    EQUAL(vfdev_card_make(card, 2, ids, 2, VFDEV_CARD_NOBODY, 1517, 0), VFDEV_BAD_MAKE);
+    EQUAL(vfdev_card_make(card, 2, ids, 2, VFDEV_CARD_NOBODY, 1518, 32), VFDEV_BAD_MAKE);
     EQUAL(vfdev_card_attach(card, 0), VFDEV_CARD_NO_CARD);
     EQUAL(say(card, 0, version, 0).kind, VFDEV_STEP_NO_CARD);
-    EQUAL(vfdev_card_make(card, 2, ids, 2, VFDEV_CARD_NOBODY, 1518), VFDEV_OK);
-    EQUAL(vfdev_card_make(card, 2, ids, 2, VFDEV_CARD_NOBODY, 1518), VFDEV_HELD);
+    EQUAL(vfdev_card_make(card, 2, ids, 2, VFDEV_CARD_NOBODY, 1518, 0), VFDEV_OK);
+    EQUAL(vfdev_card_make(card, 2, ids, 2, VFDEV_CARD_NOBODY, 1518, 0), VFDEV_HELD);
     EQUAL(vfdev_card_functions(card), 2);
 }
 
@@ -161,6 +163,82 @@ static void frames(vfdev_card *card)
     EQUAL(memory[0x100C], 60);
 }
 
+/* The sum of words of two bytes in ones' complement, and of a number before: all ones where a sum among them is right. */
+static uint32_t sum(const uint8_t *bytes, size_t size, uint32_t before)
+{
+    for (size_t at = 0; at < size; at++) {
+        before += at % 2 ? bytes[at] : (uint32_t)bytes[at] << 8;
+    }
+    while (before > 0xFFFF) {
+        before = (before & 0xFFFF) + (before >> 16);
+    }
+    return before;
+}
+
+/* A guest of a card that does everything for drivers, and a frame of 250 bytes of TCP data. */
+static void begin_full(vfdev_card *card)
+{
+    static const uint8_t headers[54] = {2, 0, 0, 0, 0, 9, 0x02, 0x82, 0x59, 0, 0, 1, 8, 0, 0x45, [18] = 1, 2, [22] = 64, 6,
+                                        [26] = 10, 0, 0, 1, 10, 0, 0, 2, [46] = 0x50, 0x19};
+    const uint32_t driver[][2] = {{0x200, 1}, {0x2FC, 4}, {0x2FC, 1}, {VFDEV_TDBAL(0), 0x1000}, {VFDEV_TDLEN(0), 128},
+                                  {VFDEV_TXDCTL(0), VFDEV_TXDCTL_ENABLE}};
+    const vfdev_card_policy first = policy(1);
+    EQUAL(vfdev_card_make(card, 1, ids, 2, VFDEV_CARD_NOBODY, 1518,
+                          VFDEV_OFFLOAD_VLAN | VFDEV_OFFLOAD_CHECKSUM | VFDEV_OFFLOAD_SEGMENTATION | VFDEV_OFFLOAD_AUTO_MASK |
+                              VFDEV_OFFLOAD_LEGACY_RECEIVE), VFDEV_OK);
+    EQUAL(vfdev_card_admit(card, 0, &first).refusal, VFDEV_ADMITTED);
+    EQUAL(vfdev_card_attach(card, 0), VFDEV_OK);
+    EQUAL(vfdev_card_map(card, 0, 0, (vfdev_block){memory, sizeof memory}, false), VFDEV_OK);
+    say(card, 0, version, 0);
+    for (size_t at = 0; at < sizeof driver / sizeof *driver; at++) {
+        write_register(card, 0, driver[at][0], driver[at][1]);
+    }
+    memset(memory, 0x5A, sizeof memory);
+    memcpy(memory + 0x2000, headers, sizeof headers);
+}
+
+/* Its driver has the frame cut under a context of this protocol, which stands at that place of the ring. */
+static vfdev_card_more_result cut(vfdev_card *card, uint32_t place, uint64_t protocol)
+{
+    const uint64_t words[4] = {
+        VFDEV_TXC_FIRST_MACLEN(14) | VFDEV_TXC_FIRST_IPLEN(20),
+        VFDEV_TXD_DEXT | VFDEV_TXD_DTYP(2) | VFDEV_TXC_SECOND_IPV4 | VFDEV_TXC_SECOND_L4T(protocol) | VFDEV_TXC_SECOND_L4LEN(20) |
+            VFDEV_TXC_SECOND_MSS(100),
+        0x2000,
+        VFDEV_TXD_DEXT | VFDEV_TXD_DTYP(3) | VFDEV_TXD_EOP | VFDEV_TXD_RS | VFDEV_TXD_TSE | VFDEV_TXD_LENGTH(304)};
+    memcpy(memory + 0x1000 + 16 * place, words, sizeof words);
+    write_register(card, 0, VFDEV_TDT(0), place + 2);
+    return vfdev_card_more(card, 0);
+}
+
+/* Each segment has its lengths, its numbers, its flags and its sums; a frame of UDP can't be cut, and is counted. */
+static void offloads(void)
+{
+    vfdev_card card = VFDEV_CARD_NONE;
+    EQUAL(vfdev_card_shortfalls(&card, 0), 0);
+    begin_full(&card);
+    vfdev_card_more_result more = cut(&card, 0, 1);
+    EQUAL(more.frames, 3);
+    EQUAL(more.goes_on, 0);
+    for (uint32_t number = 0; number < 3; number++) {
+        const uint32_t size = number == 2 ? 50 : 100;
+        EQUAL(vfdev_card_frame(&card, number, frame, sizeof frame), 54 + size);
+        EQUAL(frame[17], 40 + size);
+        EQUAL(frame[18] << 8 | frame[19], 0x102 + number);
+        EQUAL(frame[41], 100 * number);
+        EQUAL(frame[47], number == 2 ? 0x19 : 0x10);
+        EQUAL(sum(frame + 14, 20, 0), 0xFFFF);
+        EQUAL(sum(frame + 34, 20 + size, sum(frame + 26, 8, 6 + 20 + size)), 0xFFFF);
+    }
+    EQUAL(memory[0x101C] & 1, 1);
+    EQUAL(vfdev_card_shortfalls(&card, 0), 0);
+    EQUAL(cut(&card, 2, 0).frames, 0);
+    EQUAL(memory[0x103C] & 1, 1);
+    EQUAL(vfdev_card_shortfalls(&card, 0), 1);
+    EQUAL(vfdev_card_shortfalls(&card, 64), 0);
+    vfdev_card_free(&card);
+}
+
 int main(void)
 {
     vfdev_card card = VFDEV_CARD_NONE;
@@ -182,5 +260,6 @@ int main(void)
     EQUAL(vfdev_card_flr(&card, 0), VFDEV_CARD_NO_CARD);
     EQUAL(vfdev_card_wire(&card, frame, 60).kind, VFDEV_NO_DEVICE);
     vfdev_card_free(&card);
+    offloads();
     return 0;
 }

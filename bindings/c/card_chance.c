@@ -52,7 +52,7 @@ static void begin(struct side *side)
 {
     const uint8_t arm[36] = {7, 0, 8, 0, 36, [16] = 20, [20] = 0x24, [24] = 2, [32] = 1};
     side->card = (vfdev_card)VFDEV_CARD_NONE;
-    EQUAL(vfdev_card_make(&side->card, 4, ids, 2, VFDEV_CARD_NOBODY, 1518), VFDEV_OK);
+    EQUAL(vfdev_card_make(&side->card, 4, ids, 2, VFDEV_CARD_NOBODY, 1518, 31), VFDEV_OK);
     for (uint8_t function = 0; function < 4; function++) {
         vfdev_card_policy granted = policy(function);
         if (function < 2) {

@@ -106,7 +106,7 @@ int main(void)
     static const uint16_t ids[] = {0};
     double comes = 1e9, goes = 1e9, began;
     uint64_t before;
-    EQUAL(vfdev_card_make(&card, FUNCTIONS, ids, 1, VFDEV_CARD_NOBODY, 1518), VFDEV_OK);
+    EQUAL(vfdev_card_make(&card, FUNCTIONS, ids, 1, VFDEV_CARD_NOBODY, 1518, 0), VFDEV_OK);
     before = resident();
     for (uint8_t function = 0; function < FUNCTIONS; function++) {
         const vfdev_card_policy granted = policy(function);

@@ -160,7 +160,7 @@ static void replace(unsigned guest)
 static void set_up(void)
 {
     static const uint16_t ids[] = {0, PORT_TAG};
-    EQUAL(vfdev_card_make(&card, FUNCTIONS, ids, 2, VFDEV_CARD_NOBODY, 1518), VFDEV_OK);
+    EQUAL(vfdev_card_make(&card, FUNCTIONS, ids, 2, VFDEV_CARD_NOBODY, 1518, 0), VFDEV_OK);
     memset(out, PATTERN, sizeof out);
     for (unsigned guest = 0; guest < FUNCTIONS; guest++) {
         vfdev_card_policy granted = policy((uint8_t)guest);

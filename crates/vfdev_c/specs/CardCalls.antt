@@ -13,7 +13,7 @@ use Rattle.device.specs.declared.event.Event.TheVariants.{Wire}
 use Rattle.device.specs.Guests.{attach_refusal, attached, detached, is_vacant}
 use Rattle.device.specs.Live.{AreListed, AreMet, told_world}
 use Rattle.device.specs.World.{World, function_of, step}
-use Rattle.vf_unit.specs.Unit.{size_of}
+use Rattle.vf_unit.specs.Unit.{size_of, shortfalls_of}
 use Rattle.mailbox.specs.Address.{number_of as number_of_address}
 use Rattle.mailbox.specs.Host.{refusal}
 use Rattle.mailbox.specs.Mailbox.{blank, notice_in}
@@ -256,6 +256,10 @@ frame_at n out c =
 
 abbrev pub busy_at : ℕ → HeldCard → Bool
 busy_at p c = nat_lt p 64 && is_busy (end_at c.card p)
+
+-- how often something could not be done that a function's driver left to the card
+abbrev pub shortfalls_at : ℕ → HeldCard → ℕ
+shortfalls_at p c = if nat_lt p 64 then shortfalls_of (function_of p c.card.hosted.device.world) else 0
 
 -- a frame from the wire was taken: all of it is the device's step, in the world in which each function's memory holds what was read of it
 pub record IsWired (frame : List ℕ) (c d : HeldCard) (reply : VfdevReply) : Type 0 where

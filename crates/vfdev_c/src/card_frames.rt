@@ -1,7 +1,7 @@
 //! Frames and interrupts of a card.
 ghost use Rattle.std.specs.Prelude.{◌≡◌, false};
 ghost use Rattle.card.specs.Card.{LeavesAlone};
-ghost use Rattle.vfdev_c.specs.CardCalls.{AreRaised, OnCard, OthersStay, Serves, Signals, Wires, busy_at, frame_at, none_more, of_card};
+ghost use Rattle.vfdev_c.specs.CardCalls.{AreRaised, OnCard, OthersStay, Serves, Signals, Wires, busy_at, shortfalls_at, frame_at, none_more, of_card};
 ghost use Rattle.vfdev_c.specs.Handle.{frame_in, length_in, no_device};
 
 use crate::card_held::CardHeld;
@@ -84,6 +84,26 @@ pub extern "C" fn vfdev_card_is_busy(alloc: Global, handle: &mut Vfdev, function
     };
     handle.put(state);
     is_busy
+}
+
+/// How often something that the function's driver left to the card could not be done, modulo 2^32.
+#[unsafe(no_mangle)]
+pub extern "C" fn vfdev_card_shortfalls(alloc: Global, handle: &mut Vfdev, function: u8) -> u32
+    ensures handle { handle.new.owner.held ≡ handle.old.owner.held }
+    ensures count { result ≡ of_card handle.old.owner.held 0 (shortfalls_at function) }
+{
+    let Some(state) = handle.take(alloc) else {
+        return 0;
+    };
+    let count = match &*state {
+        HandleState::Card(held) => held.shortfalls(function),
+        HandleState::Lending(_)
+        | HandleState::Made(_)
+        | HandleState::Kept(_)
+        | HandleState::Lent(_) => 0,
+    };
+    handle.put(state);
+    count
 }
 
 /// A frame comes from the wire.
@@ -194,6 +214,15 @@ impl CardHeld {
         match PoolId::new(function) {
             Some(pool) => self.card.is_busy(pool),
             None => false,
+        }
+    }
+
+    fn shortfalls(&self, function: u8) -> u32
+        ensures { result ≡ shortfalls_at function self.now }
+    {
+        match PoolId::new(function) {
+            Some(pool) => self.card.shortfalls(pool),
+            None => 0,
         }
     }
 

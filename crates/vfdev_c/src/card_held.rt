@@ -9,6 +9,7 @@ use card::Card;
 use live_memory::Shared;
 use live_run::Frames;
 use mapped_memory::LiveMem;
+use offload::Offloads;
 use spare_memory::Spares;
 use std::alloc::Global;
 use std::marker::Model;
@@ -44,7 +45,7 @@ impl Model for CardHeld {
 }
 
 impl CardHeld {
-    /// A card of so many vacant functions. [`Fault::BadMake`] comes exactly where a number is outside its limits; [`Fault::NoMemory`] only
+    /// A card of so many vacant functions, with the offloads of these flags. [`Fault::BadMake`] comes exactly where a number is outside its limits; [`Fault::NoMemory`] only
     /// where the host refused the room.
     pub fn new(
         alloc: Global,
@@ -52,20 +53,24 @@ impl CardHeld {
         ids: &[u16],
         default_function: u8,
         limit: u16,
+        offloads: u32,
     ) -> Result<CardHeld, Fault>
-        ensures ok { IfOk result (IsMadeCard functions ids.now default_function limit) }
-        ensures bad_make { can_make_card functions ids.now default_function limit ≡ false → result ≡ Err Fault.BadMake }
+        ensures ok { IfOk result (IsMadeCard functions ids.now default_function limit offloads) }
+        ensures bad_make { can_make_card functions ids.now default_function limit offloads ≡ false → result ≡ Err Fault.BadMake }
         ensures no_memory { IfErr result
-            (λ e. can_make_card functions ids.now default_function limit ≡ true → e ≡ Fault.NoMemory) }
+            (λ e. can_make_card functions ids.now default_function limit offloads ≡ true → e ≡ Fault.NoMemory) }
     {
         let Some(limit) = FrameLimit::new(limit) else {
+            return Err(Fault::BadMake);
+        };
+        let Some(offloads) = Offloads::from_bits(offloads) else {
             return Err(Fault::BadMake);
         };
         if functions < 1 || functions > 64 || !are_ids(ids) || !is_function(default_function) {
             return Err(Fault::BadMake);
         }
         let ids = ids_of(alloc, ids)?;
-        let card = vacant(alloc, functions, &ids, default_function, limit)?;
+        let card = vacant(alloc, functions, &ids, default_function, limit, offloads)?;
         let spares = Spares::new(alloc)?;
         let frames = Frames::new(alloc, MOST_FRAMES, FRAME_BYTES)?;
         Ok(CardHeld {
@@ -84,11 +89,12 @@ fn vacant(
     ids: &[Vid],
     default_function: u8,
     limit: FrameLimit,
+    offloads: Offloads,
 ) -> Result<Card<LiveMem<'static>, Shared>, Fault>
     requires least { 1 ≤ functions }
     requires most { functions ≤ 64 }
     requires ids { length ids.now ≤ 64 }
-    ensures made { IfOk result (IsMade (host_of_ids ids.now (function_at default_function) limit)
+    ensures made { IfOk result (IsMade (host_of_ids ids.now (function_at default_function) limit) offloads
         (replicate functions 0)) }
     ensures untouched { IfOk result (λ c. c.hosted.device.accesses ≡ replicate functions []) }
     ensures no_memory { IfErr result (λ e. e ≡ Fault.NoMemory) }
@@ -96,7 +102,7 @@ fn vacant(
     let memories = vacancies(alloc, functions)?;
     // the number that stands for none is no pool's
     let default_pool = PoolId::new(default_function);
-    Card::for_guests(alloc, memories, ids, default_pool, limit)
+    Card::for_guests(alloc, memories, ids, default_pool, limit, offloads)
 }
 
 // Whether these are ids of VLANs, 0 to 4095, and at most 64.

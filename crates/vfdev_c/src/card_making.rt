@@ -10,7 +10,7 @@ use crate::making::{HELD, MADE};
 use std::alloc::Global;
 use wire_frame::Fault;
 
-/// Makes a card of so many vacant functions, where the handle leads to nothing.
+/// Makes a card of so many vacant functions, with the offloads of these flags, where the handle leads to nothing.
 #[unsafe(no_mangle)]
 pub extern "C" fn vfdev_card_make(
     alloc: Global,
@@ -19,21 +19,22 @@ pub extern "C" fn vfdev_card_make(
     ids: &[u16],
     default_function: u8,
     limit: u16,
+    offloads: u32,
 ) -> u32
     ensures made { nat_eq result 0 ≡ true
-        → LeadsTo (IsMadeCard functions ids.now default_function limit) handle.new.owner.held }
+        → LeadsTo (IsMadeCard functions ids.now default_function limit offloads) handle.new.owner.held }
     ensures refused { nat_eq result 0 ≡ false → handle.new.owner.held ≡ handle.old.owner.held }
     ensures taken { is_some handle.old.owner.held ≡ true → result ≡ 11 }
     ensures bad_make { is_some handle.old.owner.held ≡ false
-        → can_make_card functions ids.now default_function limit ≡ false → result ≡ 10 }
+        → can_make_card functions ids.now default_function limit offloads ≡ false → result ≡ 10 }
     ensures no_memory { is_some handle.old.owner.held ≡ false
-        → can_make_card functions ids.now default_function limit ≡ true → nat_eq result 0 ≡ false
+        → can_make_card functions ids.now default_function limit offloads ≡ true → nat_eq result 0 ≡ false
         → result ≡ 9 }
 {
     if handle.live {
         return HELD;
     }
-    match boxed(alloc, functions, ids, default_function, limit) {
+    match boxed(alloc, functions, ids, default_function, limit, offloads) {
         Ok(state) => {
             handle.put(state);
             MADE
@@ -78,12 +79,13 @@ fn boxed(
     ids: &[u16],
     default_function: u8,
     limit: u16,
+    offloads: u32,
 ) -> Result<Box<HandleState>, Fault>
-    ensures ok { IfOk result (λ b. LeadsTo (IsMadeCard functions ids.now default_function limit) (Some b.value)) }
-    ensures bad_make { can_make_card functions ids.now default_function limit ≡ false → result ≡ Err Fault.BadMake }
+    ensures ok { IfOk result (λ b. LeadsTo (IsMadeCard functions ids.now default_function limit offloads) (Some b.value)) }
+    ensures bad_make { can_make_card functions ids.now default_function limit offloads ≡ false → result ≡ Err Fault.BadMake }
     ensures no_memory { IfErr result
-        (λ e. can_make_card functions ids.now default_function limit ≡ true → e ≡ Fault.NoMemory) }
+        (λ e. can_make_card functions ids.now default_function limit offloads ≡ true → e ≡ Fault.NoMemory) }
 {
-    let held = CardHeld::new(alloc, functions, ids, default_function, limit)?;
+    let held = CardHeld::new(alloc, functions, ids, default_function, limit, offloads)?;
     Ok(Box::new(alloc, HandleState::Card(held))?)
 }

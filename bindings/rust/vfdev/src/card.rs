@@ -9,9 +9,9 @@
 //! wire, and writes the files of the vectors that [`Card::signal`] hands out.
 //!
 //! ```
-//! use vfdev::card::{Card, CardFault, Order, Policy, Step, Vlans, ROOM};
+//! use vfdev::card::{Card, CardFault, Offloads, Order, Policy, Step, Vlans, ROOM};
 //!
-//! let mut card = Card::new(1, &[0], None, 1518)?;
+//! let mut card = Card::new(1, &[0], None, 1518, Offloads::NONE)?;
 //! card.admit(0, &Policy::new([2, 0, 0, 0, 0, 1], Vlans::Joins(1)))?;
 //! card.attach(0)?;
 //! // its client's first message: VERSION 0.0, beside which no file came
@@ -218,6 +218,53 @@ impl fmt::Display for Breach {
 
 impl std::error::Error for Breach {}
 
+/// What a card does for the drivers of its guests beyond frames as they stand, fixed when it is made.
+#[derive(Clone, Copy, Debug, Default, PartialEq, Eq)]
+pub struct Offloads {
+    /// It inserts the VLAN tag of a context descriptor where a data descriptor asks for it (VLE).
+    pub vlan: bool,
+    /// It makes the checksums that a data descriptor asks for (IXSM, TXSM).
+    pub checksum: bool,
+    /// It cuts the TCP data of a frame into segments where a data descriptor asks for it (TSE).
+    pub segmentation: bool,
+    /// It masks a vector by itself when it issues its message, where the driver asks for it (VTEIAM).
+    pub auto_mask: bool,
+    /// It takes legacy receive descriptors (SRRCTL.DESCTYPE 0).
+    pub legacy_receive: bool,
+}
+
+impl Offloads {
+    /// None of it.
+    pub const NONE: Offloads = Offloads {
+        vlan: false,
+        checksum: false,
+        segmentation: false,
+        auto_mask: false,
+        legacy_receive: false,
+    };
+    /// All of it.
+    pub const ALL: Offloads = Offloads {
+        vlan: true,
+        checksum: true,
+        segmentation: true,
+        auto_mask: true,
+        legacy_receive: true,
+    };
+
+    fn raw(self) -> u32 {
+        [
+            (self.vlan, raw::OFFLOAD_VLAN),
+            (self.checksum, raw::OFFLOAD_CHECKSUM),
+            (self.segmentation, raw::OFFLOAD_SEGMENTATION),
+            (self.auto_mask, raw::OFFLOAD_AUTO_MASK),
+            (self.legacy_receive, raw::OFFLOAD_LEGACY_RECEIVE),
+        ]
+        .into_iter()
+        .filter_map(|(is_on, flag)| is_on.then_some(flag))
+        .sum()
+    }
+}
+
 /// The VLANs of a function, by the places of the ids that [`Card::new`] was given.
 #[derive(Clone, Copy, Debug, PartialEq, Eq)]
 pub enum Vlans {
@@ -337,24 +384,25 @@ impl Drop for Card {
 
 impl Card {
     /// A card of so many vacant functions. Policies may name the VLAN ids by their places. Frames that nobody accepts go to the default
-    /// function, or are dropped where there is none, or the card doesn't have it.
+    /// function, or are dropped where there is none, or the card doesn't have it. The offloads are those of each guest's driver.
     ///
     /// # Errors
     /// [`Fault::BadMake`] outside 1 to 64 functions, [`MOST_IDS`] ids of 0 to 4095, frames of up to 1518 to 9018 bytes, or where the
     /// default function is a number of 64 or more; [`Fault::NoMemory`] where the host refused memory.
     ///
     /// ```
-    /// use vfdev::{card::{Card, CardFault}, Fault};
-    /// assert_eq!(Card::new(65, &[0], None, 1518).err(), Some(CardFault::Device(Fault::BadMake)));
+    /// use vfdev::{card::{Card, CardFault, Offloads}, Fault};
+    /// assert_eq!(Card::new(65, &[0], None, 1518, Offloads::NONE).err(), Some(CardFault::Device(Fault::BadMake)));
     /// ```
     pub fn new(
         functions: u32,
         ids: &[u16],
         default_function: Option<u8>,
         limit: u16,
+        offloads: Offloads,
     ) -> Result<Card, CardFault> {
         // SAFETY: the function takes nothing and reads nothing.
-        if unsafe { raw::vfdev_version() } != 1 {
+        if unsafe { raw::vfdev_version() } != raw::VERSION {
             return Err(CardFault::Device(Fault::Version));
         }
         // (the number that means nobody can't be asked for)
@@ -375,6 +423,7 @@ impl Card {
                 len,
                 default_function,
                 limit,
+                offloads.raw(),
             )
         })?;
         Ok(card)
@@ -418,10 +467,10 @@ impl Card {
     ///
     /// ```
     /// use std::{ptr::NonNull, sync::atomic::AtomicU8};
-    /// use vfdev::{card::{Card, CardFault}, Fault};
+    /// use vfdev::{card::{Card, CardFault, Offloads}, Fault};
     /// const ZERO: AtomicU8 = AtomicU8::new(0);
     /// static MEMORY: [AtomicU8; 4096] = [ZERO; 4096];
-    /// let mut card = Card::new(1, &[0], None, 1518)?;
+    /// let mut card = Card::new(1, &[0], None, 1518, Offloads::NONE)?;
     /// card.attach(0)?;
     /// let block = NonNull::slice_from_raw_parts(NonNull::from(&MEMORY).cast(), 4096);
     /// // SAFETY: the block is there as long as the program runs, and nobody else reads or writes it.
@@ -477,7 +526,8 @@ impl Card {
         stepped(&step)
     }
 
-    /// Takes descriptors of a function's busy transmit queues, 128 of each at most.
+    /// Takes descriptors of a function's busy transmit queues, and sends segments of frames that are cut: 128 services of each at most, of one
+    /// descriptor or one segment.
     pub fn more(&mut self, function: u8) -> More {
         // SAFETY: the reference leads to one live value, which only this card holds.
         let more = unsafe { raw::vfdev_card_more(&mut self.handle, function) };
@@ -503,14 +553,21 @@ impl Card {
         unsafe { raw::vfdev_card_is_busy(&mut self.handle, function) }
     }
 
+    /// How often something that the function's driver left to the card could not be done, modulo 2^32, since its guest came or it was reset:
+    /// sums that a frame then lacks, or segments, where the whole frame is dropped. 0 where there is no such function.
+    pub fn shortfalls(&mut self, function: u8) -> u32 {
+        // SAFETY: the reference leads to one live value, which only this card holds.
+        unsafe { raw::vfdev_card_shortfalls(&mut self.handle, function) }
+    }
+
     /// A frame comes from the wire: 14 to 9018 bytes without FCS, at least 18 where it has a VLAN tag.
     ///
     /// # Errors
     /// [`Fault::BadFrame`] where it is none, or longer than the card takes.
     ///
     /// ```
-    /// use vfdev::{card::{Card, CardFault}, Fault};
-    /// let mut card = Card::new(1, &[0], None, 1518)?;
+    /// use vfdev::{card::{Card, CardFault, Offloads}, Fault};
+    /// let mut card = Card::new(1, &[0], None, 1518, Offloads::NONE)?;
     /// card.wire(&[0xFF; 60])?;
     /// assert_eq!(card.wire(&[0xFF; 1519]), Err(CardFault::Device(Fault::BadFrame)));
     /// # Ok::<(), CardFault>(())
@@ -546,8 +603,8 @@ impl Card {
     /// As [`NotAdmitted`] says.
     ///
     /// ```
-    /// use vfdev::card::{Card, NotAdmitted, Policy, Vlans};
-    /// let mut card = Card::new(2, &[0], None, 1518)?;
+    /// use vfdev::card::{Card, NotAdmitted, Offloads, Policy, Vlans};
+    /// let mut card = Card::new(2, &[0], None, 1518, Offloads::NONE)?;
     /// let policy = Policy::new([2, 0, 0, 0, 0, 1], Vlans::Joins(1));
     /// assert_eq!(card.admit(0, &policy), Ok(None));
     /// assert_eq!(card.admit(1, &policy), Err(NotAdmitted::AddressOwned));

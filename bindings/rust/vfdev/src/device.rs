@@ -175,7 +175,7 @@ impl<'m> Device<'m> {
 
     fn empty() -> Result<Device<'m>, Fault> {
         // SAFETY: the function takes nothing and reads nothing.
-        if unsafe { raw::vfdev_version() } != 1 {
+        if unsafe { raw::vfdev_version() } != raw::VERSION {
             return Err(Fault::Version);
         }
         Ok(Device {

@@ -91,6 +91,16 @@ pub struct CardMore {
     pub goes_on: u32,
 }
 
+/// The version of the interface that is declared here.
+pub const VERSION: u32 = 2;
+
+/// The flags of a card's offloads.
+pub const OFFLOAD_VLAN: u32 = 1;
+pub const OFFLOAD_CHECKSUM: u32 = 2;
+pub const OFFLOAD_SEGMENTATION: u32 = 4;
+pub const OFFLOAD_AUTO_MASK: u32 = 8;
+pub const OFFLOAD_LEGACY_RECEIVE: u32 = 16;
+
 extern "C" {
     pub fn vfdev_version() -> u32;
     pub fn vfdev_make(d: &mut Vfdev, functions: u32, memory: u64, limit: u16) -> u32;
@@ -154,6 +164,7 @@ extern "C" {
         ids_len: usize,
         default_function: u8,
         limit: u16,
+        offloads: u32,
     ) -> u32;
     pub fn vfdev_card_free(c: &mut VfdevCard);
     pub fn vfdev_card_functions(c: &mut VfdevCard) -> u32;
@@ -179,6 +190,7 @@ extern "C" {
     pub fn vfdev_card_more(c: &mut VfdevCard, function: u8) -> CardMore;
     pub fn vfdev_card_frame(c: &mut VfdevCard, number: u32, out: *mut u8, out_len: usize) -> usize;
     pub fn vfdev_card_is_busy(c: &mut VfdevCard, function: u8) -> bool;
+    pub fn vfdev_card_shortfalls(c: &mut VfdevCard, function: u8) -> u32;
     pub fn vfdev_card_wire(c: &mut VfdevCard, frame: *const u8, len: usize) -> Reply;
     pub fn vfdev_card_raised(c: &mut VfdevCard) -> u64;
     pub fn vfdev_card_signal(c: &mut VfdevCard, function: u8) -> u32;

@@ -36,6 +36,9 @@ pub const VTEIMC: u32 = 0x10c;
 /// VTEIAC: the causes that are cleared automatically.
 pub const VTEIAC: u32 = 0x110;
 
+/// VTEIAM: the vectors that are masked automatically.
+pub const VTEIAM: u32 = 0x114;
+
 /// VTIVAR: the vectors of the queues.
 pub const VTIVAR: u32 = 0x120;
 /// Bits 7:0 of VTIVAR: of receive queue 0.
@@ -115,9 +118,9 @@ pub const SRRCTL_BSIZEPACKET_MASK: u32 = 0x1f;
 pub const fn srrctl_bsizepacket(x: u32) -> u32 {
     x & SRRCTL_BSIZEPACKET_MASK
 }
-/// Bits 27:25 of SRRCTL: the type of the descriptors: 1 is advanced with one buffer.
+/// Bits 27:25 of SRRCTL: the type of the descriptors: 1 is advanced with one buffer, 0 is legacy.
 pub const SRRCTL_DESCTYPE_MASK: u32 = 0x0e00_0000;
-/// These bits of SRRCTL, of a number: the type of the descriptors: 1 is advanced with one buffer.
+/// These bits of SRRCTL, of a number: the type of the descriptors: 1 is advanced with one buffer, 0 is legacy.
 #[must_use]
 pub const fn srrctl_desctype(x: u32) -> u32 {
     (x << 25) & SRRCTL_DESCTYPE_MASK
@@ -377,6 +380,27 @@ pub const fn rxd_vlan(x: u64) -> u64 {
     (x << 48) & RXD_VLAN_MASK
 }
 
+/// Bits 15:0 of RXL: bytes of the piece.
+pub const RXL_LENGTH_MASK: u64 = 0xffff;
+/// These bits of RXL, of a number: bytes of the piece.
+#[must_use]
+pub const fn rxl_length(x: u64) -> u64 {
+    x & RXL_LENGTH_MASK
+}
+/// Bit 32 of RXL: done.
+pub const RXL_DD: u64 = 1 << 32;
+/// Bit 33 of RXL: the last of the frame.
+pub const RXL_EOP: u64 = 1 << 33;
+/// Bit 35 of RXL: a tag was stripped.
+pub const RXL_VP: u64 = 1 << 35;
+/// Bits 63:48 of RXL: the tag control that was stripped.
+pub const RXL_VLAN_MASK: u64 = 0xffff_0000_0000_0000;
+/// These bits of RXL, of a number: the tag control that was stripped.
+#[must_use]
+pub const fn rxl_vlan(x: u64) -> u64 {
+    (x << 48) & RXL_VLAN_MASK
+}
+
 /// Bits 15:0 of TXD: bytes.
 pub const TXD_LENGTH_MASK: u64 = 0xffff;
 /// These bits of TXD, of a number: bytes.
@@ -403,10 +427,64 @@ pub const TXD_VLE: u64 = 1 << 30;
 pub const TXD_TSE: u64 = 1 << 31;
 /// Bit 32 of TXD: done.
 pub const TXD_DD: u64 = 1 << 32;
+/// Bit 36 of TXD: of an advanced one: which context is meant.
+pub const TXD_IDX: u64 = 1 << 36;
+/// Bit 40 of TXD: of an advanced one: sum the IPv4 header.
+pub const TXD_IXSM: u64 = 1 << 40;
+/// Bit 41 of TXD: of an advanced one: sum what stands behind the IP header.
+pub const TXD_TXSM: u64 = 1 << 41;
 /// Bits 63:48 of TXD: of a legacy one: the tag control.
 pub const TXD_VLAN_MASK: u64 = 0xffff_0000_0000_0000;
 /// These bits of TXD, of a number: of a legacy one: the tag control.
 #[must_use]
 pub const fn txd_vlan(x: u64) -> u64 {
     (x << 48) & TXD_VLAN_MASK
+}
+
+/// Bits 8:0 of TXC_FIRST: bytes of the IP header.
+pub const TXC_FIRST_IPLEN_MASK: u64 = 0x1ff;
+/// These bits of TXC_FIRST, of a number: bytes of the IP header.
+#[must_use]
+pub const fn txc_first_iplen(x: u64) -> u64 {
+    x & TXC_FIRST_IPLEN_MASK
+}
+/// Bits 15:9 of TXC_FIRST: bytes in front of it.
+pub const TXC_FIRST_MACLEN_MASK: u64 = 0xfe00;
+/// These bits of TXC_FIRST, of a number: bytes in front of it.
+#[must_use]
+pub const fn txc_first_maclen(x: u64) -> u64 {
+    (x << 9) & TXC_FIRST_MACLEN_MASK
+}
+/// Bits 31:16 of TXC_FIRST: the tag control to insert.
+pub const TXC_FIRST_VLAN_MASK: u64 = 0xffff_0000;
+/// These bits of TXC_FIRST, of a number: the tag control to insert.
+#[must_use]
+pub const fn txc_first_vlan(x: u64) -> u64 {
+    (x << 16) & TXC_FIRST_VLAN_MASK
+}
+
+/// Bit 10 of TXC_SECOND: the IP header is one of IPv4, else of IPv6.
+pub const TXC_SECOND_IPV4: u64 = 1 << 10;
+/// Bits 12:11 of TXC_SECOND: the protocol behind it: 0 is UDP, 1 TCP, 2 SCTP.
+pub const TXC_SECOND_L4T_MASK: u64 = 0x1800;
+/// These bits of TXC_SECOND, of a number: the protocol behind it: 0 is UDP, 1 TCP, 2 SCTP.
+#[must_use]
+pub const fn txc_second_l4t(x: u64) -> u64 {
+    (x << 11) & TXC_SECOND_L4T_MASK
+}
+/// Bit 36 of TXC_SECOND: which context it sets.
+pub const TXC_SECOND_IDX: u64 = 1 << 36;
+/// Bits 47:40 of TXC_SECOND: bytes of the TCP header.
+pub const TXC_SECOND_L4LEN_MASK: u64 = 0xff00_0000_0000;
+/// These bits of TXC_SECOND, of a number: bytes of the TCP header.
+#[must_use]
+pub const fn txc_second_l4len(x: u64) -> u64 {
+    (x << 40) & TXC_SECOND_L4LEN_MASK
+}
+/// Bits 63:48 of TXC_SECOND: the most bytes of payload of a segment.
+pub const TXC_SECOND_MSS_MASK: u64 = 0xffff_0000_0000_0000;
+/// These bits of TXC_SECOND, of a number: the most bytes of payload of a segment.
+#[must_use]
+pub const fn txc_second_mss(x: u64) -> u64 {
+    (x << 48) & TXC_SECOND_MSS_MASK
 }

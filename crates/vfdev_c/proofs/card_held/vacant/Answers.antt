@@ -26,9 +26,9 @@ can ids sizes n few least most is =
 
 pub returns-clause-made : goal.returns-clause-made
 returns-clause-made c =
-    subst (λ (pool : Option ℕ). IfOk c.for_guests.result (IsMade (host_of_ids c.args.ids.now pool c.args.limit) (replicate c.args.functions 0)))
+    subst (λ (pool : Option ℕ). IfOk c.for_guests.result (IsMade (host_of_ids c.args.ids.now pool c.args.limit) c.args.offloads (replicate c.args.functions 0)))
     (pool_at c.new-default_pool.result c.args.default_function c.new-default_pool.ensures.variant c.new-default_pool.ensures.value)
-    (subst (λ (sizes : List ℕ). IfOk c.for_guests.result (IsMade (host_of_ids c.args.ids.now c.new-default_pool.result c.args.limit) sizes))
+    (subst (λ (sizes : List ℕ). IfOk c.for_guests.result (IsMade (host_of_ids c.args.ids.now c.new-default_pool.result c.args.limit) c.args.offloads sizes))
     (sizes_vacant c.args.functions c.in_ok-memories.memories.items c.in_ok-memories.ensures.ok)
     c.for_guests.ensures.made)
 

@@ -22,11 +22,12 @@
 //! ```
 
 use crate::mac::Mac;
+use crate::offloads;
 use serde::Deserialize;
 use std::fmt;
 use std::ops::Range;
 use toml::Spanned;
-use vfdev::card::{Policy, Vlans, MOST_IDS};
+use vfdev::card::{Offloads, Policy, Vlans, MOST_IDS};
 
 /// What the administrator grants one function.
 #[derive(Clone, Debug, PartialEq, Eq)]
@@ -44,6 +45,8 @@ pub struct Settings {
     pub ids: Vec<u16>,
     /// The function that gets the frames which nobody accepts.
     pub default_function: Option<u8>,
+    /// What the card does for the drivers of all guests.
+    pub offloads: Offloads,
     /// What each function is granted. `None`: it neither receives nor sends.
     pub grants: Vec<Option<Grant>>,
 }
@@ -72,6 +75,7 @@ impl std::error::Error for Refused {}
 struct Written {
     vlans: Spanned<Vec<Spanned<i64>>>,
     default_function: Option<Spanned<i64>>,
+    offloads: Option<Spanned<offloads::Written>>,
     #[serde(default)]
     function: Vec<Section>,
 }
@@ -149,6 +153,26 @@ impl Text<'_> {
             return Err(self.refuse(written, why));
         }
         Ok(ids)
+    }
+
+    // What the card does for all guests: everything, where nothing is said.
+    fn offloads(&self, written: Option<&Spanned<offloads::Written>>) -> Result<Offloads, Refused> {
+        let Some(written) = written else {
+            return Ok(Offloads::ALL);
+        };
+        let names = match written.get_ref() {
+            offloads::Written::List(names) => names,
+            offloads::Written::Word(word) => {
+                let refused = |error: offloads::NoOffload| self.refuse(written, error.to_string());
+                return offloads::parse(word).map_err(refused);
+            }
+        };
+        let mut found = Offloads::NONE;
+        for name in names {
+            let added = offloads::add(&mut found, name.get_ref());
+            added.map_err(|error| self.refuse(name, error.to_string()))?;
+        }
+        Ok(found)
     }
 
     // The number of a function that there is.
@@ -320,6 +344,7 @@ impl Settings {
         Settings {
             ids: vec![0],
             default_function: None,
+            offloads: Offloads::ALL,
             grants: (0..functions).map(|number| Some(grant(number))).collect(),
         }
     }
@@ -337,6 +362,7 @@ impl Settings {
             Some(number) => Some(text.number(number, functions)?),
             None => None,
         };
+        let offloads = text.offloads(written.offloads.as_ref())?;
         let mut grants = vec![None; usize::from(functions)];
         for section in &written.function {
             let number = text.number(&section.number, functions)?;
@@ -352,6 +378,7 @@ impl Settings {
         Ok(Settings {
             ids,
             default_function,
+            offloads,
             grants,
         })
     }
@@ -446,6 +473,45 @@ mod tests {
         assert_eq!(policy, Some(due));
     }
 
+    // What the card does, as a list and as a text; and what is refused of either.
+    #[test]
+    fn offloads_are_a_list_or_a_word() {
+        let known = "they are vlan, checksum, segmentation, auto-mask and legacy-receive, or all or none alone";
+        let some = Offloads {
+            vlan: true,
+            legacy_receive: true,
+            ..Offloads::NONE
+        };
+        for (line, due) in [
+            ("", Ok(Offloads::ALL)),
+            ("offloads = \"all\"", Ok(Offloads::ALL)),
+            ("offloads = []", Ok(Offloads::NONE)),
+            ("offloads = \"none\"", Ok(Offloads::NONE)),
+            ("offloads = [\"legacy-receive\", \"vlan\"]", Ok(some)),
+            ("offloads = \"vlan,legacy-receive\"", Ok(some)),
+            (
+                "offloads = [\n \"vlan\",\n \"tso\"\n]",
+                Err(format!("line 4: there is no offload `tso`: {known}")),
+            ),
+            (
+                "offloads = [\"none\"]",
+                Err(format!("line 2: there is no offload `none`: {known}")),
+            ),
+            (
+                "\noffloads = \"off\"",
+                Err(format!("line 3: there is no offload `off`: {known}")),
+            ),
+            (
+                "offloads = [\"vlan\",\n\"vlan\"]",
+                Err("line 3: the offload `vlan` stands here twice".to_owned()),
+            ),
+        ] {
+            let taken = Settings::parse(&format!("vlans = [0]\n{line}\n"), 2);
+            let taken = taken.map(|settings| settings.offloads);
+            assert_eq!(taken.map_err(|e| e.to_string()), due, "{line}");
+        }
+    }
+
     // What the crate toml itself refuses has the line too.
     #[test]
     fn what_is_no_toml_names_its_line() {
@@ -453,6 +519,8 @@ mod tests {
             ("vlans = [0]\nnumber = 1", 2),
             ("vlans = [0]\nwhat", 2),
             ("vlans = [0]\ndefault_function = \"a\"", 2),
+            ("vlans = [0]\noffloads = true", 2),
+            ("vlans = [0]\noffloads = [\"vlan\", 1]", 2),
             (&format!("{HEAD}vlans = [0]\n\n  mac = 1\n"), 7),
             (&format!("{HEAD}vlans = [0]\nlink_up = 1\n"), 6),
         ] {

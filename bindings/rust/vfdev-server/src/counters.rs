@@ -55,6 +55,8 @@ pub struct Shown<'a> {
     pub is_attached: bool,
     /// How many bytes of its guest's memory are mapped, and in how many regions.
     pub mapped: (u64, usize),
+    /// What its driver left to the card and could not be done, since its guest came or it was reset.
+    pub shortfalls: u32,
     /// What was counted.
     pub counters: &'a Counters,
 }
@@ -63,7 +65,7 @@ pub struct Shown<'a> {
 type Number = fn(&Shown<'_>) -> u64;
 
 // The name, the kind and the meaning of each number.
-const NUMBERS: [(&str, &str, &str, Number); 10] = [
+const NUMBERS: [(&str, &str, &str, Number); 11] = [
     ("attached", "gauge", "Whether a client is attached.", |f| {
         f.is_attached.into()
     }),
@@ -99,6 +101,12 @@ const NUMBERS: [(&str, &str, &str, Number); 10] = [
         "counter",
         "Interrupts that were signalled.",
         |f| f.counters.interrupts,
+    ),
+    (
+        "shortfalls_total",
+        "counter",
+        "Sums and segments of frames that could not be made, since the guest came or was reset.",
+        |f| f.shortfalls.into(),
     ),
     (
         "wire_sent_frames_total",
@@ -202,6 +210,7 @@ mod tests {
             name: "web".to_owned(),
             is_attached: true,
             mapped: (4096, 1),
+            shortfalls: 5,
             counters: &counters,
         };
         let text = text(&[shown], &Totals::default());
@@ -210,6 +219,7 @@ mod tests {
             "vfdev_attached{function=\"3\",name=\"web\"} 1",
             "vfdev_mapped_bytes{function=\"3\",name=\"web\"} 4096",
             "vfdev_messages_total{function=\"3\",name=\"web\"} 7",
+            "vfdev_shortfalls_total{function=\"3\",name=\"web\"} 5",
             "vfdev_ended_total{function=\"3\",name=\"web\",reason=\"closed\"} 2",
             "vfdev_turns_total 0",
         ] {
@@ -233,6 +243,7 @@ mod tests {
             name: name.clone(),
             is_attached: true,
             mapped: (u64::MAX, 64),
+            shortfalls: u32::MAX,
             counters: &counters,
         };
         let functions: Vec<_> = (0..64).map(shown).collect();

@@ -13,6 +13,7 @@
 //! | [`function`] | a function's socket, client and vectors |
 //! | [`wire`] | a tap or a datagram socket |
 //! | [`config`], [`reload`] | what the administrator grants, at the start and at SIGHUP |
+//! | [`offloads`] | what the card does for its guests' drivers, by names |
 //! | [`directory`] | the folder of the sockets |
 //! | [`counters`] | what is counted, and its text |
 //! | [`polling`] | how long it looks for work before it sleeps |
@@ -32,6 +33,7 @@ pub mod counters;
 pub mod directory;
 pub mod function;
 pub mod mac;
+pub mod offloads;
 pub mod options;
 #[allow(unsafe_code)]
 pub mod os;

@@ -1,8 +1,10 @@
 //! The words of the command line.
 
+use crate::offloads;
 use clap::Parser;
 use std::path::PathBuf;
 use std::str::FromStr;
+use vfdev::card::Offloads;
 
 /// Serves the virtual functions of a proved network card to the guests of stock QEMU.
 ///
@@ -31,6 +33,11 @@ pub struct Options {
     /// How long a frame may be, in bytes without FCS: 1518, or 9018 for jumbo frames; any number between them is taken too
     #[arg(long, value_name = "BYTES", default_value_t = 1518, value_parser = clap::value_parser!(u16).range(1518..=9018))]
     pub frame: u16,
+
+    /// What the card does for the drivers of its guests: all, none, or names of vlan, checksum, segmentation, auto-mask and legacy-receive with
+    /// commas between. It holds in place of the configuration's `offloads`; without both it is all
+    #[arg(long, value_name = "LIST", value_parser = offloads::parse)]
+    pub offloads: Option<Offloads>,
 
     /// How many microseconds the program looks for work before it sleeps, 0 to 1000000. A processor is busy meanwhile
     #[arg(long, value_name = "US", default_value_t = 0, value_parser = clap::value_parser!(u32).range(0..=1_000_000))]

@@ -81,7 +81,7 @@ impl Server {
         match read_settings(self.config.as_deref(), self.count()) {
             Err(unread) => error!(%unread, "the configuration is refused, and the old one stays"),
             Ok(new) if !self.can_become(&new) => error!(
-                "the configuration is refused, and the old one stays: `vlans` and `default_function` at its top are set when the program starts"
+                "the configuration is refused, and the old one stays: `vlans`, `default_function` and `offloads` at its top are set when the program starts"
             ),
             Ok(new) => self.become_as(new),
         }
@@ -89,7 +89,9 @@ impl Server {
     }
 
     fn can_become(&self, new: &Settings) -> bool {
-        (&self.settings.ids, self.settings.default_function) == (&new.ids, new.default_function)
+        let old = &self.settings;
+        (&old.ids, old.default_function, old.offloads)
+            == (&new.ids, new.default_function, new.offloads)
     }
 
     // Policies go before others come, so that two functions may exchange their addresses.

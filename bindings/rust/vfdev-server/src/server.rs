@@ -9,6 +9,7 @@ use crate::connection::{Connection, Ended};
 use crate::counters::{self, Shown, Totals};
 use crate::directory::{listen, open_directory, Place, Unusable};
 use crate::function::Function;
+use crate::offloads;
 use crate::options::Options;
 use crate::os::{Alarm, Interest, MappedCard, Poller};
 use crate::polling::Polling;
@@ -118,7 +119,15 @@ impl Server {
     /// Why it can't start.
     pub fn new(options: &Options, settings: Settings) -> Result<Server, Failed> {
         let (ids, default_function) = (&settings.ids, settings.default_function);
-        let mut card = MappedCard::new(options.functions, ids, default_function, options.frame)?;
+        let offloads = options.offloads.unwrap_or(settings.offloads);
+        let mut card = MappedCard::new(
+            options.functions,
+            ids,
+            default_function,
+            options.frame,
+            offloads,
+        )?;
+        info!(offloads = %offloads::shown(offloads), "the card is made");
         for (function, grant) in (0u8..).zip(&settings.grants) {
             if let Some(grant) = grant {
                 let refused = |why| Failed::Policy(grant.name.clone(), why);
@@ -488,7 +497,8 @@ impl Server {
                 return self.poller.forget(&self.metrics);
             }
         };
-        let text = counters::text(&self.shown(), &self.totals);
+        let totals = self.totals.clone();
+        let text = counters::text(&self.shown(), &totals);
         let told = client.set_nonblocking(true);
         if let Err(error) = told.and_then(|()| client.write_all(text.as_bytes())) {
             debug!(%error, "the counters weren't taken whole");
@@ -496,14 +506,17 @@ impl Server {
         Ok(())
     }
 
-    fn shown(&self) -> Vec<Shown<'_>> {
+    fn shown(&mut self) -> Vec<Shown<'_>> {
+        let count = 0..self.count();
+        let shortfalls: Vec<u32> = count.map(|number| self.card.shortfalls(number)).collect();
         (0u8..)
-            .zip(&self.functions)
-            .map(|(number, function)| Shown {
+            .zip(self.functions.iter().zip(shortfalls))
+            .map(|(number, (function, shortfalls))| Shown {
                 number,
                 name: self.name(number),
                 is_attached: function.client.is_some(),
                 mapped: self.card.mapped(number),
+                shortfalls,
                 counters: &function.counters,
             })
             .collect()

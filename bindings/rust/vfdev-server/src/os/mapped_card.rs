@@ -8,7 +8,7 @@ use std::fs::File;
 use std::io;
 use std::os::fd::{AsFd, OwnedFd};
 use std::os::unix::fs::MetadataExt;
-use vfdev::card::{Access, Card, CardFault, More, NotAdmitted, Policy, Step, ROOM};
+use vfdev::card::{Access, Card, CardFault, More, NotAdmitted, Offloads, Policy, Step, ROOM};
 
 /// A card, and for each of its functions the files that are mapped as memory of its guest. The two stand together, so that no range of a file
 /// is unmapped that the card may still reach.
@@ -134,9 +134,10 @@ impl MappedCard {
         ids: &[u16],
         default_function: Option<u8>,
         limit: u16,
+        offloads: Offloads,
     ) -> Result<MappedCard, CardFault> {
         Ok(MappedCard {
-            card: Card::new(functions.into(), ids, default_function, limit)?,
+            card: Card::new(functions.into(), ids, default_function, limit, offloads)?,
             memories: (0..functions).map(|_| Vec::new()).collect(),
             apart: Apart::default(),
         })
@@ -303,6 +304,11 @@ impl MappedCard {
     /// As [`Card::is_busy`].
     pub fn is_busy(&mut self, function: u8) -> bool {
         self.card.is_busy(function)
+    }
+
+    /// As [`Card::shortfalls`].
+    pub fn shortfalls(&mut self, function: u8) -> u32 {
+        self.card.shortfalls(function)
     }
 
     /// As [`Card::wire`].

@@ -188,12 +188,30 @@ impl Guest {
             | regs::TXD_RS
             | regs::TXD_EOP
             | regs::txd_length(length as u64);
-        self.memory.put(TX_RING + 16 * self.tx_next, address);
-        self.memory.put(
-            TX_RING + 16 * self.tx_next + 8,
-            command | (length as u64) << 46,
-        );
-        self.tx_next = (self.tx_next + 1) % COUNT;
+        self.describe(&[(address, command | (length as u64) << 46)]);
+    }
+
+    /// Sends a frame that stands there, as these words and the tail say: a context, and what of it the card is to do.
+    pub fn send_by(&mut self, context: (u64, u64), command: u64, frame: &[u8]) {
+        let at = TX_BUFFERS + BUFFER * self.tx_next;
+        self.memory.write(at, frame);
+        let first = (context.0, context.1 | regs::TXD_DEXT | regs::txd_dtyp(2));
+        let command = command
+            | regs::TXD_DEXT
+            | regs::txd_dtyp(3)
+            | regs::TXD_RS
+            | regs::TXD_EOP
+            | regs::txd_length(frame.len() as u64);
+        self.describe(&[first, (at as u64, command)]);
+    }
+
+    // Descriptors, and the tail.
+    fn describe(&mut self, descriptors: &[(u64, u64)]) {
+        for (first, second) in descriptors {
+            self.memory.put(TX_RING + 16 * self.tx_next, *first);
+            self.memory.put(TX_RING + 16 * self.tx_next + 8, *second);
+            self.tx_next = (self.tx_next + 1) % COUNT;
+        }
         self.client.write(regs::tdt(0), self.tx_next as u32);
     }
 

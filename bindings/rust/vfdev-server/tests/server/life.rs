@@ -1,10 +1,12 @@
 //! Whole lives of guests. What stock QEMU and stock drivers said to a server, and what they had in their memories, was written down, and is
-//! said here again: each reply, each write to the memory, each frame and each interrupt is what it was then, but for what `may_differ` lists.
+//! said here again, to a card that does nothing for its drivers, to one that does what the first server did for its own, and to one that does
+//! everything: each reply, each write to the memory, each frame and each interrupt is what it was then, but for what `Card::may_differ` lists.
 //! The files are in `tests/lives`, whose README says how they came about.
 
 use crate::client::settle;
 use crate::os::{self, Memory};
 use crate::program::{Folder, Server, PATIENCE};
+use std::fmt;
 use std::fs::{self, File};
 use std::io::Read;
 use std::os::fd::{AsFd, BorrowedFd};
@@ -15,7 +17,18 @@ use std::time::Duration;
 // How long something is waited for that may not come.
 const SHORT: Duration = Duration::from_millis(100);
 
-// Where the card's first frame with a tag of the driver's own stops a queue, until the driver begins anew.
+/// What the card does for the driver of a life.
+#[derive(Clone, Copy, Debug, PartialEq, Eq)]
+enum Card {
+    /// Nothing.
+    Plain,
+    /// What the first server did beside its card: tags, sums and segments, of which the drivers asked for none.
+    AsThen,
+    /// Everything.
+    Full,
+}
+
+// Where the first frame with a tag of the driver's own stops a queue of a plain card, until the driver begins anew.
 const TAGGED: [&str; 9] = [
     "VLAN 7 added, ping in it",
     "VLAN 7 removed",
@@ -29,7 +42,6 @@ const TAGGED: [&str; 9] = [
 ];
 
 /// Something that isn't as it was.
-#[derive(Debug)]
 struct Difference {
     phase: String,
     what: What,
@@ -37,6 +49,21 @@ struct Difference {
     request: Vec<u8>,
     was: Vec<u8>,
     now: Vec<u8>,
+}
+
+impl fmt::Debug for Difference {
+    fn fmt(&self, f: &mut fmt::Formatter<'_>) -> fmt::Result {
+        let hex = |bytes: &[u8]| -> String { bytes.iter().map(|b| format!("{b:02x}")).collect() };
+        writeln!(f, "{:?} in '{}'", self.what, self.phase)?;
+        for (what, bytes) in [
+            ("asked", &self.request),
+            ("was", &self.was),
+            ("now", &self.now),
+        ] {
+            writeln!(f, "  {what} {}", hex(bytes))?;
+        }
+        Ok(())
+    }
 }
 
 #[derive(Clone, Copy, Debug, PartialEq, Eq)]
@@ -49,6 +76,7 @@ enum What {
 
 /// A guest that lives again.
 struct Life {
+    card: Card,
     // it ends with this
     _server: Server,
     socket: UnixStream,
@@ -100,7 +128,7 @@ fn memory_size(lines: &[String]) -> u64 {
 }
 
 impl Life {
-    fn new(address: &str, lines: &[String]) -> Life {
+    fn new(card: Card, address: &str, lines: &[String]) -> Life {
         let folder = Folder::new();
         let configuration = format!(
             "vlans = [0, 7]\n[[function]]\nnumber = 0\naddress = \"{address}\"\nvlans = [0, 7]\nall_multicast = true\n"
@@ -111,6 +139,8 @@ impl Life {
         let words = [
             "--frame",
             "9018",
+            "--offloads",
+            card.offloads(),
             "--config",
             &text("c.toml"),
             "--wire",
@@ -123,6 +153,7 @@ impl Life {
         let socket = UnixStream::connect(server.socket("vf0")).expect("a server");
         socket.set_read_timeout(Some(PATIENCE)).expect("a limit");
         Life {
+            card,
             _server: server,
             socket,
             memory: Memory::new(memory_size(lines) as usize),
@@ -193,9 +224,9 @@ impl Life {
         }
     }
 
-    // How long something is waited for here.
+    // How long a frame is waited for here.
     fn patience(&self) -> Duration {
-        if self.phase == TAGGED[0] {
+        if self.card == Card::Plain && self.phase == TAGGED[0] {
             SHORT
         } else {
             PATIENCE
@@ -212,9 +243,13 @@ impl Life {
         frame
     }
 
-    // Whether a vector was signalled.
+    // Whether a vector was signalled. (One that is masked is not waited for.)
     fn is_signalled(&mut self, vector: usize) -> bool {
-        let patience = self.patience().as_millis() as i32;
+        let patience = match self.card {
+            Card::Full => SHORT,
+            Card::Plain | Card::AsThen => self.patience(),
+        };
+        let patience = patience.as_millis() as i32;
         let Some(file) = &mut self.vectors[vector] else {
             return false;
         };
@@ -268,8 +303,36 @@ impl Life {
     }
 }
 
-// What may be otherwise than it was, and why.
-fn may_differ(difference: &Difference) -> bool {
+impl Card {
+    // The word of the command line.
+    fn offloads(self) -> &'static str {
+        match self {
+            Card::Plain => "none",
+            Card::AsThen => "vlan,checksum,segmentation",
+            Card::Full => "all",
+        }
+    }
+
+    // What may be otherwise than it was, and why.
+    fn may_differ(self, difference: &Difference) -> bool {
+        differs_anyway(difference)
+            || match self {
+                Card::Plain => differs_undone(difference),
+                Card::AsThen => false,
+                Card::Full => differs_masked(difference) || differs_received(difference),
+            }
+    }
+}
+
+// A reply to a read of a register, by its offset.
+fn register(difference: &Difference) -> Option<u64> {
+    let request = &difference.request;
+    let is_read = short(request, 2) == 9 && request[24] == 0;
+    (difference.what == What::Reply && is_read).then(|| number(request, 16))
+}
+
+// On any card.
+fn differs_anyway(difference: &Difference) -> bool {
     let Difference {
         phase,
         what,
@@ -277,50 +340,95 @@ fn may_differ(difference: &Difference) -> bool {
         was,
         now,
     } = difference;
-    let is_tagged = TAGGED.contains(&phase.as_str());
-    match what {
-        // sums that the driver leaves to the card, which makes none, and tags that it has the card insert
-        What::Left if phase.starts_with("TCP") => was[..40] == now[..40],
-        What::Left | What::Memory | What::Vector => phase == TAGGED[0],
-        What::Reply if short(request, 2) == 1 => true,
-        What::Reply => match (short(request, 2), request[24], number(request, 16)) {
-            // counters of frames, and the head of a queue that was stopped
-            (9, 0, 0x101C | 0x201C | 0x2010) => is_tagged,
-            // what the host grants: all multicast or none in place of promiscuous
-            (9, 0, 0x200 | 0x204) => {
-                phase.starts_with("promiscuous") || phase.starts_with("all multicast")
-            }
-            // a ring's base has zeros below its 128 bytes
-            (9, 0, 0x2000 | 0x1000) => was[32] & 0x80 == now[32] & 0x80 && was[33..] == now[33..],
-            // the command register after a function-level reset is as at first
-            (9, 7, 4) => phase.starts_with("function-level reset"),
-            _ => false,
-        },
+    if *what != What::Reply {
+        return false;
+    }
+    match (short(request, 2), register(difference)) {
+        // the text of the version's capabilities
+        (1, _) => true,
+        // what the host grants: all multicast or none in place of promiscuous
+        (9, Some(0x200 | 0x204)) => {
+            phase.starts_with("promiscuous") || phase.starts_with("all multicast")
+        }
+        // a ring's base has zeros below its 128 bytes
+        (9, Some(0x2000 | 0x1000)) => was[32] & 0x80 == now[32] & 0x80 && was[33..] == now[33..],
+        // the command register after a function-level reset is as at first
+        (9, None) => {
+            request[24] == 7
+                && number(request, 16) == 4
+                && phase.starts_with("function-level reset")
+        }
+        _ => false,
     }
 }
 
-// Lives a life, and tells how many lines it had and what differed that may not.
-fn lived(name: &str, address: &str) -> (usize, Vec<Difference>) {
+// Where the card leaves undone what the driver leaves to it.
+fn differs_undone(difference: &Difference) -> bool {
+    let phase = difference.phase.as_str();
+    match (difference.what, register(difference)) {
+        // sums that nobody makes
+        (What::Left, _) if phase.starts_with("TCP") => difference.was[..40] == difference.now[..40],
+        // tags that nobody inserts
+        (What::Left | What::Memory | What::Vector, _) => phase == TAGGED[0],
+        // counters of frames, and the head of a queue that was stopped
+        (What::Reply, Some(0x101C | 0x201C | 0x2010)) => TAGGED.contains(&phase),
+        (What::Reply, _) => false,
+    }
+}
+
+// Where the card masks a vector by itself: it isn't signalled again before the driver enables it, and the registers say so.
+fn differs_masked(difference: &Difference) -> bool {
+    let is_of_mask = matches!(register(difference), Some(0x108 | 0x114));
+    difference.what == What::Vector || is_of_mask
+}
+
+// Where legacy descriptors receive a frame: its cause stands beside the others.
+fn differs_received(difference: &Difference) -> bool {
+    register(difference) == Some(0x100) && difference.now[32] == difference.was[32] | 1
+}
+
+// Lives a life, which has so many lines and differs nowhere where it may not, and tells what differed.
+fn lives(name: &str, count: usize, card: Card) -> Vec<Difference> {
     let lines = lines(name);
-    let mut life = Life::new(address, &lines);
+    assert_eq!(lines.len(), count);
+    let mut life = Life::new(card, "02:82:59:90:00:10", &lines);
     for line in &lines {
         life.live(line);
     }
-    life.differences
-        .retain(|difference| !may_differ(difference));
-    (lines.len(), life.differences)
+    let all = life.differences;
+    let (_, wrong): (Vec<_>, Vec<_>) = all.iter().partition(|found| card.may_differ(found));
+    assert!(wrong.is_empty(), "{card:?}: {wrong:?}");
+    all
 }
 
 #[test]
 fn a_linux_guest_lives_again() {
-    let (lines, differences) = lived("linux.txt.gz", "02:82:59:90:00:10");
-    assert_eq!(lines, 11_326);
-    assert!(differences.is_empty(), "{differences:#x?}");
+    lives("linux.txt.gz", 11_326, Card::Plain);
+}
+
+#[test]
+fn a_linux_guest_leaves_tags_and_sums_to_the_card() {
+    lives("linux.txt.gz", 11_326, Card::AsThen);
+}
+
+#[test]
+fn a_linux_guest_leaves_everything_to_the_card() {
+    let differences = lives("linux.txt.gz", 11_326, Card::Full);
+    let is_masked = |found: &Difference| found.what == What::Vector;
+    assert!(differences.iter().any(is_masked), "a vector is masked");
 }
 
 #[test]
 fn ipxe_lives_again() {
-    let (lines, differences) = lived("ipxe.txt.gz", "02:82:59:90:00:10");
-    assert_eq!(lines, 633);
-    assert!(differences.is_empty(), "{differences:#x?}");
+    lives("ipxe.txt.gz", 633, Card::Plain);
+}
+
+#[test]
+fn ipxe_leaves_everything_to_the_card() {
+    let differences = lives("ipxe.txt.gz", 633, Card::Full);
+    let received = differences
+        .iter()
+        .filter(|found| differs_received(found))
+        .count();
+    assert_eq!(received, 5, "each frame that came is told once");
 }

@@ -11,6 +11,7 @@ mod frames;
 mod fuzz;
 mod life;
 mod memory;
+mod offloads;
 #[allow(unsafe_code)]
 mod os;
 mod program;

@@ -132,3 +132,20 @@ fn a_bad_configuration_leaves_the_old_one() {
     );
     assert_eq!(one.ask(&[GET_LINK_STATE])[1], 1);
 }
+
+// What the card does for its guests' drivers is fixed; to say what it does already changes nothing.
+#[test]
+fn offloads_stay_as_they_were_at_the_start() {
+    let server = start(ONE, TWO);
+    let with = |offloads: &str| format!("offloads = {offloads}\n{}", config(ONE, TWO));
+    reload(
+        &server,
+        &with("[\"vlan\"]"),
+        &[
+            "the old one stays",
+            "`offloads` at its top are set when the program starts",
+        ],
+    );
+    assert!(!server.log().contains("the configuration is taken"));
+    reload(&server, &with("\"all\""), &["the configuration is taken"]);
+}

@@ -28,6 +28,16 @@ fn bad_words_are_told() {
             "the name of a tap has 1 to 15 bytes",
         ),
         (&["--poll", "1000001"], 2, "'--poll <US>'"),
+        (
+            &["--offloads", "vlan,tso"],
+            2,
+            "'--offloads <LIST>': there is no offload `tso`: they are vlan, checksum, segmentation, auto-mask and legacy-receive, or all or none alone",
+        ),
+        (
+            &["--offloads", "vlan,vlan"],
+            2,
+            "'--offloads <LIST>': the offload `vlan` stands here twice",
+        ),
         (&["--what"], 2, "--what"),
         (
             &["--config", "/nowhere/vfdev.toml"],
@@ -73,6 +83,10 @@ fn a_bad_configuration_is_told_with_its_line() {
             "vlans = [0]\n[[function]]\nnumber = 1\naddress = \"01:00:00:00:00:01\"\nvlans = [0]\n",
             "line 4: the address 01:00:00:00:00:01 is a group's, and not one station's",
         ),
+        (
+            "vlans = [0]\noffloads = [\"vlan\", \"tso\"]\n",
+            "line 2: there is no offload `tso`: they are vlan, checksum, segmentation, auto-mask and legacy-receive, or all or none alone",
+        ),
     ] {
         let folder = Folder::new();
         let file = folder.at("vfdev.toml");
@@ -85,6 +99,31 @@ fn a_bad_configuration_is_told_with_its_line() {
         let due = format!("{}: {said}", file.display());
         assert!(log.contains(&due), "{text}: {log}");
         assert!(!folder.at("s").exists(), "nothing was made");
+    }
+}
+
+// What the card does: everything where nothing is said, what the configuration says, and what the word says before all.
+#[test]
+fn offloads_are_those_of_the_word_or_of_the_configuration() {
+    let text = "vlans = [0]\noffloads = [\"checksum\", \"vlan\"]\n";
+    for (text, words, made) in [
+        (None, &[][..], "offloads=all"),
+        (None, &["--offloads", "none"], "offloads=none"),
+        (None, &["--offloads", "auto-mask"], "offloads=auto-mask"),
+        (Some("vlans = [0]\n"), &[], "offloads=all"),
+        (Some(text), &[], "offloads=vlan,checksum"),
+        (Some(text), &["--offloads", "all"], "offloads=all"),
+    ] {
+        let folder = Folder::new();
+        let file = folder.at("vfdev.toml");
+        let file = file.to_str().expect("a name").to_owned();
+        let mut all = words.to_vec();
+        if let Some(text) = text {
+            fs::write(&file, text).expect("a file");
+            all.extend(["--config", &file]);
+        }
+        let server = Server::with(folder, 1, &all);
+        server.wait_for_line(&["the card is made", made]);
     }
 }
 

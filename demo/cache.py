@@ -98,6 +98,13 @@ class Cache:
         newest = self.kernel(KERNELS[-1])
         initrd.build(self.chroot, newest, os.path.join(HERE, "guest_init"), os.path.join(newest, "initrd.dpdk"), initrd.DPDK)
 
+    def serving_initrd(self, kernels):
+        """Builds the first file system of a guest a that has what a guest b boots over the network, in /boot."""
+        served = self.kernel(kernels["b"])
+        files = {f"boot/{name}": os.path.join(served, name) for name in ("vmlinuz", "initrd")}
+        own = self.kernel(kernels["a"])
+        initrd.build(self.chroot, own, os.path.join(HERE, "guest_init"), os.path.join(own, "initrd.serving"), files=files)
+
     def qemu(self):
         """What QEMU calls itself."""
         said = subprocess.run(["chroot", self.chroot, "qemu-system-x86_64", "--version"], capture_output=True, text=True)

@@ -73,10 +73,11 @@ def add(name, files, built_in, modules, order):
     order.append(name)
 
 
-def build(chroot, kernel, init, out, more=()):
-    """Writes the file system, as a cpio archive in the `newc` form, to `out`; `more` are programs and libraries besides."""
+def build(chroot, kernel, init, out, more=(), files=()):
+    """Writes the file system, as a cpio archive in the `newc` form, to `out`; `more` are programs and libraries besides, and `files` says
+    where others stand in it and where they are here."""
     archive = Archive()
-    for folder in ("bin", "lib", "lib64", "modules", "dev"):
+    for folder in ("bin", "boot", "lib", "lib64", "modules", "dev"):
         archive.folder(folder)
     archive.file("init", init, executable=True)
     libraries = {LOADER, UNNAMED}
@@ -89,6 +90,8 @@ def build(chroot, kernel, init, out, more=()):
         archive.file(place + os.path.basename(library), chroot + library, executable=True)
     for name in sorted(os.listdir(os.path.join(kernel, "modules"))):
         archive.file("modules/" + name, os.path.join(kernel, "modules", name))
+    for name, path in dict(files).items():
+        archive.file(name, path)
     with open(out, "wb") as file:
         file.write(archive.bytes())
 

@@ -1,9 +1,11 @@
-"""The steps in which a guest has another driver than Linux: DPDK's, and iPXE's."""
+"""The steps in which a guest has another driver than Linux's: DPDK's, and iPXE's."""
 
+import os
 import re
+import secrets
 
-from guest import Boot, linux
-from stage import Differs, address_of, ping
+from guest import MEBIBYTE, Boot, linux
+from stage import ADDRESS, Differs, LeftOut, address_of, ping
 
 # The guest's own pages of 2 MiB for DPDK, and where the card is on its bus.
 PAGES = 64
@@ -36,19 +38,54 @@ def dpdk(stage):
 
 
 def ipxe(stage):
-    """iPXE's own driver takes a card, and it shows its prompt"""
-    stage.pair()
-    boot = Boot("/guests/ipxe/ipxe.lkrn", "/guests/ipxe/script", "", 256,
-                ("-vga", "none", "-fw_cfg", "name=etc/sercon-port,file=/guests/ipxe/serial"))
-    stage.start("b", boot=boot)
-    b = stage.guests["b"]
+    """iPXE, by its own driver, boots a Linux that guest a serves by DHCP and HTTP"""
+    if stage.setting.offloads == "none":
+        raise LeftOut("with --no-offloads the card takes no legacy receive descriptors, by which iPXE receives")
+    setting = stage.setting
+    token = secrets.token_hex(8)
+    with open(os.path.join(setting.chroot, "guests/ipxe/script"), "w") as script:
+        script.write("#!ipxe\nifopen net0\nifstat net0\nautoboot net0\nshell\n")
+    stage.serve()
     try:
-        said = b.until(b"iPXE>", 120)
+        stage.start("a", boot=linux(setting.kernels["a"], "initrd.serving", memory=384))
+        stage.bring_up("a")
+        serve(stage.guests["a"], token)
+        stage.start("b", boot=Boot(
+            "/guests/ipxe/ipxe.lkrn", "/guests/ipxe/script", "", 384,
+            ("-vga", "none", "-fw_cfg", "name=etc/sercon-port,file=/guests/ipxe/serial")))
+        return booted(stage, token)
     finally:
-        stage.drop("b")
+        for name in ADDRESS:
+            stage.drop(name)
+
+
+def serve(guest, token):
+    """Has the guest give the other one an address, and what it boots: the kernel's words have the token."""
+    here = ADDRESS[guest.name]
+    words = linux("", append=f" booted-by-ipxe={token}").append
+    pool = here.rpartition(".")[0]
+    guest.ask(f"cd /boot && printf '#!ipxe\\nkernel vmlinuz {words}\\ninitrd initrd\\nboot\\n' > boot.ipxe && httpd -p 80 -h /boot")
+    guest.ask(f"cd /tmp && touch leases && printf 'interface eth0\\nstart {pool}.50\\nend {pool}.60\\noption subnet 255.255.255.0\\n"
+              f"siaddr {here}\\nboot_file http://{here}/boot.ipxe\\nlease_file /tmp/leases\\npidfile /tmp/udhcpd.pid\\n' > udhcpd.conf && "
+              "udhcpd udhcpd.conf")
+
+
+def booted(stage, token):
+    """What iPXE says until Linux runs, and what that Linux says."""
+    a, b = (stage.guests[name] for name in ADDRESS)
+    said = b.until(b"guest-is-ready\n", 300)
     words = " ".join(re.sub(r"\x1b\[[0-9;]*[A-Za-z]", "", said).split())
     driver = re.search(r"net0: ([0-9a-f:]{17}) using (\S+) on \S+ \([^)]*\) \[open\] \[Link:up", words)
     if not driver or driver[1] != address_of("b"):
         raise Differs(f"iPXE said: {words[-400:]}")
+    told = b.ask("cat /proc/cmdline")
+    if f"booted-by-ipxe={token}" not in told:
+        raise Differs(f"what booted has the words `{told}`, and not {token}")
+    size = sum(int(count) for count in a.ask("stat -c %s /boot/vmlinuz /boot/initrd").split())
     version = re.search(r"iPXE [0-9][^ ]*", words)
-    return f"{version[0] if version else 'iPXE'}: its {driver[2]} opens {driver[1]}, the link is up, and its prompt stands there"
+    seen = (f"{version[0] if version else 'iPXE'}: its {driver[2]} opens {driver[1]}, the link is up; an address by DHCP, and "
+            f"{size / MEBIBYTE:.0f} MiB by HTTP, both of guest a; what booted is Linux {b.ask('uname -r')}, whose words have this run's "
+            f"{token}")
+    stage.load(b)
+    stage.answers(a)
+    return f"{seen}; its ixgbevf takes the card: " + ping(a, 20).whole("a to b")

@@ -42,6 +42,8 @@ class Server:
         setting = self.setting
         command = self.within + [setting.program, "--functions", str(setting.functions), "--dir", setting.place,
                                  "--frame", str(setting.frame)] + self.more
+        if setting.offloads:
+            command += ["--offloads", setting.offloads]
         if config is not None:
             self.write(config)
             command += ["--config", self.config]

@@ -26,7 +26,8 @@ class LeftOut(Exception):
 
 @dataclass
 class Setting:
-    """What a run is made with. `place` is the folder of sockets as the host names it, `inside` as the chroot does."""
+    """What a run is made with. `place` is the folder of sockets as the host names it, `inside` as the chroot does; `offloads` is what the
+    server is told of them, nothing where it is empty, and with "none" the guests' drivers are told too."""
 
     chroot: str
     logs: str
@@ -34,7 +35,7 @@ class Setting:
     kernels: dict
     accelerator: str
     frame: int
-    offloads: bool
+    offloads: str
     verbose: bool
     functions: int = 4
     inside: str = "/run/vfdev"
@@ -65,12 +66,16 @@ class Stage:
     def clear(self):
         shutil.rmtree(self.setting.place, ignore_errors=True)
 
-    def pair(self):
-        """Both guests, with the driver loaded, the link up and an internet address."""
+    def serve(self):
+        """The server, to which guests attach."""
         if not self.server.alive():
             if self.server.process:
                 raise Broken("there is no server to attach to")
             self.server.start()
+
+    def pair(self):
+        """Both guests, with the driver loaded, the link up and an internet address."""
+        self.serve()
         fresh = [name for name in FUNCTION if not self.there(name)]
         for name in fresh:
             self.start(name)
@@ -96,7 +101,7 @@ class Stage:
         """Loads the driver and brings its interface up."""
         guest.ask("load ixgbevf")
         self.until(guest, "test -e /sys/class/net/eth0", 20, "no eth0 after the driver was loaded")
-        if not self.setting.offloads:
+        if self.setting.offloads == "none":
             guest.ask("ethtool -K eth0 tx off tso off")
         guest.ask(f"ip addr add {ADDRESS[guest.name]}/24 dev eth0 && ip link set eth0 up")
         self.carrier(guest)
@@ -170,7 +175,7 @@ class Ping:
         return f"{what}: {self.sent} of {self.sent} came back, {self.times}"
 
 
-def ping(guest, count, size=56, seconds=60):
-    """Pings the other guest as fast as it answers."""
-    said, _ = guest.run(f"ping -A -q -c {count} -s {size} -w {seconds} {ADDRESS[OTHER[guest.name]]}", seconds + 30)
+def ping(guest, count, size=56, seconds=60, to=None):
+    """Pings the other guest, or the internet address `to`, as fast as it answers."""
+    said, _ = guest.run(f"ping -A -q -c {count} -s {size} -w {seconds} {to or ADDRESS[OTHER[guest.name]]}", seconds + 30)
     return Ping.of(said)

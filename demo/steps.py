@@ -64,23 +64,33 @@ def large_ping(stage):
 def tcp(stage):
     """a file goes each way over TCP, and its SHA-256 is compared; then how fast TCP is"""
     pair = stage.pair()
-    seen = [copied(*pair, 4), copied(*reversed(pair), 4)]
+    seen = [left_to_card(stage), copied(*pair, 4), copied(*reversed(pair), 4)]
     a, b = pair
     b.ask("iperf3 -s -D -1 > /dev/null; sleep 1")
     seen.append(f"a to b {rate(a.ask(f'iperf3 -c {ADDRESS[b.name]} -t 5 -f m', 60))}")
     b.ask("iperf3 -s -D -1 > /dev/null; sleep 1")
     seen.append(f"b to a {rate(a.ask(f'iperf3 -c {ADDRESS[b.name]} -R -t 5 -f m', 60))}")
-    if not stage.setting.offloads:
-        seen.append("with `ethtool -K eth0 tx off tso off`: the card does no sums and no segments yet")
     return "; ".join(seen)
 
 
-def copied(source, sink, mebibytes):
-    """Copies a file of random bytes from one guest to the other over HTTP."""
+def left_to_card(stage):
+    """What the drivers leave to the card of TCP, by the guests' own word."""
+    is_off = stage.setting.offloads == "none"
+    for guest in stage.pair():
+        said = guest.ask("ethtool -k eth0")
+        for name in ("tx-checksumming", "tcp-segmentation-offload"):
+            if f"{name}: {'off' if is_off else 'on'}" not in said:
+                raise Differs(f"guest {guest.name}: `ethtool -k eth0` says {' '.join(said.split())[:300]}")
+    return ("without offloads: `ethtool -K eth0 tx off tso off`, and a card that does none" if is_off else
+            "sums and segments are left to the card, as the driver comes (`ethtool -k eth0`)")
+
+
+def copied(source, sink, mebibytes, at=None):
+    """Copies a file of random bytes from one guest to the other over HTTP. `at` has their internet addresses, where it isn't ADDRESS."""
     source.ask(f"mkdir -p /srv; dd if=/dev/urandom of=/srv/file bs=1M count={mebibytes}")
     source.ask("test -e /served || { httpd -p 80 -h /srv && touch /served; }")
     expected = source.ask("sha256sum < /srv/file").split()[0]
-    sink.ask(f"wget -q -T 20 -O /copy http://{ADDRESS[source.name]}/file", 120)
+    sink.ask(f"wget -q -T 20 -O /copy http://{(at or ADDRESS)[source.name]}/file", 120)
     found = sink.ask("sha256sum < /copy; rm /copy").split()[0]
     if found != expected:
         raise Differs(f"{source.name} to {sink.name}: SHA-256 {found}, sent {expected}")

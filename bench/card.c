@@ -141,7 +141,7 @@ static void start_driver(uint8_t function)
 int main(void)
 {
     static const uint16_t ids[] = {0};
-    if (vfdev_card_make(&card, FUNCTIONS, ids, 1, VFDEV_CARD_NOBODY, 1518) != VFDEV_OK)
+    if (vfdev_card_make(&card, FUNCTIONS, ids, 1, VFDEV_CARD_NOBODY, 1518, 0) != VFDEV_OK)
         return 1;
     for (uint8_t function = 0; function < FUNCTIONS; function++) {
         come(function);

@@ -7,6 +7,7 @@
 pub mod broken;
 mod chance;
 mod clusters;
+mod register_words;
 pub mod registers;
 pub mod seeded;
 pub mod short;

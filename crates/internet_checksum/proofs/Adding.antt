@@ -1,8 +1,9 @@
 -- Sums of words, and sums in ones' complement.
-use Rattle.std.proofs.Common.{◌≡◌, ℕ, zero, suc, ◌+◌, ◌-◌, ◌*◌, ◌/◌, ◌%◌, ◌^◌, ◌<◌, ◌≤◌, Bool, true, false, eqb, List, [], ◌∷◌, ◌++◌, length, take, drop, get_or, refl, sym, ap, ◌∙◌, arith, ⊎_elim, zero-add, add_assoc}
+use Rattle.std.proofs.Common.{◌≡◌, ℕ, zero, suc, ◌+◌, ◌-◌, ◌*◌, ◌/◌, ◌%◌, ◌^◌, ◌<◌, ◌≤◌, Bool, true, false, eqb, List, [], ◌∷◌, ◌++◌, length, take, drop, get_or, refl, sym, ap, ◌∙◌, arith, ⊎_elim, zero-add, add_assoc, length-drop}
+use Rattle.std.proofs.lemmas.List.{drop-drop}
 use Rattle.std.proofs.Math.Nat.{mul-add-mod_self_right, mod-eq_of_lt, div-add-mod, mod-lt}
 use Rattle.std.proofs.Math.Dec.{eqb-suc-zero}
-use Rattle.byteorder.specs.Endian.{big_number}
+use Rattle.byteorder.specs.Endian.{big_number, little_number}
 use Rattle.internet_checksum.specs.Sum.{word_sum, folded}
 
 -- ---- ones' complement
@@ -49,6 +50,17 @@ folded-part m n =
     none : folded m + n ≡ 0 → (m - 1) / 65535 ≡ 0
     none h = let gone : m ≡ 0 = folded-none m (omega arith) in rw gone refl
 
+-- 256 times, too
+pub folded-times : (m n : ℕ) → folded (256 * m + n) ≡ folded (256 * folded m + n)
+folded-times m n =
+    folded-close (256 * folded m + n) (256 * m + n) (256 * ((m - 1) / 65535)) (omega (arith, folded-split m)) none
+  where
+    none : 256 * folded m + n ≡ 0 → 256 * ((m - 1) / 65535) ≡ 0
+    none h = let gone : m ≡ 0 = folded-none m (omega (arith, h)) in rw gone refl
+
+pub folded-same_times : (m k n : ℕ) → folded m ≡ folded k → folded (256 * m + n) ≡ folded (256 * k + n)
+folded-same_times m k n e = folded-times m n ∙ ap (λ (s : ℕ). folded (256 * s + n)) e ∙ sym (folded-times k n)
+
 -- with its bits turned over, a sum comes to all ones
 pub folded-turned : (n w : ℕ) → w ≡ 65535 - folded n → folded (n + w) ≡ 65535
 folded-turned n w e =
@@ -83,24 +95,59 @@ word_sum-append (a ∷ (b ∷ xs)) ys even =
     let rest = word_sum-append xs ys (omega (arith, even)) in
     rw (word_sum-two a b (xs ++ ys), word_sum-two a b xs, rest) (omega arith)
 
--- eight bytes as one number count as the four words that they are
-pub word_sum-eight : (bytes : List ℕ) (total : ℕ) → 8 ≤ length bytes → folded (total + big_number 8 bytes + word_sum (drop 8 bytes)) ≡ folded (total + word_sum bytes)
-word_sum-eight (a ∷ (b ∷ (c ∷ (d ∷ (e ∷ (f ∷ (g ∷ (h ∷ rest)))))))) total long =
+-- eight bytes as one number, the lowest first, 256 times count as the four words that they are
+pub word_sum-eight : (bytes : List ℕ) (total more : ℕ) → 8 ≤ length bytes
+    → folded (256 * (total + little_number 8 bytes) + (more + word_sum (drop 8 bytes))) ≡ folded (256 * total + (more + word_sum bytes))
+word_sum-eight (a ∷ (b ∷ (c ∷ (d ∷ (e ∷ (f ∷ (g ∷ (h ∷ rest)))))))) total more long =
     let all : word_sum (a ∷ (b ∷ (c ∷ (d ∷ (e ∷ (f ∷ (g ∷ (h ∷ rest)))))))) ≡ a * 256 + b + (c * 256 + d + (e * 256 + f + (g * 256 + h + word_sum rest))) =
     rw (word_sum-two a b (c ∷ (d ∷ (e ∷ (f ∷ (g ∷ (h ∷ rest)))))), word_sum-two c d (e ∷ (f ∷ (g ∷ (h ∷ rest)))), word_sum-two e f (g ∷ (h ∷ rest)), word_sum-two g h rest) refl in
-    rw all (eight a b c d e f g h total (word_sum rest))
+    rw all (eight a b c d e f g h total more (word_sum rest))
   where
-    eight : (a b c d e f g h total more : ℕ)
-        → folded (total + (a * 72057594037927936 + (b * 281474976710656 + (c * 1099511627776 + (d * 4294967296 + (e * 16777216 + (f * 65536 + (g * 256 + (h * 1 + 0)))))))) + more)
-        ≡ folded (total + (a * 256 + b + (c * 256 + d + (e * 256 + f + (g * 256 + h + more)))))
-    eight a b c d e f g h total more =
+    eight : (a b c d e f g h total more left : ℕ)
+        → folded (256 * (total + (a + 256 * (b + 256 * (c + 256 * (d + 256 * (e + 256 * (f + 256 * (g + 256 * (h + 256 * 0))))))))) + (more + left))
+        ≡ folded (256 * total + (more + (a * 256 + b + (c * 256 + d + (e * 256 + f + (g * 256 + h + left))))))
+    eight a b c d e f g h total more left =
         folded-close
-        (total + (a * 256 + b + (c * 256 + d + (e * 256 + f + (g * 256 + h + more)))))
-        (total + (a * 72057594037927936 + (b * 281474976710656 + (c * 1099511627776 + (d * 4294967296 + (e * 16777216 + (f * 65536 + (g * 256 + (h * 1 + 0)))))))) + more)
-        ((a * 256 + b) * 4295032833 + ((c * 256 + d) * 65537 + (e * 256 + f)))
+        (256 * total + (more + (a * 256 + b + (c * 256 + d + (e * 256 + f + (g * 256 + h + left))))))
+        (256 * (total + (a + 256 * (b + 256 * (c + 256 * (d + 256 * (e + 256 * (f + 256 * (g + 256 * (h + 256 * 0))))))))) + (more + left))
+        ((c * 256 + b) + ((e * 256 + d) * 65537 + ((g * 256 + f) * 4295032833 + h * 281479271743489)))
         (omega arith)
         (λ none. omega (arith, none))
-word_sum-eight _ total long = absurd (omega (arith, long))
+word_sum-eight _ total more long = absurd (omega (arith, long))
+
+-- sixteen bytes, by two sums
+pub word_sum-sixteen : (bytes : List ℕ) (first second more : ℕ) → 16 ≤ length bytes
+    → folded (256 * (first + little_number 8 bytes + (second + little_number 8 (drop 8 bytes))) + (more + word_sum (drop 16 bytes)))
+    ≡ folded (256 * (first + second) + (more + word_sum bytes))
+word_sum-sixteen bytes first second more long =
+    let x : ℕ = little_number 8 bytes in
+    let y : ℕ = little_number 8 (drop 8 bytes) in
+    ap (λ (t : ℕ). folded (256 * t + (more + word_sum (drop 16 bytes)))) (regrouped first second x y)
+    ∙ ap (λ (l : List ℕ). folded (256 * (first + second + x + y) + (more + word_sum l))) (sym (drop-drop 8 8 bytes))
+    ∙ word_sum-eight (drop 8 bytes) (first + second + x) more (omega (arith, length-drop 8 bytes))
+    ∙ word_sum-eight bytes (first + second) more (omega (arith, long))
+  where
+    regrouped : (first second x y : ℕ) → first + x + (second + y) ≡ first + second + x + y
+    regrouped first second x y = omega arith
+
+-- four bytes as one number, the highest first, count as the two words that they are
+pub word_sum-four : (bytes : List ℕ) (more : ℕ) → 4 ≤ length bytes → folded (more + (big_number 4 bytes + word_sum (drop 4 bytes))) ≡ folded (more + word_sum bytes)
+word_sum-four (a ∷ (b ∷ (c ∷ (d ∷ rest)))) more long =
+    let all : word_sum (a ∷ (b ∷ (c ∷ (d ∷ rest)))) ≡ a * 256 + b + (c * 256 + d + word_sum rest) =
+    rw (word_sum-two a b (c ∷ (d ∷ rest)), word_sum-two c d rest) refl in
+    rw all (four a b c d more (word_sum rest))
+  where
+    four : (a b c d more left : ℕ)
+        → folded (more + (a * 16777216 + (b * 65536 + (c * 256 + (d * 1 + 0))) + left))
+        ≡ folded (more + (a * 256 + b + (c * 256 + d + left)))
+    four a b c d more left =
+        folded-close
+        (more + (a * 256 + b + (c * 256 + d + left)))
+        (more + (a * 16777216 + (b * 65536 + (c * 256 + (d * 1 + 0))) + left))
+        (a * 256 + b)
+        (omega arith)
+        (λ none. omega (arith, none))
+word_sum-four _ more long = absurd (omega (arith, long))
 
 -- the first word, and the others
 pub word_sum-first : (bytes : List ℕ) → 2 ≤ length bytes → word_sum bytes ≡ big_number 2 bytes + word_sum (drop 2 bytes)

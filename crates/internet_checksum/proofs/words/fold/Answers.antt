@@ -6,10 +6,9 @@ use Rattle.internet_checksum.proofs.words.fold.Goals as goal
 
 pub returns : goal.returns
 returns c =
-    let n : ℕ = c.args.total in
-    let a : ℕ = n % 18446744073709551616 + n / 18446744073709551616 in
+    let a : ℕ = c.args.total in
     let b : ℕ = a % 4294967296 + a / 4294967296 in
     let d : ℕ = b % 65536 + b / 65536 in
     let e : ℕ = d % 65536 + d / 65536 in
     let f : ℕ = e % 65536 + e / 65536 in
-    sym (folded-fits f (omega arith)) ∙ folded-halves e 1 ∙ folded-halves d 1 ∙ folded-halves b 1 ∙ folded-halves a 65537 ∙ folded-halves n 281479271743489
+    sym (folded-fits f (omega arith)) ∙ folded-halves e 1 ∙ folded-halves d 1 ∙ folded-halves b 1 ∙ folded-halves a 65537

@@ -5,8 +5,8 @@ use Rattle.internet_checksum.proofs.words.sum.Given as goal
 
 abbrev pub invariant-loop-rest : goal.invariant-loop-rest
 invariant-loop-rest l = record {
-  few : l.total + 2 ^ 64 * length l.rest ≤ 65535 + 2 ^ 64 * length l.fn.bytes;
-  whole : folded (l.total + word_sum l.rest) ≡ folded (l.fn.start + word_sum l.fn.bytes);
+  few : 8 * (l.first + l.second) + 2 ^ 64 * length l.rest ≤ 2 ^ 64 * length l.fn.bytes;
+  whole : folded (256 * (l.first + l.second) + (l.fn.start + word_sum l.rest)) ≡ folded (l.fn.start + word_sum l.fn.bytes);
 }
 
 abbrev pub decreases-loop-rest : goal.decreases-loop-rest

@@ -1,0 +1,3 @@
+pub mod Pseudo
+pub mod Stored
+pub mod Changed

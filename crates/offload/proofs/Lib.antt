@@ -4,3 +4,4 @@ pub mod Parts
 pub mod Checked
 pub mod Segmented
 pub mod Joined
+pub mod Within

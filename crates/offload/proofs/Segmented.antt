@@ -223,6 +223,12 @@ unfolding segment_of
 segment_tcp_verifies c frame n cut =
     finished_tcp_verifies c n (eqb (n + 1) (segment_count c (length frame))) (take (payload_at c) frame ++ piece c frame n) (copied c frame n cut)
 
+pub length-segment : (c : Context) (frame : List ℕ) (n : ℕ) → IsCut c (length frame) → length (segment_of c frame n) ≡ payload_at c + length (piece c frame n)
+unfolding segment_of
+length-segment c frame n cut =
+    length-finished c n (eqb (n + 1) (segment_count c (length frame))) (take (payload_at c) frame ++ piece c frame n) (copied c frame n cut)
+    ∙ omega (arith, cut.payload, length-append (take (payload_at c) frame) (piece c frame n), length-take-le (payload_at c) frame (omega (arith, cut.payload)))
+
 -- its payload is its piece
 pub segment_payload : (c : Context) (frame : List ℕ) (n : ℕ) → IsCut c (length frame) → drop (payload_at c) (segment_of c frame n) ≡ piece c frame n
 unfolding segment_of

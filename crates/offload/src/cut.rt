@@ -1,12 +1,12 @@
 //! Which frames can be cut into segments, and into how many.
-ghost use Rattle.std.specs.Prelude.{◌≡◌, ◌+◌, ◌-◌, ◌*◌, ◌/◌, ◌<◌, ◌≤◌, ◌++◌, length, drop, take, IfOk, Option, None};
+ghost use Rattle.std.specs.Prelude.{◌≡◌, ◌+◌, ◌-◌, ◌*◌, ◌/◌, ◌<◌, ◌≤◌, ◌++◌, ◌==◌, nat_lt, length, drop, take, slice_range, IfOk, Option, None};
 ghost use Rattle.std.specs.Result.{result_err};
 ghost use Rattle.offload.specs.Context.{transport_at, payload_at};
 ghost use Rattle.offload.specs.Cut.{Cutting, IsCut, ip_least, payload_size, longest, segment_count, lengths_refusal, cut_refusal};
 ghost use Rattle.offload.specs.Segment.{segment_of};
 
 use crate::context::{Context, Ip, Transport};
-use crate::segment::lay_segment;
+use crate::segment::{make_segment, piece_at, place, put_back};
 use std::marker::Model;
 use thiserror::Error;
 
@@ -85,6 +85,24 @@ impl Cut {
         segment_count(&self.context, self.size)
     }
 
+    /// Whether there is a segment of this number, from 0 on.
+    #[inline]
+    pub fn has(&self, number: usize) -> bool
+        ensures { result ≡ nat_lt number (segment_count self.now.context self.now.size) }
+    {
+        has(&self.context, self.size, number)
+    }
+
+    /// Whether it is the last one.
+    #[inline]
+    pub fn is_last(&self, number: usize) -> bool
+        requires { number < segment_count self.now.context self.now.size }
+        ensures last { result ≡ (number + 1 == segment_count self.now.context self.now.size) }
+        ensures few { number + 1 ≤ self.now.size }
+    {
+        is_last(&self.context, self.size, number)
+    }
+
     /// How many bytes the longest of them has, 41 to 65,535.
     pub fn longest(&self) -> usize
         ensures longest { result ≡ longest self.now.context self.now.size }
@@ -93,21 +111,59 @@ impl Cut {
         longest(&self.context, self.size)
     }
 
-    /// Writes a segment of the frame, by its number from 0 on, into the front of a room, and tells how many bytes it has. The rest of the
-    /// room stays as it was.
+    /// How many bytes of the frame stand in front of its payload, 40 at least: how much room [`Cut::segment`] wants.
+    #[inline]
+    pub fn headers(&self) -> usize
+        ensures headers { result ≡ payload_at self.now.context }
+        ensures most { result ≤ longest self.now.context self.now.size }
+    {
+        self.context.payload_at()
+    }
+
+    /// How many bytes of the frame stand in front of a segment, where [`Cut::segment`] makes it.
+    #[inline]
+    pub fn place(&self, number: usize) -> usize
+        requires { number < segment_count self.now.context self.now.size }
+        ensures { result ≡ number * self.now.context.mss }
+    {
+        place(&self.context, self.size, number)
+    }
+
+    /// Makes a segment of the frame, by its number from 0 on, and tells how many bytes it has. It is made among the bytes of the frame, from
+    /// [`Cut::place`] on: its payload stays where it is, and its headers are laid in front of it. What stood there goes into the front of a
+    /// room, and [`Cut::put_back`] makes the bytes those of the frame again.
     ///
     /// A segment has the headers of the frame, and at most MSS bytes of its payload, those behind what the segments before it have. Lengths
     /// and checksums are its own. IPv4's identification rises by one with each segment, TCP's sequence number by the payload; PSH and FIN
     /// stand in the last one alone, CWR in the first one alone.
-    pub fn segment(&self, frame: &[u8], number: usize, room: &mut [u8]) -> usize
-        requires frame { length frame.now ≡ self.now.size }
+    pub fn segment(&self, frame: &mut [u8], number: usize, kept: &mut [u8]) -> usize
+        requires frame { length frame.old ≡ self.now.size }
         requires number { number < segment_count self.now.context self.now.size }
-        requires room { longest self.now.context self.now.size ≤ length room.old }
-        ensures bytes { room.new ≡ segment_of self.now.context frame.now number ++ drop result room.old }
-        ensures length { result ≡ length (segment_of self.now.context frame.now number) }
+        requires room { payload_at self.now.context ≤ length kept.old }
+        ensures segment { slice_range frame.new (number * self.now.context.mss) (number * self.now.context.mss + result)
+            ≡ segment_of self.now.context frame.old number }
+        ensures whole { take (number * self.now.context.mss) frame.new
+            ++ (take (payload_at self.now.context) kept.new ++ drop (number * self.now.context.mss + payload_at self.now.context) frame.new)
+            ≡ frame.old }
+        ensures rest { drop (payload_at self.now.context) kept.new ≡ drop (payload_at self.now.context) kept.old }
+        ensures room { length kept.new ≡ length kept.old }
+        ensures inside { number * self.now.context.mss + result ≤ length frame.new }
+        ensures same { length frame.new ≡ length frame.old }
+        ensures length { result ≡ length (segment_of self.now.context frame.old number) }
         ensures most { result ≤ longest self.now.context self.now.size }
     {
-        lay_segment(&self.context, frame, number, room)
+        make_segment(&self.context, frame, number, kept)
+    }
+
+    /// Puts back what [`Cut::segment`] took out of the frame for a segment, from the front of the room that has it.
+    pub fn put_back(&self, frame: &mut [u8], number: usize, kept: &[u8])
+        requires frame { length frame.old ≡ self.now.size }
+        requires number { number < segment_count self.now.context self.now.size }
+        requires room { payload_at self.now.context ≤ length kept.now }
+        ensures { frame.new ≡ take (number * self.now.context.mss) frame.old
+            ++ (take (payload_at self.now.context) kept.now ++ drop (number * self.now.context.mss + payload_at self.now.context) frame.old) }
+    {
+        put_back(&self.context, frame, number, kept);
     }
 }
 
@@ -166,14 +222,36 @@ fn longest(context: &Context, size: usize) -> usize
     context.payload_at() + usize::from(context.mss).min(size - context.payload_at())
 }
 
-/// How many segments a frame of that size gives.
+// How many segments a frame of that size gives.
 #[inline]
 #[tactic(auto, unfolding(crate::specs::Cut::segment_count))]
-pub(crate) fn segment_count(context: &Context, size: usize) -> usize
+fn segment_count(context: &Context, size: usize) -> usize
     requires payload { payload_at context.now < size }
     requires mss { 0 < context.now.mss }
     ensures { result ≡ segment_count context.now size }
 {
     let mss = usize::from(context.mss);
     (size - context.payload_at() - 1) / mss + 1
+}
+
+// Whether it gives one of this number. A product takes less time than a quotient.
+#[inline]
+fn has(context: &Context, size: usize, number: usize) -> bool
+    requires payload { payload_at context.now < size }
+    requires mss { 0 < context.now.mss }
+    ensures { result ≡ nat_lt number (segment_count context.now size) }
+{
+    let mss = usize::from(context.mss);
+    number as u128 * (mss as u128) < (size - context.payload_at()) as u128
+}
+
+/// Whether it is the last one.
+#[inline]
+pub(crate) fn is_last(context: &Context, size: usize, number: usize) -> bool
+    requires cut { IsCut context.now size }
+    requires number { number < segment_count context.now size }
+    ensures last { result ≡ (number + 1 == segment_count context.now size) }
+    ensures few { number + 1 ≤ size }
+{
+    size - piece_at(context, size, number) <= usize::from(context.mss)
 }

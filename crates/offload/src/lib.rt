@@ -3,8 +3,8 @@
 //!
 //! [`Context::decode`] reads what a driver says of its frames, an advanced transmit context descriptor. [`insert_sums`] puts the checksum of the
 //! IPv4 header and that of TCP or UDP into a frame, or names why it can't and leaves the frame as it is. [`Cut::of`] tells whether a frame can be
-//! cut, and [`Cut::segment`] writes one of its segments into the caller's room. Whatever a guest writes into its descriptors and frames, each
-//! call is done.
+//! cut, and [`Cut::segment`] makes one of its segments among the bytes of the frame, which [`Cut::put_back`] makes whole again. Whatever a guest
+//! writes into its descriptors and frames, each call is done.
 //!
 //! Each sum that was asked for verifies, also in each segment, and the payloads of the segments are the payload of the frame ([`laws`]).
 //! What a segment is, byte for byte, [`Cut::segment`] says by one definition.
@@ -14,14 +14,15 @@
 //! ```
 //! // 14 bytes of Ethernet, 20 of IPv4 and 20 of TCP; 10 bytes of payload a segment
 //! let context = Context::decode(0x1C14, 0x000A_1400_0000_0C00);
-//! let frame = [0u8; 75];
+//! let mut frame = [0u8; 75];
 //! let Ok(cut) = Cut::of(&context, frame.len(), 1514) else {
 //!     return Err("it can be cut".into());
 //! };
 //! let mut room = [0u8; 1514];
 //! for number in 0..cut.count() {
-//!     let size = cut.segment(&frame, number, &mut room);
+//!     let size = cut.segment(&mut frame, number, &mut room);
 //!     assert!(rt; size == 64 || number == 2);
+//!     cut.put_back(&mut frame, number, &room);
 //! }
 //! ```
 //!

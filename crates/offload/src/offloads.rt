@@ -14,13 +14,18 @@ const SEGMENTATION: u32 = 2;
 const AUTO_MASK: u32 = 3;
 
 const LEGACY_RECEIVE: u32 = 4;
+
+const THROTTLE: u32 = 5;
+
+const RECEIVE_CHECKSUM: u32 = 6;
 /// How many flags there are.
-const FLAGS: u32 = 5;
+const FLAGS: u32 = 7;
 
 /// What a device does for its drivers beyond frames as they stand, fixed when it is made.
 ///
 /// A device that does none of it takes a descriptor that asks for a tag or for segments as one that it cannot use, leaves sums as the
-/// driver wrote them, and turns no receive queue of legacy descriptors on.
+/// driver wrote them, turns no receive queue of legacy descriptors on, says nothing of the sums of frames that come, and has no
+/// intervals between interrupts.
 #[derive(Clone, Copy, Debug, PartialEq, Eq)]
 pub struct Offloads {
     /// It inserts the VLAN tag of a context descriptor where a data descriptor asks for it (VLE).
@@ -33,6 +38,10 @@ pub struct Offloads {
     pub auto_mask: bool,
     /// It takes legacy receive descriptors, SRRCTL.DESCTYPE 0.
     pub legacy_receive: bool,
+    /// It keeps how far apart the driver wants the messages of each vector (VTEITR), for whoever hands them out.
+    pub throttle: bool,
+    /// It says in the receive descriptor whether the checksums of a frame verify (IPCS, L4CS, IPE, L4E).
+    pub receive_checksum: bool,
 }
 
 impl Offloads {
@@ -46,6 +55,8 @@ impl Offloads {
             segmentation: false,
             auto_mask: false,
             legacy_receive: false,
+            throttle: false,
+            receive_checksum: false,
         }
     }
 
@@ -59,11 +70,13 @@ impl Offloads {
             segmentation: true,
             auto_mask: true,
             legacy_receive: true,
+            throttle: true,
+            receive_checksum: true,
         }
     }
 
-    /// The flags of a word: bit 0 is VLAN tags, bit 1 checksums, bit 2 segments, bit 3 masks, and bit 4 legacy receive descriptors. `None`
-    /// where another bit is set.
+    /// The flags of a word: bit 0 is VLAN tags, bit 1 checksums, bit 2 segments, bit 3 masks, bit 4 legacy receive descriptors, bit 5
+    /// intervals between interrupts, and bit 6 checksums of frames that come. `None` where another bit is set.
     #[tactic(auto, unfolding(crate::specs::Offloads::offloads_of))]
     pub fn from_bits(word: u32) -> Option<Offloads>
         ensures { result ≡ offloads_of word }
@@ -78,6 +91,8 @@ impl Offloads {
             segmentation: has_bit(word, SEGMENTATION),
             auto_mask: has_bit(word, AUTO_MASK),
             legacy_receive: has_bit(word, LEGACY_RECEIVE),
+            throttle: has_bit(word, THROTTLE),
+            receive_checksum: has_bit(word, RECEIVE_CHECKSUM),
         })
     }
 }

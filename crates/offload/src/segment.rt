@@ -6,7 +6,7 @@ ghost use Rattle.offload.specs.Cut.{IsCut, ip_least, longest, segment_count};
 ghost use Rattle.offload.specs.Segment.{ip_of, pseudo_header, with_sequence, flags_of, with_flags, tcp_of, finished, pseudo_of, with_ip_of, with_tcp_of, piece, segment_of};
 
 use crate::context::{Context, Ip};
-use crate::cut::segment_count;
+use crate::cut::is_last;
 use crate::store::store_word;
 use crate::sums::{sum_header, sum_tcp};
 use byteorder::{BigEndian, ByteOrder};
@@ -43,40 +43,77 @@ const PSH: u8 = 0x08;
 /// Finish.
 const FIN: u8 = 0x01;
 
-/// Writes segment `number` of a frame into the front of a room, and tells how many bytes it has.
-#[tactic(auto, unfolding(crate::specs::Segment::segment_of))]
-pub(crate) fn lay_segment(context: &Context, frame: &[u8], number: usize, room: &mut [u8]) -> usize
-    requires cut { IsCut context.now (length frame.now) }
-    requires number { number < segment_count context.now (length frame.now) }
-    requires room { longest context.now (length frame.now) ≤ length room.old }
-    ensures bytes { room.new ≡ segment_of context.now frame.now number ++ drop result room.old }
-    ensures length { result ≡ length (segment_of context.now frame.now number) }
-    ensures most { result ≤ longest context.now (length frame.now) }
+/// Makes a segment among the bytes of the frame itself, in front of its payload, and tells how many bytes it has. What stood where its
+/// headers are goes into the front of a room.
+pub(crate) fn make_segment(
+    context: &Context,
+    frame: &mut [u8],
+    number: usize,
+    kept: &mut [u8],
+) -> usize
+    requires cut { IsCut context.now (length frame.old) }
+    requires number { number < segment_count context.now (length frame.old) }
+    requires room { payload_at context.now ≤ length kept.old }
+    ensures segment { slice_range frame.new (number * context.now.mss) (number * context.now.mss + result) ≡ segment_of context.now frame.old number }
+    ensures whole { take (number * context.now.mss) frame.new
+        ++ (take (payload_at context.now) kept.new ++ drop (number * context.now.mss + payload_at context.now) frame.new) ≡ frame.old }
+    ensures rest { drop (payload_at context.now) kept.new ≡ drop (payload_at context.now) kept.old }
+    ensures room { length kept.new ≡ length kept.old }
+    ensures inside { number * context.now.mss + result ≤ length frame.new }
+    ensures same { length frame.new ≡ length frame.old }
+    ensures length { result ≡ length (segment_of context.now frame.old number) }
+    ensures most { result ≤ longest context.now (length frame.old) }
 {
-    let count = segment_count(context, frame.len());
-    let headers = &frame[..context.payload_at()];
-    let piece = piece(context, frame, number);
-    let size = headers.len() + piece.len();
-    lay_two(room, headers, piece);
-    finish(&mut room[..size], context, number, number + 1 == count);
+    let headers = context.payload_at();
+    let size = headers + piece(context, frame, number).len();
+    let start = place(context, frame.len(), number);
+    let is_last = is_last(context, frame.len(), number);
+    kept[..headers].copy_from_slice(&frame[start..start + headers]);
+    lay_front(frame, headers, start);
+    finish_within(frame, start, start + size, context, number, is_last);
     size
 }
 
+/// Puts back what [`make_segment`] took out for a segment.
+pub(crate) fn put_back(context: &Context, frame: &mut [u8], number: usize, kept: &[u8])
+    requires cut { IsCut context.now (length frame.old) }
+    requires number { number < segment_count context.now (length frame.old) }
+    requires room { payload_at context.now ≤ length kept.now }
+    ensures { frame.new ≡ take (number * context.now.mss) frame.old
+        ++ (take (payload_at context.now) kept.now ++ drop (number * context.now.mss + payload_at context.now) frame.old) }
+{
+    let headers = context.payload_at();
+    let start = place(context, frame.len(), number);
+    frame[start..start + headers].copy_from_slice(&kept[..headers]);
+}
+
+/// How many bytes of a frame of that size stand in front of a segment that is made there.
+#[inline]
+pub(crate) fn place(context: &Context, size: usize, number: usize) -> usize
+    requires cut { IsCut context.now size }
+    requires number { number < segment_count context.now size }
+    ensures place { result ≡ number * context.now.mss }
+    ensures inside { result + payload_at context.now < size }
+{
+    piece_at(context, size, number) - context.payload_at()
+}
+
 // The payload of a segment.
+#[inline]
 fn piece<'a>(context: &Context, frame: &'a [u8], number: usize) -> &'a [u8]
     requires cut { IsCut context.now (length frame.now) }
     requires number { number < segment_count context.now (length frame.now) }
     ensures bytes { result.now ≡ piece context.now frame.now number }
     ensures most { payload_at context.now + length result.now ≤ longest context.now (length frame.now) }
-    ensures before { number * context.now.mss < 2 ^ 64 }
+    ensures inside { number * context.now.mss + (payload_at context.now + length result.now) ≤ length frame.now }
 {
     let rest = &frame[piece_at(context, frame.len(), number)..];
     &rest[..usize::from(context.mss).min(rest.len())]
 }
 
-// Where it begins in a frame of that size.
+/// Where the payload of a segment begins in a frame of that size.
 #[inline]
-fn piece_at(context: &Context, size: usize, number: usize) -> usize
+pub(crate) fn piece_at(context: &Context, size: usize, number: usize) -> usize
     requires cut { IsCut context.now size }
     requires number { number < segment_count context.now size }
     ensures place { result ≡ payload_at context.now + number * context.now.mss }
@@ -85,13 +122,39 @@ fn piece_at(context: &Context, size: usize, number: usize) -> usize
     context.payload_at() + number * usize::from(context.mss)
 }
 
-// Lays two parts into the front of a room.
-fn lay_two(room: &mut [u8], first: &[u8], second: &[u8])
-    requires { length first.now + length second.now ≤ length room.old }
-    ensures { room.new ≡ (first.now ++ second.now) ++ drop (length first.now + length second.now) room.old }
+// Lays a copy of the first bytes over those from a place on.
+#[inline]
+fn lay_front(bytes: &mut [u8], count: usize, at: usize)
+    requires { at + count ≤ length bytes.old }
+    ensures { bytes.new ≡ take at bytes.old ++ (take count bytes.old ++ drop (at + count) bytes.old) }
 {
-    room[..first.len()].copy_from_slice(first);
-    room[first.len()..first.len() + second.len()].copy_from_slice(second);
+    if at >= count {
+        let (front, back) = bytes.split_at_mut(at);
+        back[..count].copy_from_slice(&front[..count]);
+    } else {
+        bytes.copy_within(..count, at);
+    }
+}
+
+// Makes the bytes between two places a segment, as `finish` does.
+#[inline]
+fn finish_within(
+    bytes: &mut [u8],
+    from: usize,
+    to: usize,
+    context: &Context,
+    number: usize,
+    is_last: bool,
+)
+    requires order { from ≤ to }
+    requires inside { to ≤ length bytes.old }
+    requires ip { ip_least context.now.ip ≤ context.now.iplen }
+    requires tcp { from + (transport_at context.now + 20) ≤ to }
+    requires few { to - from ≤ 65535 }
+    requires before { number * context.now.mss < 2 ^ 64 }
+    ensures { bytes.new ≡ take from bytes.old ++ (finished context.now number is_last (slice_range bytes.old from to) ++ drop to bytes.old) }
+{
+    finish(&mut bytes[from..to], context, number, is_last);
 }
 
 // Makes a copy of the headers, with a payload behind them, a segment.

@@ -45,15 +45,32 @@ fn by_chance(rt: HostRuntime) -> Result<(), Fail> {
             return Err("it can be cut".into());
         };
         for number in 0..cut.count() {
-            let mut room = [0x5Au8; 500];
-            let length = cut.segment(bytes, number, &mut room);
-            let mut due = [0x5Au8; 500];
+            let mut copy = copy_of(&frame);
+            let Some(cells) = copy.get_mut(..size) else {
+                continue;
+            };
+            let mut kept = [0x5Au8; 500];
+            let place = cut.place(number);
+            let length = cut.segment(cells, number, &mut kept);
+            let mut due = copy_of(&frame);
             let due_length = plain_segment(&context, bytes, number, cut.count(), &mut due);
             assert_equal_at(&rt, length, due_length, (round, number));
-            assert_equal(&rt, room == due, true);
+            assert_equal(
+                &rt,
+                cells.get(place..place.wrapping_add(length)) == due.get(..length),
+                true,
+            );
+            cut.put_back(cells, number, &kept);
+            assert_equal(&rt, copy == frame, true);
         }
     }
     Ok(())
+}
+
+fn copy_of(frame: &[u8; MOST]) -> [u8; MOST] {
+    let mut copy = [0u8; MOST];
+    copy.copy_from_slice(frame);
+    copy
 }
 
 fn byte_at(bytes: &[u8], place: usize) -> u8 {

@@ -1,5 +1,5 @@
-//! Tests of internet_checksum and offload: the example of RFC 1071, frames and segments that scapy built, each length at its bounds,
-//! sums of bytes by chance beside a plain one, and flags.
+//! Tests of internet_checksum, offload and receive_checksum: the example of RFC 1071, frames and segments that scapy built, each length at
+//! its bounds, sums of bytes by chance beside a plain one, and flags.
 #![tactic(auto)]
 
 #[cfg(test)]
@@ -16,5 +16,7 @@ mod examples;
 mod flags;
 #[cfg(test)]
 mod frames;
+#[cfg(test)]
+mod received;
 #[cfg(test)]
 mod segments;

@@ -40,8 +40,8 @@ fn as_scapy_cuts_them(rt: HostRuntime) -> Result<(), Fail> {
         ),
     ] {
         let frame = hex::decode(rt.alloc(), text)?;
-        let bytes = frame.as_slice();
-        let Ok(cut) = Cut::of(&Context::decode(first, second), bytes.len(), 1514) else {
+        let context = Context::decode(first, second);
+        let Ok(cut) = Cut::of(&context, frame.len(), 1514) else {
             return Err("it can be cut".into());
         };
         assert_equal_at(
@@ -51,10 +51,14 @@ fn as_scapy_cuts_them(rt: HostRuntime) -> Result<(), Fail> {
             text,
         );
         for number in 0..cut.count() {
-            let mut room = [0xA5u8; 1600];
-            let size = cut.segment(bytes, number, &mut room);
-            let Some(segment) = room.get(..size) else {
-                return Err("it is longer than the room".into());
+            let mut bytes = hex::decode(rt.alloc(), text)?;
+            if bytes.len() != frame.len() {
+                return Err("it is the same text".into());
+            }
+            let place = cut.place(number);
+            let size = cut.segment(bytes.as_mut_slice(), number, &mut [0xA5u8; 1600]);
+            let Some(segment) = bytes.get(place..place.wrapping_add(size)) else {
+                return Err("it is longer than the frame".into());
             };
             let wanted = due.get(number).copied().unwrap_or("");
             assert_equal_at(
@@ -158,10 +162,11 @@ fn refused(rt: HostRuntime) -> Result<(), Fail> {
     Ok(())
 }
 
-/// A segment that is shorter than what the room had before leaves the rest of the room as it was.
+/// What a segment takes the place of is kept in front of the room, which stays as it was behind that; and the frame is whole again once it
+/// is put back.
 #[test]
 fn leaves_the_rest(rt: HostRuntime) -> Result<(), Fail> {
-    let frame = [0x5Au8; 65];
+    let mut frame = [0x5Au8; 65];
     let Ok(cut) = Cut::of(&Context::decode(0x1C14, 0x000A_1400_0000_0C00), 65, 64) else {
         return Err("it can be cut".into());
     };
@@ -169,9 +174,14 @@ fn leaves_the_rest(rt: HostRuntime) -> Result<(), Fail> {
     if cut.count() != 2 {
         return Err("there are two".into());
     }
-    let size = cut.segment(&frame, 1, &mut room);
-    assert_equal(&rt, size, 55);
-    assert_equal(&rt, room[54], 0x5A);
-    assert_equal(&rt, room[55..].iter().all(|byte| *byte == 0xA5), true);
+    let size = cut.segment(&mut frame, 1, &mut room);
+    assert_equal(&rt, (cut.headers(), cut.place(1), size), (54, 10, 55));
+    assert_equal(&rt, frame.get(64) == Some(&0x5A), true);
+    assert_equal(&rt, frame.get(..10) == [0x5Au8; 65].get(..10), true);
+    assert_equal(&rt, frame == [0x5Au8; 65], false);
+    assert_equal(&rt, room.get(..54) == [0x5Au8; 65].get(..54), true);
+    assert_equal(&rt, room.get(54..) == [0xA5u8; 100].get(54..), true);
+    cut.put_back(&mut frame, 1, &room);
+    assert_equal(&rt, frame == [0x5Au8; 65], true);
     Ok(())
 }

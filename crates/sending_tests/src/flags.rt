@@ -19,6 +19,8 @@ fn terms_of(vlan: bool, checksum: bool, segmentation: bool) -> Terms {
             segmentation,
             auto_mask: false,
             legacy_receive: false,
+            throttle: false,
+            receive_checksum: false,
         },
     }
 }

@@ -1,6 +1,7 @@
 //! The frame that is being sent, as far as it is gathered.
 ghost use Rattle.std.specs.Prelude.{◌≡◌, ◌↔◌, IsTrue, ℕ, ◌+◌, ◌-◌, ◌≤◌, ◌++◌, [], length, take, replicate, slice_range, vec_capacity, IfOk, IfSome, is_some, nat_lt, ◌<◌, ◌^◌, ◌==◌, None, if◌then◌else◌};
 ghost use Rattle.tx_desc.specs.Transmit.{Gathering, Gathered, Overlong, joined, ended, refuses, length_of};
+ghost use Rattle.offload.specs.Context.{payload_at};
 ghost use Rattle.offload.specs.Cut.{longest, segment_count};
 ghost use Rattle.offload.specs.Segment.{segment_of};
 ghost use Rattle.offload.specs.Sums.{refusal};
@@ -209,36 +210,77 @@ impl Pending {
         let Ok(cut) = Cut::of(context, self.len, room_beside(tag, terms.limit)) else {
             return None;
         };
-        let count = cut.count();
-        if number >= count {
+        if !cut.has(number) {
             return None;
         }
-        let start = self.len;
-        let size = lay_segment(&mut self.cells, start, &cut, number);
-        let bytes = &self.cells[start..start + size];
-        let is_frame = leave(frame, bytes, tag, terms.rule, terms.limit);
-        Some((is_frame, number + 1 == count))
+        let is_frame = leave_front(frame, &mut self.cells, self.len, &cut, number, tag, terms);
+        Some((is_frame, cut.is_last(number)))
     }
 }
 
-// Lays a segment of the first `len` bytes behind them, and tells how long it is. There is room, so nothing is allocated.
-fn lay_segment(cells: &mut Vec<u8>, len: usize, cut: &Cut, number: usize) -> usize
+// Makes the lent frame a segment of the first `len` bytes, as `leave_segment` does, with the room behind them. There is room, so nothing
+// is allocated.
+fn leave_front(
+    frame: &mut FrameBuf,
+    cells: &mut Vec<u8>,
+    len: usize,
+    cut: &Cut,
+    number: usize,
+    tag: Option<u16>,
+    terms: &Terms,
+) -> bool
     requires start { len ≤ length cells.old.items }
     requires size { cut.now.size ≡ len }
     requires number { number < segment_count cut.now.context len }
     requires room { len + longest cut.now.context len ≤ vec_capacity cells.old }
     ensures kept { take len cells.new.items ≡ take len cells.old.items }
-    ensures laid { slice_range cells.new.items len (len + result)
-        ≡ segment_of cut.now.context (take len cells.old.items) number }
-    ensures end { len + result ≤ length cells.new.items }
+    ensures inside { len ≤ length cells.new.items }
+    ensures value { leaving terms.now.rule terms.now.limit tag
+        (segment_of cut.now.context (take len cells.old.items) number)
+        ≡ (if result then Frame frame.new else Dropped) }
+    ensures frame { frame.new ≡ lent_after (leaving terms.now.rule terms.now.limit tag
+        (segment_of cut.now.context (take len cells.old.items) number)) frame.old }
     ensures capacity { vec_capacity cells.old ≤ vec_capacity cells.new }
 {
-    let end = len + cut.longest();
+    let end = len + cut.headers();
     if end > cells.len() {
         reach(cells, end);
     }
     let (bytes, room) = cells.split_at_mut(len);
-    cut.segment(bytes, number, room)
+    leave_segment(frame, bytes, room, cut, number, tag, terms)
+}
+
+// Makes the lent frame a segment of the bytes with a tag, if any, as `leave` does. It is made among the bytes, which are as they were
+// then: what stands in its place goes into the room meanwhile. So the payload is copied once.
+fn leave_segment(
+    frame: &mut FrameBuf,
+    bytes: &mut [u8],
+    room: &mut [u8],
+    cut: &Cut,
+    number: usize,
+    tag: Option<u16>,
+    terms: &Terms,
+) -> bool
+    requires size { cut.now.size ≡ length bytes.old }
+    requires number { number < segment_count cut.now.context (length bytes.old) }
+    requires room { payload_at cut.now.context ≤ length room.old }
+    ensures bytes { bytes.new ≡ bytes.old }
+    ensures value { leaving terms.now.rule terms.now.limit tag
+        (segment_of cut.now.context bytes.old number) ≡ (if result then Frame frame.new else Dropped) }
+    ensures frame { frame.new ≡ lent_after (leaving terms.now.rule terms.now.limit tag
+        (segment_of cut.now.context bytes.old number)) frame.old }
+{
+    let start = cut.place(number);
+    let size = cut.segment(bytes, number, room);
+    let is_frame = leave(
+        frame,
+        &bytes[start..start + size],
+        tag,
+        terms.rule,
+        terms.limit,
+    );
+    cut.put_back(bytes, number, room);
+    is_frame
 }
 
 // Puts the sums that are asked for into the first `len` bytes, as `make_sums` does.

@@ -54,6 +54,7 @@ fn place_many<M: GuestMem>(memory: M, frame: &FrameBuf, strip_tag: bool, turns: 
         buffer_size: 2048,
         strip_tag,
         format: RxFormat::Advanced,
+        check_sums: false,
     };
     let mut memory = Traced::new(memory);
     let mut ring = Ring::new();

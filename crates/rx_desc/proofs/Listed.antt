@@ -6,9 +6,10 @@ use Rattle.live_memory.specs.Trace.{Access, Read, Wrote, wrotes, reads, NotRead,
 use Rattle.live_memory.proofs.Accesses.{reads_append, reads_wrotes}
 use Rattle.live_memory.proofs.Once.{not_read_none, once_append, later_none}
 use Rattle.rings.specs.Ring.{RingState, owned}
+use Rattle.receive_checksum.specs.declared.check.Checks.{Checks}
 use Rattle.rx_desc.specs.declared.placing.RxConfig.{RxConfig}
 use Rattle.rx_desc.specs.declared.write_back.WriteBack.{WriteBack}
-use Rattle.rx_desc.specs.Receive.{slots, first_word, status, cut, zip_writes, data_writes, back_writes, words_back, passes_end}
+use Rattle.rx_desc.specs.Receive.{sums_of, slots, first_word, status, cut, zip_writes, data_writes, back_writes, words_back, passes_end}
 use Rattle.rx_desc.specs.Accesses.{descriptors_read, words_read, pieces_accesses, deliver_accesses}
 use Rattle.rx_desc.proofs.Pieces.{one_piece, or_false, length-cut, length-slots, StepsOn, rest_writes, words_at, words_at-is, pieces-one}
 
@@ -98,9 +99,9 @@ put_accesses b n back xs m r room fits =
     rw (test, fits) refl
 
 -- a frame that is placed with its tag and fits one buffer is one piece
-pub whole_accesses : (config : RxConfig) (lb : Bool) (frame xs m : List ℕ) (r : RingState) → r.enabled ≡ true → config.strip_tag ≡ false → 1 ≤ length frame → length xs ≤ config.buffer_size → xs ≡ frame → deliver_accesses config lb frame m r ≡ pieces_accesses (record { format = config.format; loopback = lb; tag = None }) (xs ∷ []) m r
+pub whole_accesses : (config : RxConfig) (lb : Bool) (frame xs m : List ℕ) (sums : Checks) (r : RingState) → sums ≡ sums_of config.check_sums frame → r.enabled ≡ true → config.strip_tag ≡ false → 1 ≤ length frame → length xs ≤ config.buffer_size → xs ≡ frame → deliver_accesses config lb frame m r ≡ pieces_accesses (record { format = config.format; loopback = lb; tag = None; sums = sums }) (xs ∷ []) m r
 unfolding deliver_accesses
-whole_accesses config lb frame xs m r on plain some fits same = rw (on, plain, sym same, pieces-one config.buffer_size xs (omega (arith, some, ap length same)) fits) refl
+whole_accesses config lb frame xs m sums r found on plain some fits same = rw (found, on, plain, sym same, pieces-one config.buffer_size xs (omega (arith, some, ap length same)) fits) refl
 
 -- ---- one piece
 
@@ -125,7 +126,7 @@ one_past_accesses back xs m r s a owns first at past =
     let test : nat_lt (length (owned r)) 1 ≡ false = le-ltb _ _ owns in
     rw (test, one.writes, one_read_past, first_read (slots r) m s a there first at, lt-ltb (length m) (a + length xs) past) refl
 
-pub one_put_accesses : (back : WriteBack) (xs m : List ℕ) (r : RingState) (s a low high : ℕ) → 0 < length (owned r) → s ≡ get_or (slots r) 0 0 → a ≡ word_at s m → a + length xs ≤ length m → low ≡ first_word back.format a → high ≡ status back.format back.loopback back.tag true (length xs) → Read s (word_bytes a) ∷ Wrote a xs ∷ Wrote s (two_words low high) ∷ [] ≡ pieces_accesses back (xs ∷ []) m r
+pub one_put_accesses : (back : WriteBack) (xs m : List ℕ) (r : RingState) (s a low high : ℕ) → 0 < length (owned r) → s ≡ get_or (slots r) 0 0 → a ≡ word_at s m → a + length xs ≤ length m → low ≡ first_word back.format a → high ≡ status back true (length xs) → Read s (word_bytes a) ∷ Wrote a xs ∷ Wrote s (two_words low high) ∷ [] ≡ pieces_accesses back (xs ∷ []) m r
 unfolding pieces_accesses passes_end wrotes
 one_put_accesses back xs m r s a low high owns first at fits is_low is_high =
     let there : 0 < length (slots r) = omega (arith, owns, length-slots r) in

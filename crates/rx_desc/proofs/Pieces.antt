@@ -5,10 +5,11 @@ use Rattle.std.proofs.lemmas.Nat.{div-mul-add}
 use Rattle.std.proofs.lemmas.Bool.{ltb-false, lt-ltb, le-ltb, cases_eq, eq-eqb, ne_eqb}
 use Rattle.guest_memory.specs.Memory.{Write, overwrite, write_all, two_words, word_at}
 use Rattle.rings.specs.Ring.{RingState, owned, head_after}
+use Rattle.receive_checksum.specs.declared.check.Checks.{Checks}
 use Rattle.rx_desc.specs.declared.placing.Placed.TheVariants.{Put, NoRoom, Faulted}
 use Rattle.rx_desc.specs.declared.placing.RxConfig.{RxConfig}
 use Rattle.rx_desc.specs.declared.write_back.WriteBack.{WriteBack}
-use Rattle.rx_desc.specs.Receive.{deliver, deliver_pieces, pieces, slots, data_writes, is_nil, cut, zip_writes, back_writes, words_back, first_word, passes_end, status}
+use Rattle.rx_desc.specs.Receive.{deliver, deliver_pieces, sums_of, pieces, slots, data_writes, is_nil, cut, zip_writes, back_writes, words_back, first_word, passes_end, status}
 
 -- the writes from the piece at i on; xs is what is left of the data
 pub rest_writes : List ℕ → ℕ → ℕ → ℕ → List ℕ → List Write
@@ -112,17 +113,17 @@ rest_backs-more back places words b n i xs h k enough =
     ap (back_writes back (drop i places)) first ∙ ap (λ (d : List ℕ). back_writes back d (record { at = get_or words i 0; bytes = take b xs } ∷ rest_writes words b n (i + 1) (drop b xs))) (drop_more places i 0 k) ∙ rw last refl
 
 -- the two words of a descriptor, each by itself
-back_is : (back : WriteBack) (last : Bool) (a low high : ℕ) (piece : List ℕ) → low ≡ first_word back.format a → high ≡ status back.format back.loopback back.tag last (length piece) → two_words low high ≡ words_back back last (record { at = a; bytes = piece })
+back_is : (back : WriteBack) (last : Bool) (a low high : ℕ) (piece : List ℕ) → low ≡ first_word back.format a → high ≡ status back last (length piece) → two_words low high ≡ words_back back last (record { at = a; bytes = piece })
 unfolding words_back
 back_is back last a low high piece first second = rw (first, second) refl
 
-pub back_step : (back : WriteBack) (places words : List ℕ) (b n i mid : ℕ) (xs piece tail : List ℕ) (s low high : ℕ) → i < n → i < length places → n ≤ length words → s ≡ get_or places i 0 → low ≡ first_word back.format (get_or words i 0) → mid ≡ min b (length xs) → piece ≡ take mid xs → tail ≡ drop mid xs → high ≡ status back.format back.loopback back.tag (eqb (i + 1) n) (length piece) → rest_backs back places words b n i xs ≡ record { at = s; bytes = two_words low high } ∷ rest_backs back places words b n (i + 1) tail
+pub back_step : (back : WriteBack) (places words : List ℕ) (b n i mid : ℕ) (xs piece tail : List ℕ) (s low high : ℕ) → i < n → i < length places → n ≤ length words → s ≡ get_or places i 0 → low ≡ first_word back.format (get_or words i 0) → mid ≡ min b (length xs) → piece ≡ take mid xs → tail ≡ drop mid xs → high ≡ status back (eqb (i + 1) n) (length piece) → rest_backs back places words b n i xs ≡ record { at = s; bytes = two_words low high } ∷ rest_backs back places words b n (i + 1) tail
 back_step back places words b n i mid xs piece tail s low high h k enough at first middle front rest second =
     let p : piece ≡ take b xs = front ∙ ap (λ (k : ℕ). take k xs) middle ∙ take_min b xs in
     let t : tail ≡ drop b xs = rest ∙ ap (λ (k : ℕ). drop k xs) middle ∙ drop_min b xs in
     rw (back_is back (eqb (i + 1) n) (get_or words i 0) low high piece first second, p, t, at) (rest_backs-more back places words b n i xs h k enough)
 
-pub back_on : (back : WriteBack) (places words : List ℕ) (b n i mid : ℕ) (xs piece tail m : List ℕ) (s low high : ℕ) → i < n → i < length places → n ≤ length words → s ≡ get_or places i 0 → low ≡ first_word back.format (get_or words i 0) → mid ≡ min b (length xs) → piece ≡ take mid xs → tail ≡ drop mid xs → high ≡ status back.format back.loopback back.tag (eqb (i + 1) n) (length piece) → write_all (rest_backs back places words b n (i + 1) tail) (overwrite s (two_words low high) m) ≡ write_all (rest_backs back places words b n i xs) m
+pub back_on : (back : WriteBack) (places words : List ℕ) (b n i mid : ℕ) (xs piece tail m : List ℕ) (s low high : ℕ) → i < n → i < length places → n ≤ length words → s ≡ get_or places i 0 → low ≡ first_word back.format (get_or words i 0) → mid ≡ min b (length xs) → piece ≡ take mid xs → tail ≡ drop mid xs → high ≡ status back (eqb (i + 1) n) (length piece) → write_all (rest_backs back places words b n (i + 1) tail) (overwrite s (two_words low high) m) ≡ write_all (rest_backs back places words b n i xs) m
 back_on back places words b n i mid xs piece tail m s low high h k enough at first middle front rest second =
     sym (write_all-more _ _ _ _ m (back_step back places words b n i mid xs piece tail s low high h k enough at first middle front rest second))
 
@@ -225,16 +226,16 @@ pieces-one b xs some few =
     ap (λ (k : ℕ). cut b k xs) count ∙ cut-one b xs few
 
 -- a frame that is placed with its tag and fits one buffer is one piece
-pub deliver-whole : (config : RxConfig) (lb : Bool) (frame xs m : List ℕ) (r : RingState) → r.enabled ≡ true → config.strip_tag ≡ false → 1 ≤ length frame → length xs ≤ config.buffer_size → xs ≡ frame → deliver config lb frame m r ≡ deliver_pieces (record { format = config.format; loopback = lb; tag = None }) (xs ∷ []) m r
+pub deliver-whole : (config : RxConfig) (lb : Bool) (frame xs m : List ℕ) (sums : Checks) (r : RingState) → sums ≡ sums_of config.check_sums frame → r.enabled ≡ true → config.strip_tag ≡ false → 1 ≤ length frame → length xs ≤ config.buffer_size → xs ≡ frame → deliver config lb frame m r ≡ deliver_pieces (record { format = config.format; loopback = lb; tag = None; sums = sums }) (xs ∷ []) m r
 unfolding deliver
-deliver-whole config lb frame xs m r on plain some fits same = rw (on, plain, sym same, pieces-one config.buffer_size xs (omega (arith, some, ap length same)) fits) refl
+deliver-whole config lb frame xs m sums r found on plain some fits same = rw (found, on, plain, sym same, pieces-one config.buffer_size xs (omega (arith, some, ap length same)) fits) refl
 
 -- what one piece is written as, and its write-back
 pub record One (back : WriteBack) (places xs m : List ℕ) (s a low high : ℕ) : Type 0 where
   pub writes : data_writes places (xs ∷ []) m ≡ record { at = a; bytes = xs } ∷ []
   pub backs : back_writes back places (data_writes places (xs ∷ []) m) ≡ record { at = s; bytes = two_words low high } ∷ []
 
-pub one_piece : (back : WriteBack) (places xs m : List ℕ) (s a low high : ℕ) → 0 < length places → s ≡ get_or places 0 0 → a ≡ word_at s m → low ≡ first_word back.format a → high ≡ status back.format back.loopback back.tag true (length xs) → One back places xs m s a low high
+pub one_piece : (back : WriteBack) (places xs m : List ℕ) (s a low high : ℕ) → 0 < length places → s ≡ get_or places 0 0 → a ≡ word_at s m → low ≡ first_word back.format a → high ≡ status back true (length xs) → One back places xs m s a low high
 unfolding zip_writes back_writes words_at
 one_piece back [] xs m s a low high h at word first second = absurd (omega (arith, h))
 one_piece back (q ∷ places) xs m s a low high h at word first second =
@@ -262,7 +263,7 @@ one-faulted back xs m r s a h first at past =
     let passes : passes_end (length m) (data_writes (slots r) (xs ∷ []) m) ≡ true = passes_end-more (length m) _ [] a xs one.writes ∙ rw (lt-ltb (length m) (a + length xs) past) refl in
     rw (test, passes) refl
 
-pub one-put : (back : WriteBack) (xs m : List ℕ) (r : RingState) (s a low high : ℕ) → 0 < length (owned r) → s ≡ get_or (slots r) 0 0 → a ≡ word_at s m → a + length xs ≤ length m → low ≡ first_word back.format a → high ≡ status back.format back.loopback back.tag true (length xs) → deliver_pieces back (xs ∷ []) m r ≡ record { placed = Put; memory = overwrite s (two_words low high) (overwrite a xs m); ring = record r { head = head_after 1 r } }
+pub one-put : (back : WriteBack) (xs m : List ℕ) (r : RingState) (s a low high : ℕ) → 0 < length (owned r) → s ≡ get_or (slots r) 0 0 → a ≡ word_at s m → a + length xs ≤ length m → low ≡ first_word back.format a → high ≡ status back true (length xs) → deliver_pieces back (xs ∷ []) m r ≡ record { placed = Put; memory = overwrite s (two_words low high) (overwrite a xs m); ring = record r { head = head_after 1 r } }
 unfolding deliver_pieces write_all
 one-put back xs m r s a low high h first at fits is_low is_high =
     let one = one_piece back (slots r) xs m s a low high (omega (arith, length-slots r)) first at is_low is_high in

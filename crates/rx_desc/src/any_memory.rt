@@ -7,7 +7,7 @@ ghost use Rattle.rx_desc.specs.Receive.{deliver, deliver_pieces, cut, pieces, sl
 
 use crate::descriptor::RxDescriptor;
 use crate::parts::Parts;
-use crate::placing::{MOST_PIECES, Placed, RxConfig, without_tag};
+use crate::placing::{MOST_PIECES, Placed, RxConfig, sums_of, without_tag};
 use crate::write_back::WriteBack;
 use guest_memory::GuestMem;
 use rings::Ring;
@@ -47,6 +47,7 @@ pub fn place(
         format: config.format,
         loopback,
         tag,
+        sums: sums_of(config.check_sums, frame),
     };
     place_pieces(memory, ring, config.buffer_size, source, back)
 }

@@ -4,13 +4,14 @@ ghost use Rattle.guest_memory.specs.Memory.{write_all};
 ghost use Rattle.live_memory.specs.Trace.{met, wrotes, IsTraced};
 ghost use Rattle.rings.specs.Ring.{owned, IsRing, LiesInside};
 ghost use Rattle.rx_desc.specs.Parts.{text_of};
-ghost use Rattle.rx_desc.specs.Receive.{Delivers, deliver, deliver_pieces, data_of, tag_taken, cut, pieces, slots, zip_writes, data_writes, back_writes, passes_end};
+ghost use Rattle.rx_desc.specs.Receive.{Delivers, back_of, sums_of, deliver, deliver_pieces, data_of, tag_taken, cut, pieces, slots, zip_writes, data_writes, back_writes, passes_end};
 ghost use Rattle.rx_desc.specs.Accesses.{deliver_accesses, pieces_accesses, descriptors_read, words_read};
 
 use crate::descriptor::RxDescriptor;
 use crate::parts::{Parts, write_parts};
 use crate::write_back::{RxFormat, WriteBack};
 use live_memory::{Dma, Traced};
+use receive_checksum::{Checks, check_sums};
 use rings::Ring;
 use wire_frame::FrameBuf;
 
@@ -26,6 +27,8 @@ pub struct RxConfig {
     pub strip_tag: bool,
     /// The format of its descriptors (SRRCTL, DESCTYPE).
     pub format: RxFormat,
+    /// Whether the checksums of a frame are looked at, which its last descriptor then says.
+    pub check_sums: bool,
 }
 
 /// What became of a frame.
@@ -77,16 +80,7 @@ pub fn place_in<D: Dma<K>, K>(
     let size = config.buffer_size;
     let bytes = frame.bytes();
     if config.strip_tag || bytes.len() > size {
-        let strip_tag = config.strip_tag;
-        return place_frame(
-            memory,
-            ring,
-            size,
-            strip_tag,
-            config.format,
-            frame,
-            loopback,
-        );
+        return place_frame(memory, ring, config, frame, loopback);
     }
     let source = Parts {
         front: &bytes[..0],
@@ -96,6 +90,7 @@ pub fn place_in<D: Dma<K>, K>(
         format: config.format,
         loopback,
         tag: None,
+        sums: sums_of(config.check_sums, frame),
     };
     place_one(memory, ring, source, back)
 }
@@ -106,26 +101,24 @@ pub fn place_in<D: Dma<K>, K>(
 fn place_frame<D: Dma<K>, K>(
     memory: &mut Traced<D, K>,
     ring: &mut Ring,
-    size: usize,
-    strip_tag: bool,
-    format: RxFormat,
+    config: &RxConfig,
     frame: &FrameBuf,
     loopback: bool,
 ) -> Placed
-    requires least { 1024 ≤ size }
-    requires most { size ≤ 16384 }
+    requires least { 1024 ≤ config.now.buffer_size }
+    requires most { config.now.buffer_size ≤ 16384 }
     requires valid { IsRing ring.old }
     requires inside { LiesInside (length (D.seen memory.old.memory)) ring.old }
     ensures done { Delivers
         (deliver_pieces
-        (record { format = format; loopback = loopback; tag = tag_taken strip_tag frame.now })
-        (pieces size (data_of strip_tag frame.now))
+        (back_of config.now loopback frame.now)
+        (pieces config.now.buffer_size (data_of config.now.strip_tag frame.now))
         (met memory.old.accesses memory.new.accesses (D.seen memory.old.memory)) ring.old)
         result (D.seen memory.new.memory) ring.new }
     ensures listed { memory.new.accesses ≡ memory.old.accesses
         ++ pieces_accesses
-        (record { format = format; loopback = loopback; tag = tag_taken strip_tag frame.now })
-        (pieces size (data_of strip_tag frame.now))
+        (back_of config.now loopback frame.now)
+        (pieces config.now.buffer_size (data_of config.now.strip_tag frame.now))
         (met memory.old.accesses memory.new.accesses (D.seen memory.old.memory)) ring.old }
     ensures traced { IsTraced D.shared (D.seen memory.old.memory) memory.old.accesses
         memory.new.accesses }
@@ -133,13 +126,26 @@ fn place_frame<D: Dma<K>, K>(
     ensures inside { LiesInside (length (D.seen memory.new.memory)) ring.new }
     ensures on { IsTrue ring.new.enabled → IsTrue ring.old.enabled }
 {
-    let (source, tag) = without_tag(strip_tag, frame);
+    let (source, tag) = without_tag(config.strip_tag, frame);
     let back = WriteBack {
-        format,
+        format: config.format,
         loopback,
         tag,
+        sums: sums_of(config.check_sums, frame),
     };
-    place_data(memory, ring, size, source, back)
+    place_data(memory, ring, config.buffer_size, source, back)
+}
+
+// What is said of the checksums of a frame: nothing, where they are not looked at.
+#[inline]
+pub(crate) fn sums_of(looks: bool, frame: &FrameBuf) -> Checks
+    ensures { result ≡ sums_of looks frame.now }
+{
+    if looks {
+        check_sums(frame)
+    } else {
+        Checks::none()
+    }
 }
 
 // The bytes of a frame that are placed, and the tag that was taken off it, where it is to be stripped and has one.

@@ -21,7 +21,7 @@ loop-i-preserved g c =
     let room : c.loop-i.i < length (owned c.args.ring.now) = omega arith in
     let places = length-slots c.args.ring.now in
     let s = back_on c.args.back (slots c.args.ring.now) c.args.addresses.now c.args.size c.args.count c.loop-i.i _ (text_of c.loop-i.rest) _ _ now _ _ _ (omega arith) (omega arith) (omega arith)
-    (c.slot.ensures.value ∙ sym (get_or-slots c.args.ring.now c.loop-i.i room)) c.first_word-first.ensures (c.min.ensures ∙ ap (min c.args.size) c.len.ensures) c.split_at.ensures.front c.split_at.ensures.back (c.status-second.ensures ∙ ap (status c.args.back.format c.args.back.loopback c.args.back.tag (eqb (c.loop-i.i + 1) c.args.count)) c.len-in-loop-i.ensures) in
+    (c.slot.ensures.value ∙ sym (get_or-slots c.args.ring.now c.loop-i.i room)) c.first_word-first.ensures (c.min.ensures ∙ ap (min c.args.size) c.len.ensures) c.split_at.ensures.front c.split_at.ensures.back (c.status-second.ensures ∙ ap (status c.args.back (eqb (c.loop-i.i + 1) c.args.count)) c.len-in-loop-i.ensures) in
     record {
       size = c.write_words.ensures.size ∙ c.loop-i.invariant.size;
       short = rw (c.split_at.ensures.back, length-drop) (omega (arith, c.loop-i.invariant.short));

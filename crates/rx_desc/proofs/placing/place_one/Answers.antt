@@ -90,14 +90,14 @@ pub returns-clause-done : goal.returns-clause-done
 returns-clause-done g c =
     let owns : 0 < length (owned c.args.ring.now) = c.in-Some.ensures.owned in
     let at = c.in-Some.ensures.first ∙ sym (get_or-slots c.args.ring.now 0 owns) in
-    let word = c.status.ensures ∙ ap (status c.args.back.format c.args.back.loopback c.args.back.tag true) c.len-count.ensures in
+    let word = c.status.ensures ∙ ap (status c.args.back true) c.len-count.ensures in
     one_written c.args.back (text_of c.args.source) _ _ _ _ c.args.ring.now _ _ _ _ _ (placing g c).met_is c.write_parts.ensures.written c.store_words.ensures.seen c.advance.ensures owns at c.load_word-buffer.ensures.value (placing g c).fits c.first_word.ensures word
 
 pub returns-clause-listed : goal.returns-clause-listed
 returns-clause-listed g c =
     let owns : 0 < length (owned c.args.ring.now) = c.in-Some.ensures.owned in
     let at = c.in-Some.ensures.first ∙ sym (get_or-slots c.args.ring.now 0 owns) in
-    let word = c.status.ensures ∙ ap (status c.args.back.format c.args.back.loopback c.args.back.tag true) c.len-count.ensures in
+    let word = c.status.ensures ∙ ap (status c.args.back true) c.len-count.ensures in
     listed_then _ _ _ (Read c.in-Some.at (word_bytes c.load_word-buffer.result) ∷ []) _ c.load_word-buffer.ensures.listed (placing g c).wrote
     ∙ ap (λ (t : List Access). c.args.memory.now.accesses ++ t) (one_put_accesses c.args.back (text_of c.args.source) (g.D.Dma.seen c.load_word-buffer.new.self.memory) c.args.ring.now _ _ _ _ owns at c.load_word-buffer.ensures.value (placing g c).fits c.first_word.ensures word)
     ∙ ap (λ (m : List ℕ). c.args.memory.now.accesses ++ pieces_accesses c.args.back (text_of c.args.source ∷ []) m c.args.ring.now) (sym (placing g c).met_is)

@@ -27,7 +27,7 @@ loop-i-preserved g c =
     let count = length-two_words c.first_word-first.result c.status-second.result in
     let fits : c.slot.result + length (two_words c.first_word-first.result c.status-second.result) ≤ length now = omega (arith, count, c.slot.ensures.inside, c.requires.inside c.slot.ensures.on, c.loop-i.invariant.size) in
     let step = back_step c.args.back (slots c.args.ring.now) c.args.addresses.now c.args.size c.args.count c.loop-i.i _ (text_of c.loop-i.rest) _ _ _ _ _ (omega arith) (omega arith) (omega arith)
-    (c.slot.ensures.value ∙ sym (get_or-slots c.args.ring.now c.loop-i.i room)) c.first_word-first.ensures (c.min.ensures ∙ ap (min c.args.size) c.len.ensures) c.split_at.ensures.front c.split_at.ensures.back (c.status-second.ensures ∙ ap (status c.args.back.format c.args.back.loopback c.args.back.tag (eqb (c.loop-i.i + 1) c.args.count)) c.len-in-loop-i.ensures) in
+    (c.slot.ensures.value ∙ sym (get_or-slots c.args.ring.now c.loop-i.i room)) c.first_word-first.ensures (c.min.ensures ∙ ap (min c.args.size) c.len.ensures) c.split_at.ensures.front c.split_at.ensures.back (c.status-second.ensures ∙ ap (status c.args.back (eqb (c.loop-i.i + 1) c.args.count)) c.len-in-loop-i.ensures) in
     record {
       size = ap length c.store_words.ensures.seen ∙ size_written c.slot.result (two_words c.first_word-first.result c.status-second.result) now fits ∙ c.loop-i.invariant.size;
       short = rw (c.split_at.ensures.back, length-drop) (omega (arith, c.loop-i.invariant.short));

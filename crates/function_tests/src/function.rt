@@ -1,174 +1,21 @@
 //! Worked examples from outside, as a driver and the wire would do them: each is a list of steps with what they answer.
+use crate::compare::assert_equal;
+use crate::steps::Step::*;
+use crate::steps::{FRAME, RECEIVING, Step, do_part, do_steps, do_steps_over, plainly};
 use guest_memory::{FlatMem, GuestMem};
 use irq_causes::Vectors;
 use offload::Offloads;
 use script_support::registers::{
     ADVANCED, ENABLE, RDBAH0, RDBAL0, RDH0, RDLEN0, RDLEN1, RDT0, ROUTES, RXDCTL0, RXDCTL1,
     SRRCTL0, SRRCTL1, TDBAL0, TDH0, TDLEN0, TDLEN1, TDT0, TXDCTL0, VFCTRL, VFGPRC, VFLINKS, VTEIAC,
-    VTEIAM, VTEICR, VTEICS, VTEIMC, VTEIMS, VTIVAR, VTIVAR_MISC,
+    VTEICR, VTEICS, VTEIMC, VTEIMS, VTIVAR, VTIVAR_MISC,
 };
 use std::alloc::Global;
-use std::process::Abort;
 use std::test::Fail;
 use tx_desc::Progress;
 use vf_unit::*;
 use wire_frame::{FrameBuf, FrameLimit, PortVlan};
 
-// One step, on queue 0 where it is on a queue. Bytes are a beginning, what fills the rest, and how many there are.
-#[derive(Clone, Copy)]
-enum Step {
-    // A register is written, and issues no message.
-    W(u32, u32),
-    // A register is written, and issues these messages.
-    Issues(u32, u32, u8),
-    // A register reads this.
-    R(u32, u32),
-    // Bytes are written to memory.
-    Put(u64, &'static [u8], u8, usize),
-    // Memory holds these bytes.
-    Get(u64, &'static [u8]),
-    // A frame comes from the wire, and issues these messages.
-    Wire(&'static [u8], u8, usize, u8),
-    // A service gives this, and issues these messages.
-    Serve(Progress, u8),
-    // The frame that has ended.
-    Ended(&'static [u8], u8, usize),
-    // A function-level reset.
-    Reset,
-}
-
-use crate::compare::{assert_equal, assert_equal_at};
-use Step::*;
-
-// That many bytes and more, of which the first are these.
-fn filled(head: &[u8], fill: u8) -> [u8; 9018] {
-    let mut bytes = [fill; 9018];
-    let len = head.len().min(9018);
-    bytes[..len].copy_from_slice(&head[..len]);
-    bytes
-}
-
-fn do_step<M: GuestMem>(
-    rt: &impl Abort,
-    unit: &mut VfUnit<M>,
-    frame: &mut FrameBuf,
-    rule: PortVlan,
-    limit: FrameLimit,
-    step: Step,
-) -> Result<(), Fail> {
-    match step {
-        W(offset, x) => assert_equal_at(
-            rt,
-            unit.reg_write(offset, x),
-            Some(Vectors::none()),
-            offset,
-        ),
-        Issues(offset, x, messages) => {
-            assert_equal_at(
-                rt,
-                unit.reg_write(offset, x),
-                Vectors::new(messages),
-                offset,
-            );
-        }
-        R(offset, x) => assert_equal_at(rt, unit.reg_read(offset), Some(x), offset),
-        Put(at, head, fill, len) => {
-            let bytes = filled(head, fill);
-            assert!(rt; unit.mem_write(at, &bytes[..len.min(9018)]));
-        }
-        Get(at, want) => {
-            let mut bytes = [0u8; 64];
-            let len = want.len().min(64);
-            assert!(rt; unit.mem_read(at, &mut bytes[..len]));
-            assert_equal_at(rt, &bytes[..len], want, at);
-        }
-        Wire(head, fill, len, messages) => {
-            let bytes = filled(head, fill);
-            let received = FrameBuf::from_bytes(&bytes[..len.min(9018)])?;
-            assert_equal_at(rt, unit.deliver(&received, false).bits(), messages, len);
-        }
-        Serve(outcome, messages) => {
-            let service = unit.serve(Queue::Q0, frame, rule, limit).ok_or("open")?;
-            assert_equal(rt, service.outcome, outcome);
-            assert_equal(rt, service.messages.bits(), messages);
-        }
-        Ended(head, fill, len) => {
-            let bytes = filled(head, fill);
-            assert_equal(rt, frame.bytes(), &bytes[..len.min(9018)]);
-        }
-        Reset => unit.reset(),
-    }
-    Ok(())
-}
-
-// Does some of the steps.
-fn do_part<M: GuestMem>(
-    rt: &impl Abort,
-    unit: &mut VfUnit<M>,
-    frame: &mut FrameBuf,
-    rule: PortVlan,
-    limit: FrameLimit,
-    steps: &[Step],
-) -> Result<(), Fail> {
-    for step in steps {
-        do_step(rt, unit, frame, rule, limit, *step)?;
-    }
-    Ok(())
-}
-
-// Opens the function and does the steps.
-fn do_steps<M: GuestMem>(
-    rt: &impl Abort,
-    mut unit: VfUnit<M>,
-    rule: PortVlan,
-    limit: FrameLimit,
-    steps: [&[Step]; 2],
-) -> Result<(), Fail> {
-    let mut frame = FrameBuf::blank();
-    unit.open();
-    for part in steps {
-        do_part(rt, &mut unit, &mut frame, rule, limit, part)?;
-    }
-    Ok(())
-}
-
-// The same of a function that is made over the memory, with no port VLAN and frames of up to 1518 bytes.
-fn do_steps_over<M: GuestMem>(
-    rt: &impl Abort,
-    alloc: Global,
-    memory: M,
-    steps: [&[Step]; 2],
-) -> Result<(), Fail> {
-    let unit = VfUnit::new(alloc, memory)?;
-    do_steps(
-        rt,
-        unit,
-        PortVlan::Descriptor,
-        FrameLimit::standard(),
-        steps,
-    )
-}
-
-// The same over a flat memory of 64 KiB.
-fn plainly(rt: &impl Abort, alloc: Global, first: &[Step], then: &[Step]) -> Result<(), Fail> {
-    let memory = FlatMem::new(alloc, 65_536)?;
-    do_steps_over(rt, alloc, memory, [first, then])
-}
-
-// A receive queue with one buffer of 2 KiB at 0x4000; receive raises vector 0, transmit vector 1.
-const RECEIVING: &[Step] = &[
-    Put(0x1000, &[0, 0x40], 0, 8),
-    W(RDBAL0, 0x1000),
-    W(RDLEN0, 128),
-    W(SRRCTL0, ADVANCED | 2),
-    W(RXDCTL0, ENABLE),
-    W(RDT0, 1),
-    W(VTIVAR, ROUTES),
-    W(VTEIMS, 7),
-];
-
-// A frame to 02:00:00:00:00:03, of type IPv4.
-const FRAME: &[u8] = &[2, 0, 0, 0, 0, 3, 2, 0, 0, 0, 0, 0x99, 8, 0];
 // The same with VLAN id 100.
 const TAGGED: &[u8] = &[
     2, 0, 0, 0, 0, 3, 2, 0, 0, 0, 0, 0x99, 0x81, 0, 0, 0x64, 8, 0,
@@ -689,69 +536,6 @@ fn registers_answer_as_mapped(rt: HostRuntime) -> Result<(), Fail> {
         let limit = FrameLimit::standard();
         let unit = VfUnit::new(rt.alloc(), memory)?;
         do_steps(&rt, unit, PortVlan::Descriptor, limit, [&steps, &[]])?;
-    }
-    Ok(())
-}
-
-// What a driver like Linux's ixgbevf does over its vectors 0 and 1: a frame brings one message, and further ones are silent until
-// VTEIMS is written again.
-const MASKING: &[Step] = &[
-    W(VTEIAC, 3),
-    W(VTEIAM, 0xFFFF_FFFB),
-    R(VTEIAM, 3),
-    Put(0x1010, &[0, 0x48], 0, 8),
-    Put(0x1020, &[0, 0x50], 0, 8),
-    W(RDT0, 3),
-    Wire(FRAME, 0, 60, 1),
-    R(VTEIMS, 6),
-    Wire(FRAME, 0, 60, 0),
-    Wire(FRAME, 0, 60, 0),
-    Issues(VTEIMS, 1, 1),
-    R(VTEIMS, 6),
-    R(VTEICR, 0),
-    W(VTEIMS, 1),
-    R(VTEIMS, 7),
-    Issues(VTEICS, 7, 7),
-    R(VTEIMS, 4),
-    // A reset clears the register, and it can be written again.
-    W(VFCTRL, 0x0400_0000),
-    R(VTEIAM, 0),
-    W(VTEIAM, 2),
-    Reset,
-    R(VTEIAM, 0),
-    W(VTEIAM, 7),
-    R(VTEIAM, 7),
-];
-
-#[test]
-fn vectors_are_masked_automatically(rt: HostRuntime) -> Result<(), Fail> {
-    let alloc = rt.alloc();
-    let mut unit = VfUnit::new(alloc, FlatMem::new(alloc, 4096)?)?;
-    let mut frame = FrameBuf::blank();
-    let (rule, limit) = (PortVlan::Descriptor, FrameLimit::standard());
-    let masks = Offloads {
-        auto_mask: true,
-        ..Offloads::none()
-    };
-    let _former = unit.exchange(FlatMem::new(alloc, 65_536)?, Some(masks));
-    for steps in [RECEIVING, MASKING] {
-        do_part(&rt, &mut unit, &mut frame, rule, limit, steps)?;
-    }
-    // Without that offload the register reads 0 and keeps nothing, whatever else the device does.
-    let others = Offloads {
-        auto_mask: false,
-        ..Offloads::all()
-    };
-    for offloads in [others, Offloads::none()] {
-        let _former = unit.exchange(FlatMem::new(alloc, 65_536)?, Some(offloads));
-        let steps = &[
-            W(VTEIAM, 7),
-            R(VTEIAM, 0),
-            W(VTEIMS, 7),
-            Issues(VTEICS, 1, 1),
-            R(VTEIMS, 7),
-        ];
-        do_part(&rt, &mut unit, &mut frame, rule, limit, steps)?;
     }
     Ok(())
 }

@@ -8,6 +8,8 @@
 #[cfg(test)]
 mod causes;
 #[cfg(test)]
+mod checksums;
+#[cfg(test)]
 mod compare;
 #[cfg(test)]
 mod frames;
@@ -23,3 +25,7 @@ mod receiving;
 mod ring;
 #[cfg(test)]
 mod sending;
+#[cfg(test)]
+mod steps;
+#[cfg(test)]
+mod vectors;

@@ -49,6 +49,7 @@ fn queue(strip_tag: bool) -> RxConfig
         buffer_size: 1024,
         strip_tag,
         format: RxFormat::Advanced,
+        check_sums: false,
     }
 }
 
@@ -60,6 +61,7 @@ fn legacy_queue(strip_tag: bool) -> RxConfig
         buffer_size: 1024,
         strip_tag,
         format: RxFormat::Legacy,
+        check_sums: false,
     }
 }
 

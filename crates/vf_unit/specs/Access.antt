@@ -4,11 +4,13 @@ use Rattle.wire_frame.specs.Bits.{has_bit, with_bit}
 use Rattle.rings.specs.Ring.{RingState, ring_word, ring_written, turned}
 use Rattle.tx_desc.specs.Offloaded.{nothing_sent}
 use Rattle.irq_causes.specs.Causes.{CauseState, Change, silent, all_raised, all_unmasked, masked, auto_clearing, auto_masking, cleared, emptied}
-use Rattle.vf_unit.specs.Words.{LINK_UP, ENABLE, VME, RST, DESCTYPE, ADVANCED, DROP_EN, SRRCTL_KEPT, VTIVAR_KEPT, VTIVAR_MISC_KEPT}
+use Rattle.vf_unit.specs.Words.{LINK_UP, ENABLE, VME, RST, DESCTYPE, ADVANCED, DROP_EN, SRRCTL_KEPT, VTIVAR_KEPT, VTIVAR_MISC_KEPT, VTEITR_KEPT}
+use Rattle.vf_unit.specs.declared.intervals.Vector.{Vector}
+use Rattle.vf_unit.specs.Intervals.{word_for, with_word}
 use Rattle.vf_unit.specs.declared.queues.ReceiveQueue.{ReceiveQueue}
 use Rattle.vf_unit.specs.declared.queues.TransmitQueue.{TransmitQueue}
 use Rattle.vf_unit.specs.declared.registers.Register.{Register}
-use Rattle.vf_unit.specs.declared.registers.Register.TheVariants.{Nowhere, Control, Links, CauseRead, CauseSet, MaskSet, MaskClear, AutoClear, AutoMask, QueueVectors, OtherVector, Receive, ReceiveBuffers, ReceiveControl, Transmit, TransmitControl, FramesReceived, FramesSent}
+use Rattle.vf_unit.specs.declared.registers.Register.TheVariants.{Nowhere, Control, Links, CauseRead, CauseSet, MaskSet, MaskClear, AutoClear, AutoMask, QueueVectors, OtherVector, Interval, Receive, ReceiveBuffers, ReceiveControl, Transmit, TransmitControl, FramesReceived, FramesSent}
 use Rattle.vf_unit.specs.Registers.{register_at}
 use Rattle.vf_unit.specs.Function.{State, initial_with, is_legacy, has_size, with_change, receive_of, transmit_of, with_receive, with_transmit}
 
@@ -27,6 +29,7 @@ word s AutoClear = s.causes.auto_clear
 word s AutoMask = s.causes.auto_mask
 word s QueueVectors = s.queue_vectors
 word s OtherVector = s.other_vector
+word s (Interval v) = word_for s.intervals v
 word s (Receive q register) = ring_word (receive_of s q).ring register
 word s (ReceiveBuffers q) = with_bit (receive_of s q).buffers DROP_EN
 word s (ReceiveControl q) = enable_word (receive_of s q).ring + (if (receive_of s q).strips_tag then 2 ^ VME else 0)
@@ -72,6 +75,10 @@ transmit_switched n queue x =
 abbrev pub auto_mask_written : State → ℕ → State
 auto_mask_written s x = if s.offloads.auto_mask then with_causes s (auto_masking s.causes x) else s
 
+-- EITR of a vector, written: ignored where the device keeps no intervals
+abbrev pub interval_written : State → Vector → ℕ → State
+interval_written s v x = if s.offloads.throttle then record s { intervals = with_word s.intervals v (bit_and x VTEITR_KEPT) } else s
+
 -- what a write of x to a register does
 unfoldable pub register_written : State → Register → ℕ → Change State
 register_written s Control x = silent (if has_bit x RST then initial_with s.offloads s.memory else s)
@@ -83,6 +90,7 @@ register_written s AutoClear x = silent (with_causes s (auto_clearing s.causes x
 register_written s AutoMask x = silent (auto_mask_written s x)
 register_written s QueueVectors x = silent (record s { queue_vectors = bit_and x VTIVAR_KEPT })
 register_written s OtherVector x = silent (record s { other_vector = bit_and x VTIVAR_MISC_KEPT })
+register_written s (Interval v) x = silent (interval_written s v x)
 register_written s (Receive q register) x =
     silent (with_receive s q (record (receive_of s q) { ring = ring_written (receive_of s q).ring register x }))
 register_written s (ReceiveBuffers q) x = silent (with_receive s q (buffers_written s.offloads.legacy_receive (receive_of s q) x))

@@ -16,7 +16,9 @@ use Rattle.rx_desc.specs.Accesses.{deliver_accesses}
 use Rattle.irq_causes.specs.Causes.{CauseState, Change, no_causes, silent, raised_by}
 use Rattle.offload.specs.declared.offloads.Offloads.{Offloads}
 use Rattle.offload.specs.Offloads.{no_offloads}
-use Rattle.vf_unit.specs.Words.{DESCTYPE, LEGACY, BUFFER_SIZES, LEAST_BUFFER, MOST_BUFFER, RECEIVE_VECTOR_0, TRANSMIT_VECTOR_0, TRANSMIT_VECTOR_1, VECTOR_SIZE}
+use Rattle.vf_unit.specs.Words.{DESCTYPE, LEGACY, BUFFER_SIZES, LEAST_BUFFER, MOST_BUFFER, RECEIVE_VECTOR_0, TRANSMIT_VECTOR_0, TRANSMIT_VECTOR_1, OTHER_VECTOR, VECTOR_SIZE}
+use Rattle.vf_unit.specs.declared.intervals.Intervals.{Intervals}
+use Rattle.vf_unit.specs.Intervals.{no_intervals}
 use Rattle.vf_unit.specs.declared.registers.Queue.{Queue}
 use Rattle.vf_unit.specs.declared.registers.Queue.TheVariants.{Q0, Q1}
 use Rattle.vf_unit.specs.declared.queues.ReceiveQueue.{ReceiveQueue}
@@ -33,6 +35,8 @@ pub record State : Type 0 where
   pub causes : CauseState
   pub queue_vectors : ℕ
   pub other_vector : ℕ
+  -- how far apart the messages of each vector are to be
+  pub intervals : Intervals
   pub frames_received : ℕ
   pub frames_sent : ℕ
   -- what the device does for its driver, which no register says
@@ -57,6 +61,7 @@ initial_with offloads memory = record {
   causes = no_causes;
   queue_vectors = 0;
   other_vector = 0;
+  intervals = no_intervals;
   frames_received = 0;
   frames_sent = 0;
   offloads = offloads;
@@ -152,6 +157,7 @@ receive_config s = record {
   buffer_size = 1024 * (s.receive_0.buffers % BUFFER_SIZES);
   strip_tag = s.receive_0.strips_tag;
   format = if receives_legacy s then Legacy else Advanced;
+  check_sums = s.offloads.receive_checksum;
 }
 
 -- it places none where its descriptors are legacy ones, with which it is also on before its buffers have a size
@@ -167,6 +173,12 @@ delivered loopback frame s =
 abbrev pub delivered_accesses : Bool → List ℕ → State → List Access
 delivered_accesses loopback frame s =
     if places_none s then [] else deliver_accesses (receive_config s) loopback frame s.memory s.receive_0.ring
+
+-- ---- the cause "other"
+
+-- it is raised, by the vector that VTIVAR_MISC names
+unfoldable pub other_raised_in : State → Change State
+other_raised_in s = with_change s (raised_by s.causes (field s.other_vector OTHER_VECTOR VECTOR_SIZE))
 
 -- ---- the service of a transmit queue
 

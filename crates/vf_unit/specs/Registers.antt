@@ -2,9 +2,10 @@
 -- queue; a queue's registers stand 0x40 bytes behind those of the queue before it.
 use Rattle.std.specs.Prelude.{ℕ, List, [], ◌∷◌, ◌==◌, if◌then◌else◌}
 use Rattle.vf_unit.specs.declared.registers.Queue.TheVariants.{Q0, Q1}
+use Rattle.vf_unit.specs.declared.intervals.Vector.TheVariants.{V0, V1, V2}
 use Rattle.rings.specs.declared.ring.RingRegister.TheVariants.{BaseLow, BaseHigh, Length, Head, Tail}
 use Rattle.vf_unit.specs.declared.registers.Register.{Register}
-use Rattle.vf_unit.specs.declared.registers.Register.TheVariants.{Nowhere, Control, Links, CauseRead, CauseSet, MaskSet, MaskClear, AutoClear, AutoMask, QueueVectors, OtherVector, Receive, ReceiveBuffers, ReceiveControl, Transmit, TransmitControl, FramesReceived, FramesSent}
+use Rattle.vf_unit.specs.declared.registers.Register.TheVariants.{Nowhere, Control, Links, CauseRead, CauseSet, MaskSet, MaskClear, AutoClear, AutoMask, QueueVectors, OtherVector, Interval, Receive, ReceiveBuffers, ReceiveControl, Transmit, TransmitControl, FramesReceived, FramesSent}
 
 -- a line of the map
 pub record Line : Type 0 where
@@ -23,6 +24,9 @@ register_map =
     ∷ record { offset = 0x114; register = AutoMask }  -- VTEIAM
     ∷ record { offset = 0x120; register = QueueVectors }  -- VTIVAR
     ∷ record { offset = 0x140; register = OtherVector }  -- VTIVAR_MISC
+    ∷ record { offset = 0x820; register = Interval V0 }  -- VTEITR0
+    ∷ record { offset = 0x824; register = Interval V1 }  -- VTEITR1
+    ∷ record { offset = 0x828; register = Interval V2 }  -- VTEITR2
     ∷ record { offset = 0x1000; register = Receive Q0 BaseLow }  -- RDBAL0
     ∷ record { offset = 0x1004; register = Receive Q0 BaseHigh }  -- RDBAH0
     ∷ record { offset = 0x1008; register = Receive Q0 Length }  -- RDLEN0

@@ -7,8 +7,10 @@ use Rattle.wire_frame.specs.declared.vlan.PortVlan.{PortVlan}
 use Rattle.tx_desc.specs.declared.outcome.Fetched.{Fetched}
 use Rattle.tx_desc.specs.Lent.{lent_after}
 use Rattle.irq_causes.specs.Causes.{Change, silent}
+use Rattle.vf_unit.specs.declared.intervals.Vector.{Vector}
+use Rattle.vf_unit.specs.Intervals.{word_for, microseconds}
 use Rattle.vf_unit.specs.declared.registers.Queue.{Queue}
-use Rattle.vf_unit.specs.Function.{State, initial, initial_with, told, delivered, delivered_accesses, after_fetching, fetched_from, fetched_accesses}
+use Rattle.vf_unit.specs.Function.{State, initial, initial_with, other_raised_in, told, delivered, delivered_accesses, after_fetching, fetched_from, fetched_accesses}
 use Rattle.vf_unit.specs.Access.{word_at_offset, after_read_at, written_at}
 
 -- closed, with a memory of that size, or open
@@ -82,6 +84,15 @@ changed (Open s) change = record { state = Open (change s).state; messages = (ch
 -- a register, written
 abbrev pub written : Function → ℕ → ℕ → Change Function
 written f offset x = changed f (λ s. written_at s offset x)
+
+-- the cause "other" is raised, by which a host tells a driver that there is something to look at (82599 datasheet, VTIVAR_MISC)
+abbrev pub other_raised : Function → Change Function
+other_raised f = changed f other_raised_in
+
+-- how many microseconds apart the messages of a vector are to be at least; a closed function says nothing of it
+abbrev pub interval_of : Function → Vector → ℕ
+interval_of (Closed size) v = 0
+interval_of (Open s) v = microseconds (word_for s.intervals v)
 
 -- ---- frames
 

@@ -54,6 +54,20 @@ VTIVAR_KEPT = 0x83838383
 abbrev pub VTIVAR_MISC_KEPT : ℕ
 VTIVAR_MISC_KEPT = 0x83
 
+-- VTEITR: what a write keeps, which is the interval
+abbrev pub VTEITR_KEPT : ℕ
+VTEITR_KEPT = 0xFF8
+
+-- the interval, bits 11:3, in units of 2 microseconds
+abbrev pub INTERVAL : ℕ
+INTERVAL = 3
+
+abbrev pub INTERVAL_SIZE : ℕ
+INTERVAL_SIZE = 9
+
+abbrev pub INTERVAL_UNIT : ℕ
+INTERVAL_UNIT = 2
+
 -- the bytes of VTIVAR, by the bit that each begins at: those of receive queue 0, transmit queue 0 and transmit queue 1
 abbrev pub RECEIVE_VECTOR_0 : ℕ
 RECEIVE_VECTOR_0 = 0
@@ -63,6 +77,10 @@ TRANSMIT_VECTOR_0 = 8
 
 abbrev pub TRANSMIT_VECTOR_1 : ℕ
 TRANSMIT_VECTOR_1 = 24
+
+-- the byte of VTIVAR_MISC
+abbrev pub OTHER_VECTOR : ℕ
+OTHER_VECTOR = 0
 
 abbrev pub VECTOR_SIZE : ℕ
 VECTOR_SIZE = 8

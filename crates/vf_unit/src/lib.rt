@@ -8,12 +8,14 @@
 //! its [`Offloads`](offload::Offloads), it is told as its guest comes; no register changes it, and no reset.
 #![tactic(auto)]
 
+pub mod intervals;
 pub mod offsets;
 mod open;
 mod queues;
 pub mod registers;
 pub mod unit;
 
+pub use intervals::{Intervals, Vector};
 pub use open::Service;
 pub use registers::{Queue, Register};
 pub use unit::VfUnit;

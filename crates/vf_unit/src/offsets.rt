@@ -19,8 +19,14 @@ pub const VTEIAC: u32 = 0x110;
 pub const VTEIAM: u32 = 0x114;
 /// Vectors of the queues, a byte each.
 pub const VTIVAR: u32 = 0x120;
-/// Vector of other causes, which nothing raises.
+/// Vector of the cause "other", which the host raises.
 pub const VTIVAR_MISC: u32 = 0x140;
+/// How far apart the messages of vector 0 are to be.
+pub const VTEITR0: u32 = 0x820;
+/// How far apart the messages of vector 1 are to be.
+pub const VTEITR1: u32 = 0x824;
+/// How far apart the messages of vector 2 are to be.
+pub const VTEITR2: u32 = 0x828;
 /// Good packets received.
 pub const VFGPRC: u32 = 0x101C;
 /// Good packets transmitted.
@@ -112,7 +118,11 @@ pub const RECEIVE_VECTOR_0: u32 = 0;
 pub const TRANSMIT_VECTOR_0: u32 = 8;
 /// The lowest bit of VTIVAR's byte of transmit queue 1.
 pub const TRANSMIT_VECTOR_1: u32 = 24;
+/// The lowest bit of the byte of the cause "other" in VTIVAR_MISC.
+pub const OTHER_VECTOR: u32 = 0;
 /// How many bits a vector has in VTIVAR, with the one that allocates it.
 pub const VECTOR_SIZE: u32 = 8;
 /// The bits of VTIVAR_MISC that a write keeps.
 pub const VTIVAR_MISC_KEPT: u32 = 0x83;
+/// What VTEITR keeps: the interval, bits 11:3.
+pub const VTEITR_KEPT: u32 = 0xFF8;

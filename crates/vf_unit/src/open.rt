@@ -6,12 +6,14 @@ ghost use Rattle.live_memory.specs.Clearing.{clearing};
 ghost use Rattle.live_memory.specs.Trace.{Read, Wrote, IsTraced};
 ghost use Rattle.rings.specs.Ring.{ring_written};
 ghost use Rattle.tx_desc.specs.Lent.{fetched_in, lent_after};
-ghost use Rattle.vf_unit.specs.Function.{State, initial, initial_with, receive_of, transmit_of, with_receive, with_transmit, with_fetching, fetched_from, fetched_accesses, after_fetching, delivered, delivered_accesses, told};
-ghost use Rattle.vf_unit.specs.Access.{word, after_read, buffers_written, receive_switched, transmit_switched, register_written, word_at_offset, after_read_at, written_at};
+ghost use Rattle.vf_unit.specs.Function.{State, initial, initial_with, receive_of, transmit_of, with_receive, with_transmit, with_fetching, fetched_from, fetched_accesses, after_fetching, delivered, delivered_accesses, other_raised_in, told};
+ghost use Rattle.vf_unit.specs.Intervals.{word_for, microseconds};
+ghost use Rattle.vf_unit.specs.Access.{word, after_read, buffers_written, receive_switched, transmit_switched, interval_written, register_written, word_at_offset, after_read_at, written_at};
 
+use crate::intervals::{Intervals, Vector};
 use crate::offsets::{
-    BUFFER_SIZES, DROP_EN, LINK_UP, RECEIVE_VECTOR_0, RST, TRANSMIT_VECTOR_0, TRANSMIT_VECTOR_1,
-    VECTOR_SIZE, VTIVAR_KEPT, VTIVAR_MISC_KEPT,
+    BUFFER_SIZES, DROP_EN, LINK_UP, OTHER_VECTOR, RECEIVE_VECTOR_0, RST, TRANSMIT_VECTOR_0,
+    TRANSMIT_VECTOR_1, VECTOR_SIZE, VTEITR_KEPT, VTIVAR_KEPT, VTIVAR_MISC_KEPT,
 };
 use crate::queues::{ReceiveQueue, TransmitQueue};
 use crate::registers::{Queue, Register, register_of};
@@ -50,6 +52,7 @@ pub struct OpenVf<D: Dma<K>, K = Alone> {
     frames_received: u32,
     frames_sent: u32,
     other_vector: u32,
+    intervals: Intervals,
     receive_1: ReceiveQueue,
     transmit_0: TransmitQueue,
     transmit_1: TransmitQueue,
@@ -73,6 +76,7 @@ impl<D: Dma<K>, K> Model for OpenVf<D, K> {
         causes = f.causes;
         queue_vectors = f.queue_vectors;
         other_vector = f.other_vector;
+        intervals = f.intervals;
         frames_received = f.frames_received;
         frames_sent = f.frames_sent;
         offloads = f.offloads;
@@ -91,6 +95,7 @@ impl<D: Dma<K>, K> Model for OpenVf<D, K> {
           causes = f.causes;
           queue_vectors = f.queue_vectors;
           other_vector = f.other_vector;
+          intervals = f.intervals;
           frames_received = f.frames_received;
           frames_sent = f.frames_sent;
           offloads = f.offloads;
@@ -115,6 +120,7 @@ impl<D: Dma<K>, K> OpenVf<D, K> {
             causes: Causes::new(),
             queue_vectors: 0,
             other_vector: 0,
+            intervals: Intervals::none(),
             frames_received: 0,
             frames_sent: 0,
             offloads: Offloads::none(),
@@ -135,6 +141,7 @@ impl<D: Dma<K>, K> OpenVf<D, K> {
         self.causes = Causes::new();
         self.queue_vectors = 0;
         self.other_vector = 0;
+        self.intervals = Intervals::none();
         self.frames_received = 0;
         self.frames_sent = 0;
         self.shortfalls = 0;
@@ -213,6 +220,7 @@ impl<D: Dma<K>, K> OpenVf<D, K> {
             Register::AutoMask => u32::from(self.causes.auto_mask().bits()),
             Register::QueueVectors => self.queue_vectors,
             Register::OtherVector => self.other_vector,
+            Register::Interval(vector) => self.intervals.word(vector),
             Register::Receive(Queue::Q0, register) => self.receive_0.ring.read(register),
             Register::Receive(Queue::Q1, register) => self.receive_1.ring.read(register),
             Register::ReceiveBuffers(Queue::Q0) => self.receive_0.buffers | DROPS,
@@ -255,6 +263,7 @@ impl<D: Dma<K>, K> OpenVf<D, K> {
             }
             Register::QueueVectors => self.queue_vectors = x & VTIVAR_KEPT,
             Register::OtherVector => self.other_vector = x & VTIVAR_MISC_KEPT,
+            Register::Interval(vector) => self.write_interval(vector, x),
             Register::Receive(queue, register) => self.write_receive(queue, register, x),
             Register::ReceiveBuffers(queue) => self.write_receive_buffers(queue, x),
             Register::ReceiveControl(queue) => self.write_receive_control(queue, x),
@@ -264,6 +273,17 @@ impl<D: Dma<K>, K> OpenVf<D, K> {
                 {}
         }
         Vectors::none()
+    }
+
+    // Writes VTEITR.
+    fn write_interval(&mut self, vector: Vector, x: u32)
+        ensures state { self.new.state ≡ interval_written self.old.state vector x }
+        ensures size { length self.new.state.memory ≡ length self.old.state.memory }
+        ensures accesses { self.new.accesses ≡ self.old.accesses }
+    {
+        if self.offloads.throttle {
+            self.intervals = self.intervals.with(vector, x & VTEITR_KEPT);
+        }
     }
 
     // Writes a register of a receive ring.
@@ -378,6 +398,7 @@ impl<D: Dma<K>, K> OpenVf<D, K> {
             } else {
                 RxFormat::Advanced
             },
+            check_sums: self.offloads.receive_checksum,
         };
         let placed = place_in(
             &mut self.memory,
@@ -493,6 +514,26 @@ impl<D: Dma<K>, K> OpenVf<D, K> {
         self.frames_sent = self.frames_sent.wrapping_add(1);
     }
 
+    /// Raises the cause "other", by the vector that VTIVAR_MISC names; the messages that this issues.
+    #[tactic(auto, unfolding(crate::specs::Function::other_raised_in))]
+    pub fn raise_other(&mut self) -> Vectors
+        ensures state { self.new.state ≡ (other_raised_in self.old.state).state }
+        ensures messages { result ≡ (other_raised_in self.old.state).messages }
+        ensures size { length self.new.state.memory ≡ length self.old.state.memory }
+        ensures accesses { self.new.accesses ≡ self.old.accesses }
+    {
+        self.causes
+            .raise_by(vector_at(self.other_vector, OTHER_VECTOR))
+    }
+
+    /// How many microseconds apart the messages of a vector are to be at least, 0 to 1022.
+    #[inline]
+    pub fn interval(&self, vector: Vector) -> u16
+        ensures { result ≡ microseconds (word_for self.now.state.intervals vector) }
+    {
+        self.intervals.microseconds(vector)
+    }
+
     /// How often something that the driver left to the card could not be done, modulo 2^32: sums that a frame then lacks, or segments,
     /// where the whole frame is dropped.
     #[inline]
@@ -544,7 +585,7 @@ impl<M: GuestMem> OpenVf<M> {
     }
 }
 
-// The vector of a queue, by the lowest bit of its byte in VTIVAR.
+// A vector, by the lowest bit of its byte in VTIVAR or VTIVAR_MISC.
 #[inline]
 fn vector_at(vectors: u32, low: u32) -> u8
     requires { low < 64 }

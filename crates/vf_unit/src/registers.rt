@@ -2,6 +2,7 @@
 ghost use Rattle.std.specs.Prelude.{◌≡◌};
 ghost use Rattle.vf_unit.specs.Registers.{register_at};
 
+use crate::intervals::Vector;
 use crate::offsets::*;
 use rings::RingRegister;
 
@@ -39,6 +40,8 @@ pub enum Register {
     QueueVectors,
     /// VTIVAR_MISC.
     OtherVector,
+    /// VTEITR.
+    Interval(Vector),
     /// RDBAL, RDBAH, RDLEN, RDH or RDT.
     Receive(Queue, RingRegister),
     /// SRRCTL.
@@ -71,6 +74,9 @@ pub fn register_of(offset: u32) -> Register
         VTEIAM => Register::AutoMask,
         VTIVAR => Register::QueueVectors,
         VTIVAR_MISC => Register::OtherVector,
+        VTEITR0 => Register::Interval(Vector::V0),
+        VTEITR1 => Register::Interval(Vector::V1),
+        VTEITR2 => Register::Interval(Vector::V2),
         RDBAL0 => Register::Receive(Queue::Q0, RingRegister::BaseLow),
         RDBAH0 => Register::Receive(Queue::Q0, RingRegister::BaseHigh),
         RDLEN0 => Register::Receive(Queue::Q0, RingRegister::Length),

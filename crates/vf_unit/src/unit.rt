@@ -3,8 +3,9 @@ ghost use Rattle.std.specs.Prelude.{◌≡◌, ℕ, [], ◌++◌, length, Some, 
 ghost use Rattle.std.specs.Option.{option_map};
 ghost use Rattle.tx_desc.specs.Lent.{fetched_in};
 ghost use Rattle.vf_unit.specs.Guests.{over, moved_to, IsFormer};
-ghost use Rattle.vf_unit.specs.Unit.{Closed, IsMet, met_function, size_of, shortfalls_of, is_open, opened, opening_accesses, ended, reset, read_of, after_read_of, written, given, serviced, service_outcome, lent_to, one_more_sent, has_range, bytes_at, memory_written, given_accesses, service_accesses, load_accesses, store_accesses};
+ghost use Rattle.vf_unit.specs.Unit.{Closed, IsMet, met_function, size_of, shortfalls_of, is_open, other_raised, interval_of, opened, opening_accesses, ended, reset, read_of, after_read_of, written, given, serviced, service_outcome, lent_to, one_more_sent, has_range, bytes_at, memory_written, given_accesses, service_accesses, load_accesses, store_accesses};
 
+use crate::intervals::Vector;
 use crate::open::{OpenVf, Service};
 use crate::registers::Queue;
 use guest_memory::GuestMem;
@@ -160,6 +161,33 @@ impl<D: Dma<K>, K> VfUnit<D, K> {
             Some(self.inner.reg_write(offset, x))
         } else {
             None
+        }
+    }
+
+    /// Raises the cause "other", by which a host tells the driver that there is something to look at; the messages that this issues
+    /// (82599 datasheet, VTIVAR_MISC).
+    pub fn raise_other(&mut self) -> Vectors
+        ensures function { self.new.function ≡ (other_raised self.old.function).state }
+        ensures messages { result ≡ (other_raised self.old.function).messages }
+        ensures size { size_of self.new.function ≡ size_of self.old.function }
+        ensures accesses { self.new.accesses ≡ self.old.accesses }
+    {
+        if self.is_open {
+            self.inner.raise_other()
+        } else {
+            Vectors::none()
+        }
+    }
+
+    /// How many microseconds apart the messages of a vector are to be at least, 0 to 1022; 0 of a closed one.
+    #[inline]
+    pub fn interval(&self, vector: Vector) -> u16
+        ensures { result ≡ interval_of self.now.function vector }
+    {
+        if self.is_open {
+            self.inner.interval(vector)
+        } else {
+            0
         }
     }
 

@@ -1,17 +1,17 @@
 -- Step by step, what a function shows, what it is and what is done with its memory are those of the lone function.
-use Rattle.std.proofs.Common.{◌≡◌, ℕ, ◌<◌, ◌≤◌, Bool, true, false, List, [], ◌∷◌, ◌++◌, append-nil, Option, Some, None, refl, sym, ap, subst, ◌∙◌, arith, eqb, eqb-true, length, length-set, map, get_or-set_same, get_or-set_other}
+use Rattle.std.proofs.Common.{◌≡◌, ℕ, ◌<◌, ◌≤◌, Bool, true, false, List, [], ◌∷◌, ◌++◌, append-nil, Option, Some, None, refl, sym, ap, subst, ◌∙◌, arith, eqb, eqb-true, length, length-set, lt-ltb, map, get_or-set_same, get_or-set_other}
 use Rattle.std.proofs.lemmas.Bool.{eqb-false, lt-leb}
-use Rattle.std.specs.Prelude.{nat_le, if◌then◌else◌}
+use Rattle.std.specs.Prelude.{nat_le, nat_lt, if◌then◌else◌}
 use Rattle.std.specs.List.{cons_option}
 use Rattle.std.specs.Option.{option_map}
 use Rattle.wire_frame.specs.declared.fault.Fault.{Fault}
-use Rattle.vf_unit.specs.Unit.{Function, Closed, Open, size_of}
+use Rattle.vf_unit.specs.Unit.{Function, Closed, Open, other_raised, size_of}
 use Rattle.vf_unit.specs.Function.{initial_with}
 use Rattle.vf_unit.specs.Guests.{moved_to}
 use Rattle.pool_filter.specs.Own.{own}
 use Rattle.device.specs.Events.{Event}
 use Rattle.device.specs.World.{World, function_of, with_function, step, world_after}
-use Rattle.device.specs.Guests.{is_vacant, attach_refusal, detached, replace_refusal}
+use Rattle.device.specs.Guests.{is_vacant, attach_refusal, detached, replace_refusal, prompted, prompt_messages}
 use Rattle.live_memory.specs.Trace.{Access}
 use Rattle.device.specs.Accesses.{accesses_by}
 use Rattle.device.specs.Lone.{Item, Observation, Lone, lone_of, kept, keep, seen_of}
@@ -19,7 +19,7 @@ use Rattle.device.specs.LoneAccesses.{made_by, lone_made}
 use Rattle.device.proofs.AccessSteps.{accesses_follow}
 use Rattle.device.proofs.Steps.{Follows, step_follows}
 use Rattle.device.proofs.Shape.{step_shape}
-use Rattle.device.specs.Across.{Step, Happens, Comes, Goes, Replaces, came, replaced, stepped, after_steps, Sight, Saw, Came, Went, Got, sight_in, sights, accesses_in, all_accesses, GuestItem, Kept, Attach, Detach, Replace, kept_in, keep_steps, lone_refusal, came_alone, replace_refusal_alone, replaced_alone, moved_on, shown_on, made_on, lone_end, lone_sights, lone_accesses}
+use Rattle.device.specs.Across.{Step, Happens, Comes, Goes, Replaces, Prompts, came, replaced, stepped, after_steps, Sight, Saw, Came, Went, Got, Prompted, sight_in, sights, accesses_in, all_accesses, GuestItem, Kept, Attach, Detach, Replace, Prompt, kept_in, keep_steps, lone_refusal, came_alone, replace_refusal_alone, replaced_alone, moved_on, shown_on, made_on, lone_end, lone_sights, lone_accesses}
 
 -- ---- as many functions after a step
 
@@ -35,11 +35,16 @@ replaced_count : (w : World) (q : ℕ) (memory : List ℕ) (r : Option Fault) �
 replaced_count w q memory None = length-set w.functions q (moved_to (function_of q w) memory)
 replaced_count w q memory (Some fault) = refl
 
+prompted_count : (w : World) (q : ℕ) (is_there : Bool) → length (if is_there then with_function w q (other_raised (function_of q w)).state else w).functions ≡ length w.functions
+prompted_count w q true = length-set w.functions q (other_raised (function_of q w)).state
+prompted_count w q false = refl
+
 same_count : (w : World) (t : Step) → length (stepped w t).functions ≡ length w.functions
 same_count w (Happens e) = (step_shape w e).functions
 same_count w (Comes q memory) = came_count w q memory (attach_refusal w q (length memory))
 same_count w (Goes q) = went_count w q _ refl
 same_count w (Replaces q memory) = replaced_count w q memory (replace_refusal w q (length memory))
+same_count w (Prompts q) = prompted_count w q (nat_lt q (length w.functions))
 
 -- ---- one step
 
@@ -120,11 +125,28 @@ replaces_on p w q memory true below is =
     subst (λ r. FollowsOn (lone_of p w) (Some (Got (replace_refusal w r (length memory)) (function_of r w))) (lone_of p (stepped w (Replaces r memory))) (Some (Replace memory))) (sym (eqb-true q p is)) (replaces_mine p w memory below)
 replaces_on p w q memory false below is = (refl, replaced_other p q w memory (replace_refusal w q (length memory)) (differ_from p q is))
 
+here : (p n : ℕ) → p < n → nat_lt p n ≡ true
+here p n below = lt-ltb p n below
+
+prompts_mine : (p : ℕ) (w : World) → p < length w.functions → FollowsOn (lone_of p w) (Some (Prompted (prompt_messages w p))) (lone_of p (prompted w p)) (Some Prompt)
+prompts_mine p w below = rw (here p (length w.functions) below) (refl, lone_set p w (other_raised (function_of p w)).state below)
+
+prompted_other : (p q : ℕ) (w : World) (is_there : Bool) → (p ≡ q → ⊥) → lone_of p (if is_there then with_function w q (other_raised (function_of q w)).state else w) ≡ lone_of p w
+prompted_other p q w true differ = lone_kept p q w (other_raised (function_of q w)).state differ
+prompted_other p q w false differ = refl
+
+prompts_on : (p : ℕ) (w : World) (q : ℕ) (mine : Bool) → p < length w.functions → eqb q p ≡ mine
+    → FollowsOn (lone_of p w) (if mine then Some (Prompted (prompt_messages w q)) else None) (lone_of p (stepped w (Prompts q))) (if mine then Some Prompt else None)
+prompts_on p w q true below is =
+    subst (λ r. FollowsOn (lone_of p w) (Some (Prompted (prompt_messages w r))) (lone_of p (prompted w r)) (Some Prompt)) (sym (eqb-true q p is)) (prompts_mine p w below)
+prompts_on p w q false below is = (refl, prompted_other p q w (nat_lt q (length w.functions)) (differ_from p q is))
+
 step_on : (p : ℕ) (w : World) (t : Step) → p < length w.functions → p < 64 → FollowsOn (lone_of p w) (sight_in p w t) (lone_of p (stepped w t)) (kept_in p w t)
 step_on p w (Happens e) below small = event_on (lone_of p w) (seen_of p e (step w e).answer) (lone_of p (step w e).world) (kept p w e) (step_follows p w e below small)
 step_on p w (Comes q memory) below small = comes_on p w q memory _ below refl
 step_on p w (Goes q) below small = goes_on p w q _ below refl
 step_on p w (Replaces q memory) below small = replaces_on p w q memory _ below refl
+step_on p w (Prompts q) below small = prompts_on p w q _ below refl
 
 -- ---- all steps
 
@@ -173,6 +195,7 @@ step_made_on p w (Happens e) = event_made_on (lone_of p w) (accesses_by w e p) (
 step_made_on p w (Comes q memory) = none_made_on (lone_of p w) (Attach memory) (eqb q p) refl
 step_made_on p w (Goes q) = none_made_on (lone_of p w) Detach (eqb q p) refl
 step_made_on p w (Replaces q memory) = none_made_on (lone_of p w) (Replace memory) (eqb q p) refl
+step_made_on p w (Prompts q) = none_made_on (lone_of p w) Prompt (eqb q p) refl
 
 accesses_on : (s : Lone) (accesses : List Access) (seen : Option Sight) (after : Lone) (k : Option GuestItem) → MadeOn s accesses k → FollowsOn s seen after k → (ks : List GuestItem) → accesses ++ lone_accesses after ks ≡ lone_accesses s (cons_option k ks)
 accesses_on s accesses seen after None made h ks = λ i. made i ++ lone_accesses (h.1 i) ks

@@ -11,7 +11,7 @@ use Rattle.live_memory.specs.Trace.{Access}
 use Rattle.pool_filter.specs.Settings.{Settings, initial_settings}
 use Rattle.pool_filter.specs.Own.{own}
 use Rattle.vf_unit.specs.declared.registers.Queue.{Queue}
-use Rattle.vf_unit.specs.Unit.{Function, TracedFunction, Closed, IsMet, size_of, ended, met_function, told_of}
+use Rattle.vf_unit.specs.Unit.{Function, TracedFunction, Closed, IsMet, size_of, ended, met_function, other_raised, told_of}
 use Rattle.device.specs.declared.profile.Profile.{Profile}
 use Rattle.device.specs.Events.{Event}
 use Rattle.device.specs.declared.event.Event.TheVariants.{Flr}
@@ -20,6 +20,7 @@ use Rattle.device.specs.Replies.{Reply, is_done}
 use Rattle.device.specs.declared.event.Answer.{Answer}
 use Rattle.device.specs.Outcome.{Outcome, IsOf, Holds, HoldsIn, reply_of, reply_in, done_or_refused}
 use Rattle.device.specs.Act.{act, serve}
+use Rattle.device.specs.Guests.{prompted, prompt_messages}
 use Rattle.device.specs.World.{World, Stepped, function_of, with_function, own_step, acted, silently, flagged, all_reset, sizes_of}
 use Rattle.device.specs.Live.{TracedWorld, told_functions, told_world, told_service, AreMet, AreListed}
 use Rattle.device.proofs.Arrivals.{raised_nothing}
@@ -175,6 +176,28 @@ serve_told b us t i p q here new view h =
 
 pub served_world : (b : Base) (us : List TracedFunction) (t : TracedWorld) (i p : ℕ) (here new : TracedFunction) (f : Function) → device_with b us ≡ t → IsHere us i p here → new.function ≡ f → world_with b (set us i new) ≡ with_function t.world p f
 served_world b us t i p here new f view h is = sym (after_is b us i p here new h) ∙ ap (with_function (world_with b us) p) is ∙ ap (λ (d : TracedWorld). with_function d.world p f) view
+
+-- ---- the cause "other" of a function
+
+function_then : (b : Base) (us : List TracedFunction) (t : TracedWorld) (i p : ℕ) (here : TracedFunction) → device_with b us ≡ t → IsHere us i p here → here.function ≡ function_of p t.world
+function_then b us t i p here view h = sym (function_here us i p here h) ∙ ap (λ (d : TracedWorld). function_of p d.world) view
+
+is_there : (b : Base) (us : List TracedFunction) (t : TracedWorld) (i p : ℕ) (here : TracedFunction) → device_with b us ≡ t → IsHere us i p here → nat_lt p (length t.world.functions) ≡ true
+is_there b us t i p here view h =
+    let below : p < length t.world.functions = subst (λ (d : TracedWorld). p < length d.world.functions) view (there us i p here h) in
+    grind (arith, below)
+
+pub prompted_world : (b : Base) (us : List TracedFunction) (t : TracedWorld) (i p : ℕ) (here new : TracedFunction) → device_with b us ≡ t → IsHere us i p here → new.function ≡ (other_raised here.function).state
+    → world_with b (set us i new) ≡ prompted t.world p
+prompted_world b us t i p here new view h is =
+    served_world b us t i p here new (other_raised here.function).state view h is
+    ∙ ap (λ (f : Function). with_function t.world p (other_raised f).state) (function_then b us t i p here view h)
+    ∙ ap (λ (inside : Bool). if inside then with_function t.world p (other_raised (function_of p t.world)).state else t.world) (sym (is_there b us t i p here view h))
+
+pub prompted_vectors : (b : Base) (us : List TracedFunction) (t : TracedWorld) (i p : ℕ) (here : TracedFunction) → device_with b us ≡ t → IsHere us i p here → (other_raised here.function).messages ≡ prompt_messages t.world p
+prompted_vectors b us t i p here view h =
+    ap (λ (f : Function). (other_raised f).messages) (function_then b us t i p here view h)
+    ∙ ap (λ (inside : Bool). if inside then (other_raised (function_of p t.world)).messages else 0) (sym (is_there b us t i p here view h))
 
 -- ---- the reset of a function
 

@@ -1,11 +1,11 @@
--- Guests that come to a device and go.
-use Rattle.std.specs.Prelude.{ℕ, Bool, not, ◌&&◌, ◌||◌, ◌==◌, nat_le, List, length, Option, Some, None, if◌then◌else◌}
+-- What a host does to a device beside its events: guests come and go, and the cause "other" of a function is raised.
+use Rattle.std.specs.Prelude.{ℕ, Bool, not, ◌&&◌, ◌||◌, ◌==◌, nat_le, nat_lt, List, length, Option, Some, None, if◌then◌else◌}
 use Rattle.std.specs.List.{list_all}
 use Rattle.wire_frame.specs.declared.fault.Fault.{Fault}
 use Rattle.wire_frame.specs.declared.fault.Fault.TheVariants.{NoSuchVf, AlreadyOpen, BadMake}
 use Rattle.vf_unit.specs.Function.{initial_with}
 use Rattle.vf_unit.specs.Guests.{moved_to}
-use Rattle.vf_unit.specs.Unit.{Closed, Open, size_of}
+use Rattle.vf_unit.specs.Unit.{Closed, Open, other_raised, size_of}
 use Rattle.device.specs.World.{World, function_of, with_function}
 
 -- the most bytes of a guest's memory: 64 TiB, which is 2^46
@@ -52,3 +52,11 @@ replace_refusal w p n = if nat_le (length w.functions) p then Some NoSuchVf
 -- a function has another memory, and is else as it was
 abbrev pub over_memory : World → ℕ → List ℕ → World
 over_memory w p memory = with_function w p (moved_to (function_of p w) memory)
+
+-- the cause "other" of a function is raised: where there is such a function, that function alone is changed
+abbrev pub prompted : World → ℕ → World
+prompted w p = if nat_lt p (length w.functions) then with_function w p (other_raised (function_of p w)).state else w
+
+-- the vectors whose messages this issues
+abbrev pub prompt_messages : World → ℕ → ℕ
+prompt_messages w p = if nat_lt p (length w.functions) then (other_raised (function_of p w)).messages else 0

@@ -1,7 +1,7 @@
 //! The device: how it is made, and what it shows.
 ghost use Rattle.std.specs.Prelude.{◌≡◌, ℕ, [], ◌<◌, ◌≤◌, ◌&&◌, true, false, length, replicate, map, slice_get, option_copied, IfOk, IfErr};
 ghost use Rattle.pool_filter.specs.Settings.{initial_settings};
-ghost use Rattle.vf_unit.specs.Unit.{Closed, size_of, shortfalls_of, bytes_at};
+ghost use Rattle.vf_unit.specs.Unit.{Closed, size_of, shortfalls_of, interval_of, bytes_at};
 ghost use Rattle.device.specs.World.{fresh, fresh_with, is_frame_limit, is_makeable, function_of};
 
 use crate::profile::Profile;
@@ -12,7 +12,7 @@ use live_memory::{Alone, Dma};
 use pool_filter::Tables;
 use std::alloc::{AllocError, Global};
 use std::marker::Model;
-use vf_unit::VfUnit;
+use vf_unit::{Vector, VfUnit};
 use wire_frame::{Fault, FrameBuf, FrameLimit, PoolId};
 
 /// A device over the memories of its guests.
@@ -172,6 +172,16 @@ impl<D: Dma<K>, K> Device<D, K> {
         ensures { result ≡ shortfalls_of (function_of pool self.now.world) }
     {
         self.units[pool].shortfalls()
+    }
+
+    /// How many microseconds apart the driver of a virtual function that is there wants the messages of a vector to be at least, 0 to 1022;
+    /// 0 where it says nothing of it, and of a closed function (82599 datasheet, VTEITR). The device does not count time: whoever hands the
+    /// messages out keeps them apart.
+    pub fn interval(&self, pool: usize, vector: Vector) -> u16
+        requires { pool < length self.now.world.functions }
+        ensures { result ≡ interval_of (function_of pool self.now.world) vector }
+    {
+        self.units[pool].interval(vector)
     }
 
     /// How many frames are kept of those that went to the wire, at most 1024.

@@ -10,6 +10,7 @@ use mapped_memory::LiveMem;
 use offload::Offloads;
 use script_support::registers::{
     ENABLE, PFVFTE, TDBAH0, TDBAL0, TDH0, TDLEN0, TDT0, TXDCTL0, VTEICR, VTEICS, VTEIMS,
+    VTIVAR_MISC,
 };
 use std::alloc::Global;
 use std::test::Fail;
@@ -165,6 +166,29 @@ fn the_next_guest_finds_nothing_of_the_last(rt: HostRuntime) -> Result<(), Fail>
     assert_equal(&rt, reply, Some(Reply::Idle));
     assert_equal(&rt, bytes_at(&mut device, 0), Some([0; 8]));
     assert_equal(&rt, bytes_at(&mut device, HIGH), None);
+    Ok(())
+}
+
+// The host raises the cause "other" of a function, by the vector that its driver gave it: a message where that is enabled, and none where the
+// cause stands already. A function that is closed, or isn't there, gets none.
+#[test]
+fn a_host_raises_the_cause_other(rt: HostRuntime) -> Result<(), Fail> {
+    let alloc = rt.alloc();
+    let mut device = vacant_device(alloc, 2)?;
+    let memory = LiveMem::for_guest(alloc, 4096)?;
+    assert_equal(&rt, device.attach(1, memory).is_ok(), true);
+    let rows = [(0, 0), (2, 0), (64, 0), (255, 0), (1, 0)];
+    for (pool, due) in rows {
+        assert_equal(&rt, device.raise_other(pool).bits(), due);
+    }
+    let events = [
+        Event::VfWrite(1, VTIVAR_MISC, 0x82),
+        Event::VfWrite(1, VTEIMS, 4),
+    ];
+    assert_equal(&rt, run_live(&mut device, alloc, &events)?.len(), 2);
+    let raised = (device.raise_other(1).bits(), device.raise_other(1).bits());
+    assert_equal(&rt, raised, (4, 0));
+    assert_equal(&rt, device.vf_read(1, VTEICR), Ok(4));
     Ok(())
 }
 

@@ -1,7 +1,7 @@
 -- What stands between two calls stands after turns of one function.
 use Rattle.std.proofs.Common.{◌≡◌, ℕ, zero, suc, ◌<◌, ◌≤◌, Bool, true, false, List, [], ◌∷◌, ◌++◌, ◌≢◌, length, get_or, refl, sym, ap, ◌∙◌, subst, arith}
 use Rattle.std.specs.List.{All}
-use Rattle.std.specs.Prelude.{◌&&◌, Option, None, Some, is_none, OnErr, Result, Ok, Err, slice_set, if◌then◌else◌}
+use Rattle.std.specs.Prelude.{◌&&◌, Option, None, Some, is_none, nat_lt, OnErr, Result, Ok, Err, slice_set, if◌then◌else◌}
 use Rattle.std.proofs.lemmas.Bool.Decides.{nat_tests}
 use Rattle.wire_frame.specs.declared.fault.Fault.{Fault}
 use Rattle.wire_frame.specs.declared.fault.Fault.TheVariants.{BadMake}
@@ -13,11 +13,13 @@ use Rattle.std.proofs.lemmas.List.{append-nil, get_or-set_other, map-append, len
 use Rattle.device.specs.declared.event.Event.TheVariants.{Flr, VfWrite}
 use Rattle.device.specs.Lone.{lone_of}
 use Rattle.device.proofs.Append.{world_after_append}
-use Rattle.device.specs.World.{World, fresh_with, is_frame_limit, step, with_function, world_after}
+use Rattle.device.specs.World.{World, fresh_with, function_of, is_frame_limit, step, with_function, world_after}
 use Rattle.device.proofs.LiveLemmas.{length_told}
 use Rattle.device.proofs.Shape.{step_shape}
-use Rattle.device.specs.Live.{TracedWorld, told_world}
+use Rattle.device.specs.Live.{told_world}
 use Rattle.live_memory.specs.Trace.{Access}
+use Rattle.mailbox.specs.declared.mailbox.Notice.{Notice}
+use Rattle.mailbox.specs.declared.mailbox.Notice.TheVariants.{Raises, Waits}
 use Rattle.mailbox.specs.declared.policy.Policy.{Policy}
 use Rattle.mailbox.specs.Address.{number_of}
 use Rattle.mailbox.specs.Host.{freed_by, host_admitting, host_after, host_dismissing, host_freed, host_under, refusal, slot_after}
@@ -31,7 +33,7 @@ use Rattle.mailbox.specs.Within.{IsWithin}
 use Rattle.mailbox.specs.Words.{settings_of}
 use Rattle.mailbox_laws.specs.Turns.{IsTurn, Turn, sets_registers, events_of, write_event, write_events, writes_admitting, writes_taken, host_at_end, host_of}
 use Rattle.mailbox_laws.proofs.Kept.{event_stays, few_still, first_run, run_settles}
-use Rattle.vf_unit.specs.Unit.{Closed, Function}
+use Rattle.vf_unit.specs.Unit.{Closed, Function, other_raised}
 use Rattle.vf_unit.specs.declared.registers.Queue.{Queue}
 use Rattle.live_run.specs.Bursts.{IsBurst, services}
 use Rattle.live_run.specs.declared.bursts.Burst.{Burst}
@@ -43,7 +45,7 @@ use Rattle.mailbox.specs.Mailbox.{MailboxState, after_reset, blank}
 use Rattle.mailbox_laws.specs.Turns.Turn.{Admits, Answers, Dismisses, Forgets, Happens}
 use Rattle.pool_filter.specs.Own.{own}
 use Rattle.hosted.specs.Hosted.{HaveTaken, HostedState, IsBegun, IsHosted, LeavesOthers, LeavesUnconcerned, mailbox_at, profile_for, with_world}
-use Rattle.hosted.specs.Turns.{mail_turns, mailed, reset_turns, takes, write_turns}
+use Rattle.hosted.specs.Turns.{mail_turns, mailed, prompted_by, reset_turns, takes, write_turns}
 use Rattle.hosted.proofs.Others.{IsOf, are_turns, box_stays, leaves_others, own_dismiss, own_forget, own_reset, own_write}
 
 as_many : (w : World) (es : List Event) → length (world_after w es).functions ≡ length w.functions
@@ -236,23 +238,47 @@ shows_dismissed p old new below is taken within boxes = record {
   others = leaves_others p old new (Dismisses p ∷ []) below is (own_dismiss p) taken (λ q other. ap (λ (ms : List MailboxState). get_or ms q blank) boxes);
 }
 
--- nothing is as it was but p's mailbox
-pub told : (p : ℕ) (old new : HostedState) (m : MailboxState) → IsHosted old → new.device ≡ old.device → new.host ≡ old.host → new.mailboxes ≡ slice_set old.mailboxes p m → Shows p old new
-told p old new m is device host boxes = record {
-  hosted = record {
-    settings = ap (λ (d : TracedWorld). d.world.settings) device ∙ is.settings ∙ ap settings_of (sym host);
-    within = subst IsWithin (sym host) is.within;
-    ids = subst (λ (h : HostState). length h.ids ≤ 64) (sym host) is.ids;
-    slots = ap (λ (h : HostState). length h.slots) host ∙ is.slots;
-    functions = subst (λ (d : TracedWorld). length d.world.functions ≤ 64) (sym device) is.functions;
-    many = ap length boxes ∙ length-set old.mailboxes p m ∙ is.many;
-  };
-  others = record {
-    functions = λ q inside other. ap (λ (d : TracedWorld). lone_of q d.world) device;
-    slots = λ q other. ap (λ (h : HostState). slot_at h q) host;
-    mailboxes = λ q other. box_stays old.mailboxes new.mailboxes p q m boxes other;
-  };
-}
+-- of a device nothing is another but p's function
+pub record ChangesOnly (p : ℕ) (w v : World) : Type 0 where
+  pub settings : v.settings ≡ w.settings
+  pub many : length v.functions ≡ length w.functions
+  pub others : (q : ℕ) → q ≢ p → lone_of q v ≡ lone_of q w
+
+-- so where its cause "other" is raised, or not
+pub prompt_changes : (p : ℕ) (w : World) (notice : Notice) → ChangesOnly p w (prompted_by notice w p)
+prompt_changes p w Waits = record { settings = refl; many = refl; others = λ q other. refl }
+prompt_changes p w Raises = go (nat_lt p (length w.functions))
+  where
+    f : Function
+    f = (other_raised (function_of p w)).state
+
+    go : (b : Bool) → ChangesOnly p w (if b then with_function w p f else w)
+    go true = record {
+      settings = refl;
+      many = length-set w.functions p f;
+      others = λ q other. ap (λ (g : Function). record { profile = w.profile; function = g; settings = own w.settings q }) (get_or-set_other w.functions p q f (Closed 0) other);
+    }
+    go false = record { settings = refl; many = refl; others = λ q other. refl }
+
+-- nothing is another but p's function, by its cause "other", and p's mailbox
+pub told : (p : ℕ) (old new : HostedState) (m : MailboxState) (notice : Notice) → IsHosted old → new.device.world ≡ prompted_by notice old.device.world p → new.host ≡ old.host → new.mailboxes ≡ slice_set old.mailboxes p m → Shows p old new
+told p old new m notice is world host boxes =
+    let changes : ChangesOnly p old.device.world new.device.world = subst (ChangesOnly p old.device.world) (sym world) (prompt_changes p old.device.world notice) in
+    record {
+      hosted = record {
+        settings = changes.settings ∙ is.settings ∙ ap settings_of (sym host);
+        within = subst IsWithin (sym host) is.within;
+        ids = subst (λ (h : HostState). length h.ids ≤ 64) (sym host) is.ids;
+        slots = ap (λ (h : HostState). length h.slots) host ∙ is.slots;
+        functions = subst (λ (n : ℕ). n ≤ 64) (sym changes.many) is.functions;
+        many = ap length boxes ∙ length-set old.mailboxes p m ∙ is.many;
+      };
+      others = record {
+        functions = λ q inside other. changes.others q other;
+        slots = λ q other. ap (λ (h : HostState). slot_at h q) host;
+        mailboxes = λ q other. box_stays old.mailboxes new.mailboxes p q m boxes other;
+      };
+    }
 
 -- a policy that is refused changes nothing
 pub unchanged : (old : HostedState) (host : HostState) (p : ℕ) (policy : Policy) → is_none (refusal old.host p policy) ≡ false → host ≡ host_admitting old.host p policy

@@ -1,11 +1,14 @@
--- What an access of a driver to its registers, and a reset, have the device and the host do.
-use Rattle.std.specs.Prelude.{ℕ, Bool, true, false, ◌&&◌, ◌==◌, List, [], ◌∷◌, Option, Some, None, slice_set, if◌then◌else◌}
+-- What an access of a driver to its registers, a reset, and the host's own message have the device and the host do.
+use Rattle.std.specs.Prelude.{ℕ, Bool, true, false, ◌&&◌, ◌==◌, List, [], ◌∷◌, Option, Some, slice_set, if◌then◌else◌}
 use Rattle.wire_frame.specs.Bits.{has_bit}
 use Rattle.device.specs.Events.{Event}
 use Rattle.device.specs.declared.event.Event.TheVariants.{Flr, VfRead, VfWrite}
 use Rattle.device.specs.Replies.{Reply}
 use Rattle.device.specs.declared.event.Reply.TheVariants.{Done, Value}
+use Rattle.device.specs.Guests.{prompted, prompt_messages}
 use Rattle.device.specs.World.{World, step}
+use Rattle.mailbox.specs.declared.mailbox.Notice.{Notice}
+use Rattle.mailbox.specs.declared.mailbox.Notice.TheVariants.{Raises, Waits}
 use Rattle.mailbox.specs.declared.mailbox.Rang.{Rang}
 use Rattle.mailbox.specs.declared.mailbox.Rang.TheVariants.{Request}
 use Rattle.mailbox.specs.Mailbox.{MailboxState, after_read, after_reset, after_write, blank, read_at, rung_at}
@@ -81,3 +84,15 @@ reset_turns h p = Happens (Flr p) ∷ (if takes h (Flr p) then Forgets p ∷ [] 
 
 abbrev pub mailboxes_reset : HostedState → ℕ → List MailboxState
 mailboxes_reset h p = if takes h (Flr p) then slice_set h.mailboxes p after_reset else h.mailboxes
+
+-- ---- the host's own message
+
+-- where it stands in the mailbox, the function's cause "other" is raised
+abbrev pub prompted_by : Notice → World → ℕ → World
+prompted_by Raises w p = prompted w p
+prompted_by Waits w p = w
+
+-- the vectors whose messages this issues
+abbrev pub vectors_by : Notice → World → ℕ → ℕ
+vectors_by Raises w p = prompt_messages w p
+vectors_by Waits w p = 0

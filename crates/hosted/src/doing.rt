@@ -8,11 +8,12 @@ ghost use Rattle.mailbox.specs.Replies.{reply_to};
 ghost use Rattle.mailbox.specs.Within.{IsWithin};
 ghost use Rattle.mailbox_laws.specs.Turns.{events_of, host_at_end, write_events};
 ghost use Rattle.mailbox_laws.specs.Turns.Turn.{Answers, Forgets};
-ghost use Rattle.hosted.specs.Turns.{mail_turns, mailed, resets};
+ghost use Rattle.hosted.specs.Turns.{mail_turns, mailed, prompted_by, resets, vectors_by};
 
 use device::Device;
+use irq_causes::Vectors;
 use live_memory::Dma;
-use mailbox::{Host, Mailbox, Rang, Write};
+use mailbox::{Host, Mailbox, Notice, Rang, Write};
 use wire_frame::{PoolId, has_bit};
 
 /// VFCTRL, and its bit RST (82599 datasheet, VF Device Control).
@@ -87,6 +88,19 @@ pub fn forget<D: Dma<K>, K>(device: &mut Device<D, K>, host: &mut Host, pool: Po
 {
     let writes = host.reset(pool);
     do_writes(device, writes.as_slice());
+}
+
+/// Raises the cause "other" of a function where the host's own message stands in its mailbox, and answers with the vectors whose messages
+/// this issues.
+pub fn prompt<D: Dma<K>, K>(device: &mut Device<D, K>, pool: PoolId, notice: Notice) -> Vectors
+    ensures world { device.new.world ≡ prompted_by notice device.old.world pool }
+    ensures vectors { result ≡ vectors_by notice device.old.world pool }
+    ensures accesses { device.new.accesses ≡ device.old.accesses }
+{
+    match notice {
+        Notice::Raises => device.raise_other(pool.get()),
+        Notice::Waits => Vectors::none(),
+    }
 }
 
 // Whether a write resets its function.

@@ -1,14 +1,14 @@
 //! The device with its host.
 ghost use Rattle.std.specs.Prelude.{◌≡◌, ◌≤◌, ◌&&◌, false, true, nat_le, length, map, replicate, Err, IfErr, IfOk};
 ghost use Rattle.device.specs.Guests.{is_for_guests};
-ghost use Rattle.vf_unit.specs.Unit.{shortfalls_of};
+ghost use Rattle.vf_unit.specs.Unit.{interval_of, shortfalls_of};
 ghost use Rattle.device.specs.World.{function_of, world_after};
 ghost use Rattle.mailbox.specs.Mailbox.{blank};
 ghost use Rattle.mailbox.specs.Start.{first_writes};
 ghost use Rattle.mailbox_laws.specs.Turns.{write_events};
 ghost use Rattle.hosted.specs.Hosted.{IsBegun, IsHosted, host_of_ids};
 
-use device::Device;
+use device::{Device, Vector};
 use live_memory::Dma;
 use mailbox::{Host, Mailbox};
 use offload::Offloads;
@@ -96,6 +96,19 @@ impl<D: Dma<K>, K> HostedDevice<D, K> {
         let index = usize::from(pool.get());
         if index < self.device.functions() {
             self.device.shortfalls(index)
+        } else {
+            0
+        }
+    }
+
+    /// How many microseconds apart a function's driver wants the messages of a vector to be at least, 0 to 1022, as
+    /// [`Device::interval`](device::Device::interval) says. 0 where it says nothing of it, where there is no such function, or it is closed.
+    pub fn interval(&self, pool: PoolId, vector: Vector) -> u16
+        ensures { result ≡ interval_of (function_of pool self.now.device.world) vector }
+    {
+        let index = usize::from(pool.get());
+        if index < self.device.functions() {
+            self.device.interval(index, vector)
         } else {
             0
         }

@@ -4,7 +4,8 @@
 //! mailbox. The crate `mailbox` answers, and says which registers of the physical function are to be written; the crate `device`
 //! is those registers. A [`HostedDevice`] owns both, with the mailbox of each function: no other hand writes a register of the
 //! physical function. So what a host must not forget can't be forgotten: the writes of an answer are done before anything else
-//! happens, a message is answered in its own function's mailbox, and a reset is told to device, host and mailbox.
+//! happens, a message is answered in its own function's mailbox, a reset is told to device, host and mailbox, and the host's own message
+//! raises the cause by which the driver looks at its mailbox.
 //!
 //! Between two calls the device's settings are those that the host stands for, and no function has more than its policy grants.
 //! A function's access to its registers, whatever it says in its mailbox, and its reset leave every other function as it was:
@@ -19,3 +20,4 @@ pub mod policies;
 pub mod registers;
 
 pub use hosted::HostedDevice;
+pub use policies::Notified;

@@ -7,12 +7,23 @@ ghost use Rattle.mailbox.specs.Replies.{notified};
 ghost use Rattle.mailbox.specs.State.{holder};
 ghost use Rattle.mailbox_laws.specs.Turns.Turn.{Admits, Dismisses};
 ghost use Rattle.hosted.specs.Hosted.{HaveTaken, LeavesOthers, LeavesUnconcerned, mailbox_at};
+ghost use Rattle.hosted.specs.Turns.{prompted_by, vectors_by};
 
-use crate::doing::do_writes;
+use crate::doing::{do_writes, prompt};
 use crate::hosted::HostedDevice;
+use irq_causes::Vectors;
 use live_memory::Dma;
 use mailbox::{NotAdmitted, Notice, Policy};
 use wire_frame::PoolId;
+
+/// What came of the host's own message to a function.
+#[derive(Clone, Copy, Debug, PartialEq, Eq)]
+pub struct Notified {
+    /// Whether it stands in the mailbox.
+    pub notice: Notice,
+    /// The vectors of the function whose messages this issues.
+    pub vectors: Vectors,
+}
 
 impl<D: Dma<K>, K> HostedDevice<D, K> {
     /// Gives a function its policy, as [`Host::admit`](mailbox::Host::admit) says, and does the writes of the physical function's
@@ -56,20 +67,27 @@ impl<D: Dma<K>, K> HostedDevice<D, K> {
     }
 
     /// Puts the host's own message into a function's mailbox, as [`Host::notify`](mailbox::Host::notify) says, by which its driver looks at
-    /// its link.
-    pub fn notify(&mut self, pool: PoolId) -> Notice
-        ensures notice { result ≡ notice_in (mailbox_at self.old pool) }
+    /// its link; and raises the function's cause "other" where the message stands there, so that the driver looks at once. Hands out the
+    /// vectors whose messages this issues: none where the message waits, or the function is closed, or there is none.
+    pub fn notify(&mut self, pool: PoolId) -> Notified
+        ensures notice { result.notice ≡ notice_in (mailbox_at self.old pool) }
+        ensures vectors { result.vectors
+            ≡ vectors_by (notice_in (mailbox_at self.old pool)) self.old.device.world pool }
         ensures mailboxes { self.new.mailboxes ≡ slice_set self.old.mailboxes pool
             (notified self.old.host pool (mailbox_at self.old pool)) }
+        ensures world { self.new.device.world
+            ≡ prompted_by (notice_in (mailbox_at self.old pool)) self.old.device.world pool }
         ensures host { self.new.host ≡ self.old.host }
-        ensures device { self.new.device ≡ self.old.device }
+        ensures accesses { self.new.device.accesses ≡ self.old.device.accesses }
         ensures others { LeavesOthers pool self.old self.new }
     {
         let HostedDevice {
-            device: _,
+            device,
             host,
             mailboxes,
         } = self;
-        host.notify(pool, &mut mailboxes[usize::from(pool.get())])
+        let notice = host.notify(pool, &mut mailboxes[usize::from(pool.get())]);
+        let vectors = prompt(device, pool, notice);
+        Notified { notice, vectors }
     }
 }

@@ -1,10 +1,10 @@
 //! Drivers that ask by their mailboxes.
 use crate::compare::assert_equal;
-use crate::support::{ask, policy, pool, vacant};
-use device::{Outcome, Queue};
+use crate::support::{ask, policy, pool, told, vacant};
+use device::{Outcome, Queue, Vector};
 use mailbox::{NotAdmitted, Notice};
 use mapped_memory::LiveMem;
-use script_support::registers::{VFCTRL, VFMAILBOX, VFMBMEM};
+use script_support::registers::{VFCTRL, VFMAILBOX, VFMBMEM, VTEICR, VTEIMC, VTEIMS, VTIVAR_MISC};
 use std::test::Fail;
 use wire_frame::{Fault, FrameBuf};
 
@@ -123,14 +123,50 @@ fn a_driver_is_notified_and_dismissed(rt: HostRuntime) -> Result<(), Fail> {
     );
     assert_equal(&rt, ask(&mut hosted, 0, RESET), Some(GRANTED));
     // the driver hasn't looked since its message was answered
-    assert_equal(&rt, hosted.notify(pool(0)?), Notice::Waits);
+    assert_equal(&rt, told(&mut hosted, pool(0)?), (Notice::Waits, 0));
     assert_equal(&rt, hosted.vf_read(0, VFMAILBOX), Ok(0x30));
-    assert_equal(&rt, hosted.notify(pool(0)?), Notice::Raises);
+    assert_equal(&rt, told(&mut hosted, pool(0)?), (Notice::Raises, 0));
     assert_equal(&rt, hosted.vf_read(0, VFMAILBOX), Ok(0x10));
     // without its policy it is refused, and the address is free
     hosted.dismiss(pool(0)?);
     assert_equal(&rt, ask(&mut hosted, 0, RESET), Some(0x4000_0001));
     assert_equal(&rt, hosted.admit(pool(1)?, &policy(7)), Ok(None));
+    Ok(())
+}
+
+/// The cause "other" is raised where the message stands: by the vector that the driver gave it, where that is enabled. A function that is
+/// closed, and one that isn't there, have none.
+#[test]
+fn a_notice_raises_the_cause_other(rt: HostRuntime) -> Result<(), Fail> {
+    let alloc = rt.alloc();
+    let mut hosted = vacant(alloc)?;
+    let came = hosted.attach(0, LiveMem::for_guest(alloc, 4096)?).is_ok();
+    assert_equal(&rt, came, true);
+    let rows = [
+        (0x00, 7, (Notice::Raises, 0)),
+        (0x82, 3, (Notice::Raises, 0)),
+        (0x82, 4, (Notice::Raises, 4)),
+        (0x80, 4, (Notice::Raises, 0)),
+        (0x80, 1, (Notice::Raises, 1)),
+    ];
+    for (vector, enabled, due) in rows {
+        let writes = [(VTEIMC, 7), (VTIVAR_MISC, vector), (VTEIMS, enabled)];
+        for (offset, value) in writes {
+            let written = hosted.vf_write(0, offset, value).is_ok();
+            assert_equal(&rt, written, true);
+        }
+        assert_equal(&rt, hosted.vf_read(0, VTEICR).is_ok(), true);
+        assert_equal(&rt, told(&mut hosted, pool(0)?), due);
+    }
+    // the driver takes the mailbox (VFU): nothing is raised then, and nothing is changed
+    assert_equal(&rt, hosted.vf_read(0, VTEICR), Ok(1));
+    assert_equal(&rt, hosted.vf_write(0, VFMAILBOX, 4).is_ok(), true);
+    assert_equal(&rt, told(&mut hosted, pool(0)?), (Notice::Waits, 0));
+    assert_equal(&rt, hosted.vf_read(0, VTEICR), Ok(0));
+    for absent in [pool(1)?, pool(2)?] {
+        assert_equal(&rt, told(&mut hosted, absent), (Notice::Raises, 0));
+        assert_equal(&rt, hosted.interval(absent, Vector::V0), 0);
+    }
     Ok(())
 }
 

@@ -1,7 +1,7 @@
 //! What the tests share: a hosted device of vacant functions, and a driver.
 use hosted::HostedDevice;
 use live_memory::Shared;
-use mailbox::{Policy, VlanPolicy};
+use mailbox::{Notice, Policy, VlanPolicy};
 use mapped_memory::LiveMem;
 use offload::Offloads;
 use script_support::registers::{VFMAILBOX, VFMBMEM};
@@ -54,4 +54,10 @@ pub fn ask(hosted: &mut Hosted<'_>, function: u8, word: u32) -> Option<u32> {
         }
     }
     hosted.vf_read(function, VFMBMEM).ok()
+}
+
+/// What came of the host's own message: whether it stands, and the vectors whose messages it issued.
+pub fn told(hosted: &mut Hosted<'_>, pool: PoolId) -> (Notice, u8) {
+    let notified = hosted.notify(pool);
+    (notified.notice, notified.vectors.bits())
 }

@@ -1,6 +1,7 @@
 -- Each call is a deed.
 use Rattle.std.proofs.Common.{◌≡◌, ℕ, Bool, true, false, List, [], ◌∷◌, ◌++◌, Option, Some, None, length, refl, sym, ap, ◌∙◌}
-use Rattle.std.specs.Prelude.{is_none, slice_set, if◌then◌else◌}
+use Rattle.std.specs.Prelude.{is_none, slice_index, slice_set, if◌then◌else◌}
+use Rattle.irq_causes.specs.Causes.{◌without◌}
 use Rattle.wire_frame.specs.declared.fault.Fault.{Fault}
 use Rattle.device.specs.Across.{replaced}
 use Rattle.device.specs.Guests.{attach_refusal, attached, detached, is_vacant, over_memory, replace_refusal}
@@ -9,19 +10,20 @@ use Rattle.mailbox.specs.declared.not_admitted.NotAdmitted.{NotAdmitted}
 use Rattle.mailbox.specs.declared.policy.Policy.{Policy}
 use Rattle.mailbox.specs.Address.{number_of}
 use Rattle.mailbox.specs.Host.{host_admitting, host_freed, host_under, refusal}
-use Rattle.mailbox.specs.Mailbox.{blank}
+use Rattle.mailbox.specs.Mailbox.{blank, notice_in}
 use Rattle.mailbox.specs.Replies.{notified}
 use Rattle.mailbox_laws.specs.Turns.{events_of, write_events, writes_taken}
 use Rattle.mailbox_laws.specs.Turns.Turn.{Admits as AdmitsTurn, Dismisses as DismissesTurn, Forgets}
 use Rattle.hosted.specs.Hosted.{HaveTaken, HostedState, mailbox_at, with_world}
+use Rattle.hosted.specs.Turns.{prompted_by, vectors_by}
 use Rattle.vfio_session.specs.declared.decision.Ask.{Ask}
 use Rattle.vfio_session.specs.declared.decision.Ask.TheVariants.{Read, Write, Map, Unmap, Reset, Arm, Disarm}
 use Rattle.vfio_session.specs.declared.owed.Owed.{Owed}
 use Rattle.vfio_session.specs.Received.{received}
 use Rattle.vfio_session.specs.Sessions.{Received}
 use Rattle.card.specs.Card.{CardState, cleared, end_at}
-use Rattle.card.specs.Life.{Hears, Signals, Resets, Comes, Goes, Replaces, Admits, Dismisses, Notifies, HasLived, after_coming, over_world, with_notes, without_guest, world_of}
-use Rattle.card.specs.Told.{after_reset, asked, told, told_by, turned, with_session}
+use Rattle.card.specs.Life.{Hears, Signals, Resets, Comes, Goes, Replaces, Admits, Dismisses, Notifies, HasLived, after_coming, after_notice, over_world, with_notes, without_guest, world_of}
+use Rattle.card.specs.Told.{after_reset, asked, joined, told, told_by, turned, with_session}
 
 -- a card whose world, host, mailboxes, ends and vectors are these
 of_parts : (old new due : CardState) → world_of new ≡ world_of due → new.hosted.host ≡ due.hosted.host → new.hosted.mailboxes ≡ due.hosted.mailboxes → new.ends ≡ due.ends → new.raised ≡ due.raised
@@ -64,9 +66,9 @@ pub reset_lives : (old new : CardState) (p : ℕ) → new ≡ after_reset old p 
 reset_lives old new p is =
     of_parts old new (after_reset old p) (ap world_of is) (ap (λ (c : CardState). c.hosted.host) is) (ap (λ (c : CardState). c.hosted.mailboxes) is) (ap (λ (c : CardState). c.ends) is) (ap (λ (c : CardState). c.raised) is) refl
 
-pub signal_lives : (old new : CardState) (p : ℕ) → new.hosted ≡ old.hosted → new.ends ≡ old.ends → new.raised ≡ slice_set old.raised p 0 → HasLived (Signals p ∷ []) old new
-signal_lives old new p hosted ends raised =
-    of_parts old new (record old { raised = slice_set old.raised p 0 }) (ap (λ (h : HostedState). h.device.world) hosted) (ap (λ (h : HostedState). h.host) hosted) (ap (λ (h : HostedState). h.mailboxes) hosted) ends raised refl
+pub signal_lives : (old new : CardState) (p vectors : ℕ) → new.hosted ≡ old.hosted → new.ends ≡ old.ends → new.raised ≡ slice_set old.raised p (slice_index old.raised p without vectors) → HasLived (Signals p vectors ∷ []) old new
+signal_lives old new p vectors hosted ends raised =
+    of_parts old new (record old { raised = slice_set old.raised p (slice_index old.raised p without vectors) }) (ap (λ (h : HostedState). h.device.world) hosted) (ap (λ (h : HostedState). h.host) hosted) (ap (λ (h : HostedState). h.mailboxes) hosted) ends raised refl
 
 -- ---- guests
 
@@ -118,10 +120,10 @@ pub dismissed_lives : (old new : CardState) (p : ℕ) → HaveTaken (DismissesTu
 dismissed_lives old new p taken boxes ends raised =
     of_parts old new (record old { hosted = turned old.hosted (DismissesTurn p ∷ []) old.hosted.mailboxes }) taken.world taken.host boxes ends raised refl
 
-pub notified_lives : (old new : CardState) (p : ℕ) → new.hosted.mailboxes ≡ slice_set old.hosted.mailboxes p (notified old.hosted.host p (mailbox_at old.hosted p))
-    → new.hosted.host ≡ old.hosted.host → new.hosted.device ≡ old.hosted.device → new.ends ≡ old.ends → new.raised ≡ old.raised → HasLived (Notifies p ∷ []) old new
-notified_lives old new p boxes host device ends raised =
-    of_parts old new (record old { hosted = turned old.hosted [] (slice_set old.hosted.mailboxes p (notified old.hosted.host p (mailbox_at old.hosted p))) }) (ap (λ d. d.world) device) host boxes ends raised refl
+pub notified_lives : (old new : CardState) (p : ℕ) → new.hosted.mailboxes ≡ slice_set old.hosted.mailboxes p (notified old.hosted.host p (mailbox_at old.hosted p)) → new.hosted.host ≡ old.hosted.host
+    → world_of new ≡ prompted_by (notice_in (mailbox_at old.hosted p)) (world_of old) p → new.ends ≡ old.ends
+    → new.raised ≡ joined old.raised p (vectors_by (notice_in (mailbox_at old.hosted p)) (world_of old) p) → HasLived (Notifies p ∷ []) old new
+notified_lives old new p boxes host world ends raised = of_parts old new (after_notice old p (notice_in (mailbox_at old.hosted p))) world host boxes ends raised refl
 
 -- a policy that is not taken changes nothing
 pub unadmitted_lives : (old new : CardState) (p : ℕ) (policy : Policy) (why : NotAdmitted) → refusal old.hosted.host p policy ≡ Some why → new ≡ old → HasLived (Admits p policy ∷ []) old new

@@ -1,29 +1,32 @@
 -- One deed: where it gives function p nothing, p is as it was and shows nothing; and two deeds that give it the same, from cards in which it is the
 -- same, are the same to it.
 use Rattle.std.proofs.Common.{[], lt-ltb, ◌≡◌, ◌≢◌, ℕ, zero, suc, ◌<◌, ◌≤◌, Bool, true, false, List, ◌∷◌, ◌++◌, Option, Some, None, length, refl, sym, ap, ◌∙◌, subst, arith}
-use Rattle.std.specs.Prelude.{◌==◌, ◌&&◌, ◌||◌, is_none, not, slice_index, slice_index_or, slice_set, if◌then◌else◌}
+use Rattle.std.specs.Prelude.{◌==◌, ◌&&◌, ◌||◌, bit_and, is_none, not, slice_index, slice_index_or, slice_set, if◌then◌else◌}
 use Rattle.std.specs.List.{cons_option}
 use Rattle.std.specs.Option.{option_map}
 use Rattle.std.proofs.lemmas.Bool.{eq-eqb, eqb-true, false≢true, lt-leb}
 use Rattle.std.proofs.lemmas.List.{append-nil, get_or-set_other, get_or-set_same, length-set}
 use Rattle.std.proofs.lemmas.List.Elements.{All-cons, All-nil}
+use Rattle.irq_causes.specs.Causes.{◌without◌}
 use Rattle.irq_causes.specs.Messages.{both, either}
 use Rattle.wire_frame.specs.declared.fault.Fault.{Fault}
 use Rattle.vf_unit.specs.Unit.{Closed, size_of}
 use Rattle.vf_unit.specs.declared.registers.Queue.{Queue}
 use Rattle.pool_filter.specs.Own.{own}
 use Rattle.local_switch.specs.Switch.{is_pool}
-use Rattle.device.specs.Across.{Attach, Came, Detach, GuestItem, Kept as StepKept, Replace, Saw, Sight, Step, accesses_in as device_accesses_in, after_steps, all_accesses, came, kept_in, sight_in, sights, stepped}
-use Rattle.device.specs.Across.Step.{Happens as DeviceHappens, Comes as DeviceComes, Goes as DeviceGoes, Replaces as DeviceReplaces}
+use Rattle.device.specs.Across.{Attach, Came, Detach, GuestItem, Kept as StepKept, Prompt, Prompted, Replace, Saw, Sight, Step, accesses_in as device_accesses_in, after_steps, all_accesses, came, kept_in, sight_in, sights, stepped}
+use Rattle.device.specs.Across.Step.{Happens as DeviceHappens, Comes as DeviceComes, Goes as DeviceGoes, Prompts as DevicePrompts, Replaces as DeviceReplaces}
 use Rattle.device.proofs.Across.{same_for}
 use Rattle.device.specs.Act.{serve}
 use Rattle.device.specs.Events.{Event}
 use Rattle.device.specs.declared.event.Event.TheVariants.{Open, End, VfRead, VfWrite, MemRead, MemWrite, Serve, Flr, PfRead, PfWrite, PfReset, Wire}
-use Rattle.device.specs.Guests.{attach_refusal, attached, detached, is_vacant}
+use Rattle.device.specs.Guests.{attach_refusal, attached, detached, is_vacant, prompt_messages}
 use Rattle.device.specs.Lone.{Lone, Item, OwnEvent, Replied, Interrupted, interrupted, is_own, kept, kept_of, lone_of, pool_of, with_settings}
 use Rattle.device.specs.Replies.{Reply}
 use Rattle.device.specs.World.{World, function_of, sent_by, service, step, with_function, world_after}
 use Rattle.live_run.specs.Bursts.{goes_on}
+use Rattle.mailbox.specs.declared.mailbox.Notice.{Notice}
+use Rattle.mailbox.specs.declared.mailbox.Notice.TheVariants.{Raises, Waits}
 use Rattle.mailbox.specs.declared.not_admitted.NotAdmitted.TheVariants.{NotUnicast, AddressOwned, NoSuchPlace}
 use Rattle.mailbox.specs.declared.not_admitted.NotAdmitted.{NotAdmitted}
 use Rattle.mailbox.specs.declared.policy.Policy.{Policy}
@@ -46,6 +49,7 @@ use Rattle.mailbox_laws.specs.Turns.{IsTurn, Turn, events_of, host_at_end, write
 use Rattle.mailbox_laws.specs.Turns.Turn.{Admits as AdmitsTurn, Dismisses as DismissesTurn, Forgets}
 use Rattle.mailbox_laws.proofs.Kept.{run_settles}
 use Rattle.hosted.specs.Hosted.{mailbox_at}
+use Rattle.hosted.specs.Turns.{prompted_by, vectors_by}
 use Rattle.card.specs.Alike.{AreAlike, IsToldAlike, Part, is_address_held}
 use Rattle.card.specs.Card.{CardState, end_at, quiet}
 use Rattle.card.specs.Life.{Deed, Hears, Happens, Signals, Resets, Comes, Goes, Replaces, Admits, Dismisses, Notifies, Show, Heard, Seen, Signalled, Judged, Noticed, accesses_in, sent_in, after_coming, after_deed, ends_after, heard_in, loses_to, over_world, shown_in, without_guest, world_of}
@@ -479,33 +483,59 @@ hearing_meets p c d message files b held =
       sent = refl;
     }
 
-pub signalling_meets : (p : ℕ) (c d : CardState) → Pair p c d → Meets p c (Signals p) d (Signals p)
-signalling_meets p c d b = record {
+pub signalling_meets : (p : ℕ) (c d : CardState) (vectors : ℕ) → Pair p c d → Meets p c (Signals p vectors) d (Signals p vectors)
+signalling_meets p c d vectors b = record {
   cards = record {
     part = λ i. record { lone = (b.alike.part i).lone; slot = (b.alike.part i).slot; mailbox = (b.alike.part i).mailbox; end = (b.alike.part i).end; raised = raised i };
     ids = b.alike.ids;
     default_pool = b.alike.default_pool;
     limit = b.alike.limit;
   };
-  shown = both_shown p (Signalled (signalled (slice_index c.raised p) (end_at c p).session.armed)) (Signalled (signalled (slice_index d.raised p) (end_at d p).session.armed))
-      (λ i. Signalled (signalled ((b.alike.part i).raised) ((b.alike.part i).end.session.armed)));
+  shown = both_shown p (Signalled (signalled (bit_and (slice_index c.raised p) vectors) (end_at c p).session.armed)) (Signalled (signalled (bit_and (slice_index d.raised p) vectors) (end_at d p).session.armed))
+      (λ i. Signalled (signalled (bit_and ((b.alike.part i).raised) vectors) ((b.alike.part i).end.session.armed)));
   accesses = refl;
   sent = refl;
 }
   where
-    raised : slice_index (slice_set c.raised p 0) p ≡ slice_index (slice_set d.raised p 0) p
-    raised = get_or-set_same c.raised p 0 0 (omega (arith, b.below, b.one.raised)) ∙ sym (get_or-set_same d.raised p 0 0 (omega (arith, b.below, b.two.raised)))
+    raised : slice_index (slice_set c.raised p (slice_index c.raised p without vectors)) p ≡ slice_index (slice_set d.raised p (slice_index d.raised p without vectors)) p
+    raised =
+        get_or-set_same c.raised p (slice_index c.raised p without vectors) 0 (omega (arith, b.below, b.one.raised))
+        ∙ (λ i. (b.alike.part i).raised without vectors)
+        ∙ sym (get_or-set_same d.raised p (slice_index d.raised p without vectors) 0 (omega (arith, b.below, b.two.raised)))
 
 pub resetting_meets : (p : ℕ) (c d : CardState) → Pair p c d → Meets p c (Resets p) d (Resets p)
 resetting_meets p c d b = record { cards = reset_alike p c d b; shown = refl; accesses = refl; sent = refl }
 
 -- ---- the host's own
 
+-- the vectors that a cause "other" issues, as they are seen
+abbrev vectors_seen : Option Sight → ℕ
+vectors_seen (Some (Prompted n)) = n
+vectors_seen _ = 0
+
+-- p's function once its cause "other" was raised, or not, and the vectors that this issues
+record NoticesAlike (p : ℕ) (c d : CardState) (notice : Notice) : Type 0 where
+  pub lone : lone_of p (prompted_by notice (world_of c) p) ≡ lone_of p (prompted_by notice (world_of d) p)
+  pub vectors : vectors_by notice (world_of c) p ≡ vectors_by notice (world_of d) p
+
+notices_alike : (p : ℕ) (c d : CardState) (notice : Notice) → Pair p c d → NoticesAlike p c d notice
+notices_alike p c d Waits b = record { lone = ap (λ (r : Part). r.lone) b.alike.part; vectors = refl }
+notices_alike p c d Raises b = record { lone = meet.lone; vectors = sym (shows (world_of c)) ∙ ap vectors_seen meet.shown ∙ shows (world_of d) }
+  where
+    own : (w : World) → kept_in p w (DevicePrompts p) ≡ Some Prompt
+    own w = ap (λ (m : Bool). if m then Some Prompt else None) (mine p)
+
+    meet : StepsAlike p (world_of c) (DevicePrompts p) (world_of d) (DevicePrompts p)
+    meet = own_steps p c d (DevicePrompts p) Prompt b (own (world_of c)) (own (world_of d))
+
+    shows : (w : World) → vectors_seen (sight_in p w (DevicePrompts p)) ≡ prompt_messages w p
+    shows w = ap (λ (m : Bool). vectors_seen (if m then Some (Prompted (prompt_messages w p)) else None)) (mine p)
+
 pub notifying_meets : (p : ℕ) (c d : CardState) → Pair p c d → Meets p c (Notifies p) d (Notifies p)
 unfolding notified
 notifying_meets p c d b = record {
   cards = record {
-    part = λ i. record { lone = (b.alike.part i).lone; slot = (b.alike.part i).slot; mailbox = box i; end = (b.alike.part i).end; raised = (b.alike.part i).raised };
+    part = λ i. record { lone = lone i; slot = (b.alike.part i).slot; mailbox = box i; end = (b.alike.part i).end; raised = raised i };
     ids = b.alike.ids;
     default_pool = b.alike.default_pool;
     limit = b.alike.limit;
@@ -515,6 +545,21 @@ notifying_meets p c d b = record {
   sent = refl;
 }
   where
+    alike : NoticesAlike p c d (notice_in (mailbox_at c.hosted p))
+    alike = notices_alike p c d (notice_in (mailbox_at c.hosted p)) b
+
+    lone : lone_of p (prompted_by (notice_in (mailbox_at c.hosted p)) (world_of c) p) ≡ lone_of p (prompted_by (notice_in (mailbox_at d.hosted p)) (world_of d) p)
+    lone = alike.lone ∙ ap (λ (m : MailboxState). lone_of p (prompted_by (notice_in m) (world_of d) p)) (boxes p c d b)
+
+    vectors : vectors_by (notice_in (mailbox_at c.hosted p)) (world_of c) p ≡ vectors_by (notice_in (mailbox_at d.hosted p)) (world_of d) p
+    vectors = alike.vectors ∙ ap (λ (m : MailboxState). vectors_by (notice_in m) (world_of d) p) (boxes p c d b)
+
+    raised : slice_index (after_deed c (Notifies p)).raised p ≡ slice_index (after_deed d (Notifies p)).raised p
+    raised =
+        get_or-set_same c.raised p _ 0 (omega (arith, b.below, b.one.raised))
+        ∙ (λ i. either ((b.alike.part i).raised) (vectors i))
+        ∙ sym (get_or-set_same d.raised p _ 0 (omega (arith, b.below, b.two.raised)))
+
     box : slice_index_or (slice_set c.hosted.mailboxes p (notified c.hosted.host p (mailbox_at c.hosted p))) p blank ≡ slice_index_or (slice_set d.hosted.mailboxes p (notified d.hosted.host p (mailbox_at d.hosted p))) p blank
     box =
         get_or-set_same c.hosted.mailboxes p (notified c.hosted.host p (mailbox_at c.hosted p)) blank (boxes_in c p b.one b.below)

@@ -1,6 +1,6 @@
 -- Two deeds that give function p the same, and one that gives it nothing.
 use Rattle.std.proofs.Common.{[], ◌≡◌, ◌≢◌, ℕ, ◌<◌, Bool, true, false, Option, Some, None, length, refl, sym, ap, ◌∙◌, subst}
-use Rattle.std.specs.Prelude.{◌==◌, slice_index, if◌then◌else◌}
+use Rattle.std.specs.Prelude.{◌==◌, bit_and, slice_index, if◌then◌else◌}
 use Rattle.std.specs.Option.{option_map}
 use Rattle.std.proofs.lemmas.Bool.{eq-eqb, eqb-true, false≢true}
 use Rattle.irq_causes.specs.Messages.{both}
@@ -74,7 +74,8 @@ not_own p q differ same = false≢true (sym differ ∙ eq-eqb q p (sym same))
 passes : (p : ℕ) (c : CardState) (x : Deed) → p < 64 → IsCard c → p < length (world_of c).functions → IsDeed x → is_pool (whose x) p ≡ false → given_by_others p c x ≡ None → Passes p c x
 passes p c (Hears q message files) below is there deed apart none = others_pass p q c (Hears q message files) tt refl deed (not_own p q apart) is there (unseen p q (not_own p q apart) (heard_in (told c q message files))) refl refl
 passes p c (Happens e) below is there deed apart none = event_passes p c e (pair_alone p c below is there) apart (none_kept (kept_of p (world_of c) e) none)
-passes p c (Signals q) below is there deed apart none = others_pass p q c (Signals q) tt refl deed (not_own p q apart) is there (unseen p q (not_own p q apart) (Signalled (signalled (slice_index c.raised q) (end_at c q).session.armed))) refl refl
+passes p c (Signals q vectors) below is there deed apart none =
+    others_pass p q c (Signals q vectors) tt refl deed (not_own p q apart) is there (unseen p q (not_own p q apart) (Signalled (signalled (bit_and (slice_index c.raised q) vectors) (end_at c q).session.armed))) refl refl
 passes p c (Resets q) below is there deed apart none = others_pass p q c (Resets q) tt refl deed (not_own p q apart) is there refl refl refl
 passes p c (Comes q memory) below is there deed apart none = others_pass p q c (Comes q memory) tt refl deed (not_own p q apart) is there (unseen_sight p q (not_own p q apart) (Came (attach_refusal (world_of c) q (length memory)))) refl refl
 passes p c (Goes q) below is there deed apart none = others_pass p q c (Goes q) tt refl deed (not_own p q apart) is there (unseen_sight p q (not_own p q apart) (Went (function_of q (world_of c)))) refl refl
@@ -99,7 +100,7 @@ own_meets : (p : ℕ) (c d : CardState) (x : Deed) → Pair p c d → is_pool (w
 own_meets p c d (Hears q message files) b own told_same =
     subst (λ (k : ℕ). Meets p c (Hears k message files) d (Hears k message files)) (sym (eqb-true q p own)) (hearing_meets p c d message files b told_same)
 own_meets p c d (Happens e) b own told_same = event_own p c d e b own
-own_meets p c d (Signals q) b own told_same = subst (λ (k : ℕ). Meets p c (Signals k) d (Signals k)) (sym (eqb-true q p own)) (signalling_meets p c d b)
+own_meets p c d (Signals q vectors) b own told_same = subst (λ (k : ℕ). Meets p c (Signals k vectors) d (Signals k vectors)) (sym (eqb-true q p own)) (signalling_meets p c d vectors b)
 own_meets p c d (Resets q) b own told_same = subst (λ (k : ℕ). Meets p c (Resets k) d (Resets k)) (sym (eqb-true q p own)) (resetting_meets p c d b)
 own_meets p c d (Comes q memory) b own told_same = subst (λ (k : ℕ). Meets p c (Comes k memory) d (Comes k memory)) (sym (eqb-true q p own)) (coming_meets p c d memory b)
 own_meets p c d (Goes q) b own told_same = subst (λ (k : ℕ). Meets p c (Goes k) d (Goes k)) (sym (eqb-true q p own)) (going_meets p c d b)
@@ -125,7 +126,7 @@ lost_from p c q policy true g is given = subst (IsFrom p c (Admits q policy)) (s
 from_others : (p : ℕ) (c : CardState) (x : Deed) (g : Given) → given_by_others p c x ≡ Some g → IsFrom p c x g
 from_others p c (Hears q message files) g given = absurd (none_is given)
 from_others p c (Happens e) g given = kept_from p c e (kept_of p (world_of c) e) g refl given
-from_others p c (Signals q) g given = absurd (none_is given)
+from_others p c (Signals q vectors) g given = absurd (none_is given)
 from_others p c (Resets q) g given = absurd (none_is given)
 from_others p c (Comes q memory) g given = absurd (none_is given)
 from_others p c (Goes q) g given = absurd (none_is given)

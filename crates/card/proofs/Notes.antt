@@ -63,7 +63,7 @@ going_noted c n p false = refl
 deed_noted : (c : CardState) (n : List (List Access)) (x : Deed) → after_deed (with_notes c n) x ≡ with_notes (after_deed c x) n
 deed_noted c n (Hears p message files) = told_noted c n p message files
 deed_noted c n (Happens e) = event_noted c n e
-deed_noted c n (Signals p) = refl
+deed_noted c n (Signals p vectors) = refl
 deed_noted c n (Resets p) = refl
 deed_noted c n (Comes p memory) = coming_noted c n p memory (attach_refusal (world_of c) p (length memory))
 deed_noted c n (Goes p) = going_noted c n p (is_vacant (world_of c) p)

@@ -1,12 +1,13 @@
 -- Sets of vectors that join.
-use Rattle.std.proofs.Common.{◌≡◌, ℕ, ◌+◌, ◌*◌, ◌<◌, ◌≤◌, ◌==◌, Bool, true, false, List, length, ltb, refl, sym, ap, ◌∙◌, subst, arith}
-use Rattle.std.specs.Prelude.{bit_or, max, slice_index, slice_set}
+use Rattle.std.proofs.Common.{◌≡◌, ℕ, zero, suc, ◌+◌, ◌*◌, ◌<◌, ◌≤◌, ◌==◌, Bool, true, false, List, length, ltb, refl, sym, ap, ◌∙◌, subst, arith}
+use Rattle.std.specs.Prelude.{bit_and, bit_or, max, slice_index, slice_set}
 use Rattle.std.specs.Int.{bit_at}
 use Rattle.std.proofs.lemmas.Bool.{eq-eqb, eqb-true, false≢true, ltb-false, ltb-true}
 use Rattle.std.proofs.lemmas.List.{ext_get_or, get_or_past, get_or-set_other, get_or-set_same, length-set}
 use Rattle.std.proofs.lemmas.List.FromFn.{get_or-map-range_with_len, length-map-range_with_len}
 use Rattle.std.proofs.lemmas.Nat.Bits.{bit_at-lt, bit_at-zero, bit_at_or}
 use Rattle.irq_causes.proofs.Bounds.{or_below_eight}
+use Rattle.irq_causes.specs.Causes.{◌without◌}
 use Rattle.irq_causes.specs.Messages.{both, either}
 
 -- a set by its three bits
@@ -56,6 +57,30 @@ either_both a b c =
     (λ i. max (bit_at a 0) (at_zero b c i) + 2 * max (bit_at a 1) (at_one b c i) + 4 * max (bit_at a 2) (at_two b c i))
     ∙ (λ i. max_both (bit_at a 0) (bit_at b 0) (bit_at c 0) i + 2 * max_both (bit_at a 1) (bit_at b 1) (bit_at c 1) i + 4 * max_both (bit_at a 2) (bit_at b 2) (bit_at c 2) i)
     ∙ sym (λ i. max (at_zero a b i) (bit_at c 0) + 2 * max (at_one a b i) (bit_at c 1) + 4 * max (at_two a b i) (bit_at c 2))
+
+-- ---- where all three are named
+
+pub all_named : (a : ℕ) → a < 8 → bit_and a 7 ≡ a
+all_named zero small = refl
+all_named (suc zero) small = refl
+all_named (suc (suc zero)) small = refl
+all_named (suc (suc (suc zero))) small = refl
+all_named (suc (suc (suc (suc zero)))) small = refl
+all_named (suc (suc (suc (suc (suc zero))))) small = refl
+all_named (suc (suc (suc (suc (suc (suc zero)))))) small = refl
+all_named (suc (suc (suc (suc (suc (suc (suc zero))))))) small = refl
+all_named (suc (suc (suc (suc (suc (suc (suc (suc a)))))))) small = absurd (omega (arith, small))
+
+pub none_left : (a : ℕ) → a < 8 → (a without 7) ≡ 0
+none_left zero small = refl
+none_left (suc zero) small = refl
+none_left (suc (suc zero)) small = refl
+none_left (suc (suc (suc zero))) small = refl
+none_left (suc (suc (suc (suc zero)))) small = refl
+none_left (suc (suc (suc (suc (suc zero))))) small = refl
+none_left (suc (suc (suc (suc (suc (suc zero)))))) small = refl
+none_left (suc (suc (suc (suc (suc (suc (suc zero))))))) small = refl
+none_left (suc (suc (suc (suc (suc (suc (suc (suc a)))))))) small = absurd (omega (arith, small))
 
 -- ---- the sets of all pools
 

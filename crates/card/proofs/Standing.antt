@@ -1,9 +1,13 @@
 -- What is so of a card between two calls is so after any deed, and a deed of one function leaves the others as they are.
 use Rattle.std.proofs.Common.{◌≡◌, ◌≢◌, ℕ, ◌<◌, ◌≤◌, Bool, true, false, List, [], ◌∷◌, Option, Some, None, length, get_or, refl, sym, ◌∙◌, subst, arith}
 use Rattle.std.specs.Prelude.{is_none, slice_index, slice_set, if◌then◌else◌}
+use Rattle.std.specs.Int.{bit_not, w8}
 use Rattle.std.specs.List.{All}
 use Rattle.std.proofs.lemmas.List.{get_or-set_other, length-set}
 use Rattle.std.proofs.lemmas.List.Elements.{All-cons, All-head, All-nil, All-tail}
+use Rattle.irq_causes.specs.Causes.{◌without◌}
+use Rattle.irq_causes.specs.Messages.{either}
+use Rattle.irq_causes.proofs.Bounds.{and_below_eight}
 use Rattle.wire_frame.specs.declared.fault.Fault.{Fault}
 use Rattle.vf_unit.specs.Function.{initial_with}
 use Rattle.vf_unit.specs.Guests.{moved_to}
@@ -16,12 +20,13 @@ use Rattle.device.specs.Replies.{Reply}
 use Rattle.device.specs.World.{World, function_of, step, with_function, world_after}
 use Rattle.device.proofs.Shape.{step_shape}
 use Rattle.live_run.specs.Bursts.{goes_on}
+use Rattle.mailbox.specs.declared.mailbox.Notice.{Notice}
 use Rattle.mailbox.specs.declared.not_admitted.NotAdmitted.{NotAdmitted}
 use Rattle.mailbox.specs.declared.policy.Policy.{Policy}
 use Rattle.mailbox.specs.Address.{number_of}
 use Rattle.mailbox.specs.Host.{freed_by, host_admitting, host_after, host_dismissing, host_freed, host_under, host_without, refusal}
 use Rattle.mailbox.specs.Keeping.{under}
-use Rattle.mailbox.specs.Mailbox.{MailboxState, after_read as box_read, after_reset as box_reset, blank}
+use Rattle.mailbox.specs.Mailbox.{MailboxState, after_read as box_read, after_reset as box_reset, blank, notice_in}
 use Rattle.mailbox.specs.Replies.{notified}
 use Rattle.mailbox.specs.State.{HostState, holder, slot_at, with_slot}
 use Rattle.mailbox.specs.Within.{IsWithin}
@@ -33,9 +38,9 @@ use Rattle.mailbox_laws.specs.Turns.{Turn, events_of, host_at_end, host_of, sets
 use Rattle.mailbox_laws.specs.Turns.Turn.{Admits as AdmitsTurn, Answers, Dismisses as DismissesTurn, Forgets, Happens as HappensTurn}
 use Rattle.mailbox_laws.proofs.Kept.{event_stays}
 use Rattle.hosted.specs.Hosted.{HostedState, IsHosted, LeavesOthers, mailbox_at, with_world}
-use Rattle.hosted.specs.Turns.{mailboxes_read, mailboxes_reset, mailboxes_written, mailed, reset_turns, takes, write_turns}
+use Rattle.hosted.specs.Turns.{mailboxes_read, mailboxes_reset, mailboxes_written, mailed, reset_turns, takes, vectors_by, write_turns}
 use Rattle.hosted.proofs.Others.{IsOf, leaves_others, own_dismiss, own_reset, own_write}
-use Rattle.hosted.proofs.Stands.{Shows, moved, remade, stands, stands_admitted}
+use Rattle.hosted.proofs.Stands.{Shows, moved, prompt_changes, remade, stands, stands_admitted, told as noticed}
 use Rattle.vfio_session.specs.declared.decision.Ask.{Ask}
 use Rattle.vfio_session.specs.declared.decision.Ask.TheVariants.{Read, Write, Map, Unmap, Reset, Arm, Disarm}
 use Rattle.vfio_session.specs.declared.owed.Owed.{Owed}
@@ -44,9 +49,9 @@ use Rattle.vfio_session.specs.Sessions.{Received}
 use Rattle.card.proofs.Raised.{both_count, both_small, either_small, set_small}
 use Rattle.card.specs.Alike.{IsCard}
 use Rattle.card.specs.Card.{CardState, EndState, LeavesAlone, end_at, quiet}
-use Rattle.card.specs.Life.{Deed, Hears, Happens, Signals, Resets, Comes, Goes, Replaces, Admits, Dismisses, Notifies, IsDeed, after_coming, after_deed, card_after, ends_after, over_world, whose, without_guest, world_of}
+use Rattle.card.specs.Life.{Deed, Hears, Happens, Signals, Resets, Comes, Goes, Replaces, Admits, Dismisses, Notifies, IsDeed, after_coming, after_deed, after_notice, card_after, ends_after, over_world, whose, without_guest, world_of}
 use Rattle.card.specs.Served.{with_busy}
-use Rattle.card.specs.Told.{after_read, after_reset, after_write, asked, marked, told, told_by, told_with, turned, with_session}
+use Rattle.card.specs.Told.{after_read, after_reset, after_write, asked, joined, marked, told, told_by, told_with, turned, with_session}
 
 -- ---- lists of which one place is another
 
@@ -273,6 +278,16 @@ replacing_does q c memory None is =
     with_hosted q c h c.ends c.raised is moves.hosted moves.others (length-set (world_of c).functions q f) (all_same c.hosted.host) (same_apart q quiet c.ends) (same_apart q 0 c.raised) is.sets
 replacing_does q c memory (Some fault) is = does_nothing q c is
 
+-- ---- the host's own message
+
+notice_does : (q : ℕ) (c : CardState) (notice : Notice) → IsCard c → Does q c (after_notice c q notice)
+notice_does q c notice is =
+    let h : HostedState = (after_notice c q notice).hosted in
+    let vectors : ℕ = vectors_by notice (world_of c) q in
+    let shown : Shows q c.hosted h = noticed q c.hosted h (notified c.hosted.host q (mailbox_at c.hosted q)) notice is.hosted refl refl refl in
+    with_hosted q c h c.ends (joined c.raised q vectors) is shown.hosted shown.others (prompt_changes q (world_of c) notice).many (all_same c.hosted.host) (same_apart q quiet c.ends)
+    (set_apart q 0 (either (slice_index c.raised q) vectors) c.raised) (set_small c.raised q (either (slice_index c.raised q) vectors) is.sets (either_small (slice_index c.raised q) vectors))
+
 -- ---- any deed
 
 -- but an event, and a policy, which may take an address from another function
@@ -284,8 +299,10 @@ IsAlone _ = Unit {0}
 pub alone_does : (q : ℕ) (c : CardState) (x : Deed) → IsAlone x → whose x ≡ Some q → q < 64 → IsCard c → Does q c (after_deed c x)
 alone_does q c (Hears r message files) one at below is = subst (λ (k : ℕ). Does q c (after_deed c (Hears k message files))) (some_is (sym at)) (told_does q c message files below is)
 alone_does q c (Happens e) one at below is = absurd one
-alone_does q c (Signals r) one at below is =
-    subst (λ (k : ℕ). Does q c (after_deed c (Signals k))) (some_is (sym at)) (plainly_does q c c.ends (slice_set c.raised q 0) is (same_apart q quiet c.ends) (set_apart q 0 0 c.raised) (set_small c.raised q 0 is.sets (omega arith)))
+alone_does q c (Signals r vectors) one at below is =
+    let left : ℕ = slice_index c.raised q without vectors in
+    subst (λ (k : ℕ). Does q c (after_deed c (Signals k vectors))) (some_is (sym at))
+    (plainly_does q c c.ends (slice_set c.raised q left) is (same_apart q quiet c.ends) (set_apart q 0 left c.raised) (set_small c.raised q left is.sets (and_below_eight (slice_index c.raised q) (bit_not w8 vectors) (is.sets q))))
 alone_does q c (Resets r) one at below is = subst (λ (k : ℕ). Does q c (after_deed c (Resets k))) (some_is (sym at)) (reset_does q c below is)
 alone_does q c (Comes r memory) one at below is =
     subst (λ (k : ℕ). Does q c (after_deed c (Comes k memory))) (some_is (sym at)) (coming_does q c memory (attach_refusal (world_of c) q (length memory)) below is)
@@ -296,9 +313,7 @@ alone_does q c (Admits r policy) one at below is = absurd one
 alone_does q c (Dismisses r) one at below is =
     subst (λ (k : ℕ). Does q c (after_deed c (Dismisses k))) (some_is (sym at))
     (turns_do q c (DismissesTurn q ∷ []) c.hosted.mailboxes c.ends c.raised below is (own_dismiss q) (same_apart q blank c.hosted.mailboxes) (same_apart q quiet c.ends) (same_apart q 0 c.raised) is.sets)
-alone_does q c (Notifies r) one at below is =
-    subst (λ (k : ℕ). Does q c (after_deed c (Notifies k))) (some_is (sym at))
-    (turns_do q c [] _ c.ends c.raised below is (All-nil (IsOf q)) (set_apart q blank (notified c.hosted.host q (mailbox_at c.hosted q)) c.hosted.mailboxes) (same_apart q quiet c.ends) (same_apart q 0 c.raised) is.sets)
+alone_does q c (Notifies r) one at below is = subst (λ (k : ℕ). Does q c (after_deed c (Notifies k))) (some_is (sym at)) (notice_does q c (notice_in (mailbox_at c.hosted q)) is)
 
 -- ---- an event, and a policy
 
@@ -360,7 +375,7 @@ admit_stands c p policy below is =
 pub deed_stands : (c : CardState) (x : Deed) → IsDeed x → IsCard c → Stands c (after_deed c x)
 deed_stands c (Hears p message files) deed is = (alone_does p c (Hears p message files) tt refl deed is).stands
 deed_stands c (Happens e) deed is = event_stands c e deed is
-deed_stands c (Signals p) deed is = (alone_does p c (Signals p) tt refl deed is).stands
+deed_stands c (Signals p vectors) deed is = (alone_does p c (Signals p vectors) tt refl deed is).stands
 deed_stands c (Resets p) deed is = (alone_does p c (Resets p) tt refl deed is).stands
 deed_stands c (Comes p memory) deed is = (alone_does p c (Comes p memory) tt refl deed is).stands
 deed_stands c (Goes p) deed is = (alone_does p c (Goes p) tt refl deed is).stands

@@ -1,7 +1,8 @@
 -- A life of a card: deed by deed what it does, what function p shows, and what p is given of it.
-use Rattle.std.specs.Prelude.{◌≡◌, ℕ, ◌<◌, ◌&&◌, ◌==◌, Bool, false, List, [], ◌∷◌, ◌++◌, map, length, Option, Some, None, is_none, slice_index, slice_set, if◌then◌else◌}
+use Rattle.std.specs.Prelude.{◌≡◌, ℕ, ◌<◌, ◌&&◌, ◌==◌, Bool, false, List, [], ◌∷◌, ◌++◌, map, length, Option, Some, None, bit_and, is_none, slice_index, slice_set, if◌then◌else◌}
 use Rattle.std.specs.List.{cons_option}
 use Rattle.std.specs.Option.{option_map}
+use Rattle.irq_causes.specs.Causes.{◌without◌}
 use Rattle.irq_causes.specs.Messages.{both}
 use Rattle.live_memory.specs.Trace.{Access}
 use Rattle.wire_frame.specs.declared.fault.Fault.{Fault}
@@ -36,20 +37,21 @@ use Rattle.vfio_session.specs.declared.owed.Owed.{Owed}
 use Rattle.vfio_session.specs.Received.{received}
 use Rattle.vfio_session.specs.Sessions.{Received}
 use Rattle.hosted.specs.Hosted.{mailbox_at, with_world}
-use Rattle.hosted.specs.Turns.{reset_turns, write_turns}
+use Rattle.hosted.specs.Turns.{prompted_by, reset_turns, vectors_by, write_turns}
 use Rattle.card.specs.declared.step.Order.{Order}
 use Rattle.card.specs.Alike.{AreAlike, is_address_held}
 use Rattle.card.specs.Card.{CardState, EndState, cleared, end_at}
 use Rattle.card.specs.Served.{signalled, with_busy}
-use Rattle.card.specs.Told.{Told, after_reset, told, turned}
+use Rattle.card.specs.Told.{Told, after_reset, joined, told, turned}
 
 -- what one call does, or happens meanwhile: a whole message of a function's client is heard; the device has an event of frames or of memory, as
--- a service, a frame from the wire, or a guest's own write; the vectors of a function are handed out; it is reset; a guest comes to it,
--- with its memory; a guest goes from it; it gets another memory; it gets a policy; it loses its policy; the host leaves it a message
+-- a service, a frame from the wire, or a guest's own write; of the vectors of a function these are handed out; it is reset; a guest comes to it,
+-- with its memory; a guest goes from it; it gets another memory; it gets a policy; it loses its policy; the host leaves it a message, and raises
+-- its cause "other" where the message stands
 pub data Deed : Type 0 where
   Hears : (pool : ℕ) → (message : List ℕ) → (files : ℕ) → Deed
   Happens : (event : Event) → Deed
-  Signals : (pool : ℕ) → Deed
+  Signals : (pool : ℕ) → (vectors : ℕ) → Deed
   Resets : (pool : ℕ) → Deed
   Comes : (pool : ℕ) → (memory : List ℕ) → Deed
   Goes : (pool : ℕ) → Deed
@@ -62,7 +64,7 @@ pub data Deed : Type 0 where
 abbrev pub IsDeed : Deed → Type 0
 IsDeed (Hears p message files) = p < 64
 IsDeed (Happens e) = sets_registers e ≡ false
-IsDeed (Signals p) = p < 64
+IsDeed (Signals p vectors) = p < 64
 IsDeed (Resets p) = p < 64
 IsDeed (Comes p memory) = p < 64
 IsDeed (Goes p) = p < 64
@@ -101,17 +103,25 @@ abbrev pub after_coming : CardState → ℕ → List ℕ → Option Fault → Ca
 after_coming c p memory None = without_guest (over_world c (attached (world_of c) p memory)) p
 after_coming c p memory (Some fault) = c
 
+-- the host's own message is in the mailbox of p, or waits; the vectors that its cause "other" issues wait with the others
+abbrev pub after_notice : CardState → ℕ → Notice → CardState
+after_notice c p notice = record {
+  hosted = record (with_world c.hosted (prompted_by notice (world_of c) p)) { mailboxes = slice_set c.hosted.mailboxes p (notified c.hosted.host p (mailbox_at c.hosted p)) };
+  ends = c.ends;
+  raised = joined c.raised p (vectors_by notice (world_of c) p);
+}
+
 abbrev pub after_deed : CardState → Deed → CardState
 after_deed c (Hears p message files) = (told c p message files).card
 after_deed c (Happens e) = after_event c e (step (world_of c) e)
-after_deed c (Signals p) = record c { raised = slice_set c.raised p 0 }
+after_deed c (Signals p vectors) = record c { raised = slice_set c.raised p (slice_index c.raised p without vectors) }
 after_deed c (Resets p) = after_reset c p
 after_deed c (Comes p memory) = after_coming c p memory (attach_refusal (world_of c) p (length memory))
 after_deed c (Goes p) = if is_vacant (world_of c) p then c else without_guest (over_world c (detached (world_of c) p)) p
 after_deed c (Replaces p memory) = over_world c (stepped (world_of c) (DeviceReplaces p memory))
 after_deed c (Admits p policy) = record c { hosted = turned c.hosted (AdmitsTurn p policy ∷ []) c.hosted.mailboxes }
 after_deed c (Dismisses p) = record c { hosted = turned c.hosted (DismissesTurn p ∷ []) c.hosted.mailboxes }
-after_deed c (Notifies p) = record c { hosted = turned c.hosted [] (slice_set c.hosted.mailboxes p (notified c.hosted.host p (mailbox_at c.hosted p))) }
+after_deed c (Notifies p) = after_notice c p (notice_in (mailbox_at c.hosted p))
 
 -- a life: one deed after another
 abbrev pub card_after : CardState → List Deed → CardState
@@ -135,7 +145,7 @@ heard_in t = Heard t.reply t.order t.owed t.ends
 abbrev pub shown_in : ℕ → CardState → Deed → Option Show
 shown_in p c (Hears q message files) = if q == p then Some (heard_in (told c q message files)) else None
 shown_in p c (Happens e) = option_map Seen (sight_in p (world_of c) (DeviceHappens e))
-shown_in p c (Signals q) = if q == p then Some (Signalled (signalled (slice_index c.raised q) (end_at c q).session.armed)) else None
+shown_in p c (Signals q vectors) = if q == p then Some (Signalled (signalled (bit_and (slice_index c.raised q) vectors) (end_at c q).session.armed)) else None
 shown_in p c (Resets q) = None
 shown_in p c (Comes q memory) = option_map Seen (sight_in p (world_of c) (DeviceComes q memory))
 shown_in p c (Goes q) = option_map Seen (sight_in p (world_of c) (DeviceGoes q))
@@ -172,7 +182,7 @@ sends p c (x ∷ xs) = cons_option (sent_in p c x) (sends p (after_deed c x) xs)
 abbrev pub whose : Deed → Option ℕ
 whose (Hears p message files) = Some p
 whose (Happens e) = pool_of e
-whose (Signals p) = Some p
+whose (Signals p vectors) = Some p
 whose (Resets p) = Some p
 whose (Comes p memory) = Some p
 whose (Goes p) = Some p

@@ -67,6 +67,10 @@ RaisedOrRefused (Err fault) old new answer = (answer ≡ messages_or_refused (Er
 
 -- ---- vectors
 
+-- the set of all three vectors
+abbrev pub ALL_VECTORS : ℕ
+ALL_VECTORS = 7
+
 -- the vectors that have a file, as a set: bit v is 1 where vector v has one
 abbrev pub bit_for : Bool → ℕ
 bit_for true = 1

@@ -55,9 +55,13 @@ TAIL_1 = 0x2058
 abbrev pub marked : EndState → ℕ → EndState
 marked e offset = record e { busy_0 = e.busy_0 || (offset == TAIL_0); busy_1 = e.busy_1 || (offset == TAIL_1) }
 
--- pool p got more vectors
+-- vectors join those of pool p that wait
+abbrev pub joined : List ℕ → ℕ → ℕ → List ℕ
+joined raised p vectors = slice_set raised p (either (slice_index raised p) vectors)
+
+-- those that it got of these messages
 abbrev pub also_raised : List ℕ → ℕ → List ℕ → List ℕ
-also_raised raised p more = slice_set raised p (either (slice_index raised p) (slice_index more p))
+also_raised raised p more = joined raised p (slice_index more p)
 
 abbrev pub after_read : CardState → ℕ → ℕ → CardState
 after_read c p offset = record c { hosted = hosted_read c.hosted p offset }

@@ -1,12 +1,13 @@
 //! The card.
 ghost use Rattle.std.specs.Prelude.{◌≡◌, ◌≤◌, ◌&&◌, false, true, nat_le, length, map, replicate, Err, IfErr, IfOk};
-ghost use Rattle.vf_unit.specs.Unit.{shortfalls_of};
+ghost use Rattle.vf_unit.specs.Unit.{interval_of, shortfalls_of};
 ghost use Rattle.device.specs.World.{function_of};
 ghost use Rattle.device.specs.Guests.{is_for_guests};
 ghost use Rattle.hosted.specs.Hosted.{host_of_ids};
 ghost use Rattle.card.specs.Alike.{IsCard};
 ghost use Rattle.card.specs.Card.{IsMade, quiet};
 
+use device::Vector;
 use hosted::HostedDevice;
 use irq_causes::Messages;
 use live_memory::Dma;
@@ -123,6 +124,15 @@ impl<D: Dma<K>, K> Card<D, K> {
         ensures { result ≡ shortfalls_of (function_of pool self.now.hosted.device.world) }
     {
         self.hosted.shortfalls(pool)
+    }
+
+    /// How many microseconds apart a function's driver wants the messages of a vector to be at least, 0 to 1022, as
+    /// [`HostedDevice::interval`](hosted::HostedDevice::interval) says. The card counts no time: a shell that keeps them so far apart names
+    /// a vector in [`Card::signal`] once so much time has gone since its file was written.
+    pub fn interval(&self, pool: PoolId, vector: Vector) -> u16
+        ensures { result ≡ interval_of (function_of pool self.now.hosted.device.world) vector }
+    {
+        self.hosted.interval(pool, vector)
     }
 }
 

@@ -6,7 +6,7 @@
 //! function's own session reads it ([`vfio_session`](../vfio_session/index.html)), and the card reads and writes registers and resets the
 //! function; the driver's messages to its host, by the mailbox, are answered in the same call. What needs a file is left to the shell, as
 //! one of four orders ([`Order`]). Descriptors are taken by [`Card::more`] alone, so many at a time, for the queues whose tails were
-//! written; vectors that are raised wait until [`Card::signal`] hands them out for their own function.
+//! written; vectors that are raised wait until [`Card::signal`] names them, and hands them out for their own function.
 //!
 //! A function's client reaches nothing of another function: after each of these calls for function p every other function is as it was, in
 //! the device, at the host, its mailbox, its session, its queues and its vectors. That is a clause of each call (`others`), whatever bytes
@@ -51,7 +51,7 @@
 //! let mut frame = FrameBuf::blank();
 //! assert!(rt; !card.more(pool, &mut frames, &mut frame));
 //! // and the vectors whose files are to be written
-//! assert!(rt; card.signal(pool).is_empty());
+//! assert!(rt; card.signal(pool, Vectors::from_bits(7)).is_empty());
 //! ```
 #![tactic(auto)]
 
@@ -64,5 +64,6 @@ pub mod serving;
 pub mod step;
 
 pub use card::{Card, End};
+pub use device::Vector;
 pub use serving::MOST_SERVICES;
 pub use step::{Order, Step};

@@ -7,8 +7,10 @@ ghost use Rattle.mailbox.specs.Replies.{notified};
 ghost use Rattle.mailbox.specs.State.{holder};
 ghost use Rattle.mailbox_laws.specs.Turns.Turn.{Admits, Dismisses};
 ghost use Rattle.hosted.specs.Hosted.{HaveTaken, LeavesUnconcerned, mailbox_at};
+ghost use Rattle.hosted.specs.Turns.{prompted_by, vectors_by};
 ghost use Rattle.card.specs.Card.{LeavesAlone};
 ghost use Rattle.card.specs.Life.{Admits as AdmitsDeed, Dismisses as DismissesDeed, HasLived, Notifies};
+ghost use Rattle.card.specs.Told.{joined};
 
 use crate::card::Card;
 use live_memory::Dma;
@@ -50,19 +52,27 @@ impl<D: Dma<K>, K> Card<D, K> {
         self.hosted.dismiss(pool);
     }
 
-    /// Puts the host's own message into a function's mailbox, as [`HostedDevice::notify`](hosted::HostedDevice::notify) says.
+    /// Puts the host's own message into a function's mailbox, as [`HostedDevice::notify`](hosted::HostedDevice::notify) says: the vectors
+    /// that the function's cause "other" issues wait with those that were raised before.
     #[tactic(auto, using(crate::proofs::Calls::notified_lives))]
     pub fn notify(&mut self, pool: PoolId) -> Notice
         ensures lived { HasLived (Notifies pool ∷ []) self.old self.new }
         ensures notice { result ≡ notice_in (mailbox_at self.old.hosted pool) }
         ensures mailboxes { self.new.hosted.mailboxes ≡ slice_set self.old.hosted.mailboxes pool
             (notified self.old.hosted.host pool (mailbox_at self.old.hosted pool)) }
+        ensures world { self.new.hosted.device.world
+            ≡ prompted_by (notice_in (mailbox_at self.old.hosted pool))
+            self.old.hosted.device.world pool }
         ensures host { self.new.hosted.host ≡ self.old.hosted.host }
-        ensures device { self.new.hosted.device ≡ self.old.hosted.device }
+        ensures accesses { self.new.hosted.device.accesses ≡ self.old.hosted.device.accesses }
         ensures ends { self.new.ends ≡ self.old.ends }
-        ensures raised { self.new.raised ≡ self.old.raised }
+        ensures raised { self.new.raised ≡ joined self.old.raised pool
+            (vectors_by (notice_in (mailbox_at self.old.hosted pool))
+            self.old.hosted.device.world pool) }
         ensures others { LeavesAlone pool self.old self.new }
     {
-        self.hosted.notify(pool)
+        let notified = self.hosted.notify(pool);
+        self.raise(pool, notified.vectors);
+        notified.notice
     }
 }

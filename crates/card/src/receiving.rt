@@ -1,6 +1,5 @@
 //! Messages of a function's client.
-ghost use Rattle.std.specs.Prelude.{◌≡◌, ◌≤◌, [], ◌∷◌, slice_index, slice_set, IfSome};
-ghost use Rattle.irq_causes.specs.Messages.{either};
+ghost use Rattle.std.specs.Prelude.{◌≡◌, ◌≤◌, [], ◌∷◌, IfSome};
 ghost use Rattle.device.specs.declared.event.Event.TheVariants.{VfWrite};
 ghost use Rattle.device.specs.World.{step};
 ghost use Rattle.vfio_session.specs.Decisions.{Says, ask_of, breach_of, count_of, owed_of};
@@ -10,7 +9,7 @@ ghost use Rattle.hosted.specs.Turns.{mailboxes_written, read_reply, write_turns}
 ghost use Rattle.card.specs.Card.{LeavesAlone, end_at, with_end};
 ghost use Rattle.card.specs.Life.{HasLived, Hears, Resets};
 ghost use Rattle.card.specs.Steps.{breach_in, count_in, order_in, owed_in};
-ghost use Rattle.card.specs.Told.{after_read, after_reset, after_write, asked, marked, told, turned, value_in, with_session};
+ghost use Rattle.card.specs.Told.{after_read, after_reset, after_write, asked, joined, marked, told, turned, value_in, with_session};
 
 use crate::card::Card;
 use crate::step::{Order, Step};
@@ -148,9 +147,8 @@ impl<D: Dma<K>, K> Card<D, K> {
 
     // A function gets more vectors.
     #[tactic(auto, using(irq_causes::proofs::Bounds::or_below_eight, crate::proofs::Raised::either_or))]
-    fn raise(&mut self, pool: PoolId, more: Vectors)
-        ensures raised { self.new.raised ≡ slice_set self.old.raised pool
-            (either (slice_index self.old.raised pool) more) }
+    pub(crate) fn raise(&mut self, pool: PoolId, more: Vectors)
+        ensures raised { self.new.raised ≡ joined self.old.raised pool more }
         ensures hosted { self.new.hosted ≡ self.old.hosted }
         ensures ends { self.new.ends ≡ self.old.ends }
     {

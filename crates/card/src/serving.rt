@@ -1,13 +1,14 @@
 //! Frames: what a function sends, and what comes from the wire; and the vectors that are raised by them.
-ghost use Rattle.std.specs.Prelude.{◌≡◌, ℕ, ◌<◌, [], ◌∷◌, length, nat_lt, slice_index, slice_set};
+ghost use Rattle.std.specs.Prelude.{◌≡◌, ℕ, ◌<◌, [], ◌∷◌, bit_and, length, nat_lt, slice_index, slice_set};
 ghost use Rattle.wire_frame.specs.Bits.{has_bit};
+ghost use Rattle.irq_causes.specs.Causes.{◌without◌};
 ghost use Rattle.device.specs.Accesses.{accesses_by};
 ghost use Rattle.device.specs.declared.event.Event.TheVariants.{Wire};
 ghost use Rattle.device.specs.Live.{AreListed, AreMet, told_world};
 ghost use Rattle.device.specs.World.{step};
 ghost use Rattle.card.specs.Card.{LeavesAlone, end_at};
 ghost use Rattle.card.specs.Life.{HasLived, HaveServed, Signals, live_deeds};
-ghost use Rattle.card.specs.Served.{AreServed, IsServed, RaisedOrRefused, armed_set, is_busy, signalled, with_busy};
+ghost use Rattle.card.specs.Served.{ALL_VECTORS, AreServed, IsServed, RaisedOrRefused, armed_set, is_busy, signalled, with_busy};
 
 use crate::card::{Card, End};
 use device::Queue;
@@ -115,22 +116,30 @@ impl<D: Dma<K>, K> Card<D, K> {
         Ok(())
     }
 
-    /// Hands out the vectors of a function that were raised since the last time, and that have a file: each of these files is to be
-    /// written once. A vector without a file is not signalled, now or later.
-    #[tactic(auto, using(irq_causes::proofs::Bounds::and_below_eight, crate::proofs::Calls::signal_lives))]
-    pub fn signal(&mut self, pool: PoolId) -> Vectors
-        ensures vectors { result ≡ signalled (slice_index self.old.raised pool)
+    /// Hands out vectors of a function that wait: those that are named, and that have a file. Each of these files is to be written once. One
+    /// that is named and has no file is not signalled, now or later; one that is not named goes on waiting. So a shell that keeps the
+    /// messages of a vector apart names it once its rest is over ([`Card::interval`]), and one that doesn't names all three.
+    #[tactic(auto, using(irq_causes::proofs::Bounds::and_below_eight, crate::proofs::Raised::all_named, crate::proofs::Raised::none_left, crate::proofs::Calls::signal_lives))]
+    pub fn signal(&mut self, pool: PoolId, named: Vectors) -> Vectors
+        ensures vectors { result ≡ signalled (bit_and (slice_index self.old.raised pool) named)
             (end_at self.old pool).session.armed }
-        ensures lived { HasLived (Signals pool ∷ []) self.old self.new }
-        ensures raised { self.new.raised ≡ slice_set self.old.raised pool 0 }
+        ensures lived { HasLived (Signals pool named ∷ []) self.old self.new }
+        ensures raised { self.new.raised
+            ≡ slice_set self.old.raised pool (slice_index self.old.raised pool without named) }
+        // where all three are named, none waits any more
+        ensures all_vectors { named ≡ ALL_VECTORS → result
+            ≡ signalled (slice_index self.old.raised pool) (end_at self.old pool).session.armed }
+        ensures all_raised { named ≡ ALL_VECTORS
+            → self.new.raised ≡ slice_set self.old.raised pool 0 }
         ensures hosted { self.new.hosted ≡ self.old.hosted }
         ensures ends { self.new.ends ≡ self.old.ends }
         ensures others { LeavesAlone pool self.old self.new }
     {
-        let raised = self.raised.to(pool);
-        self.raised.set(pool, Vectors::none());
+        let waiting = self.raised.to(pool);
+        self.raised
+            .set(pool, Vectors::from_bits(waiting.bits() & !named.bits()));
         let armed = armed_set(&self.ends[usize::from(pool.get())].session);
-        Vectors::from_bits(raised.bits() & armed)
+        Vectors::from_bits(waiting.bits() & named.bits() & armed)
     }
 
     /// The functions of which vectors were raised that were not handed out.

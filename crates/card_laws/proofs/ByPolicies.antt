@@ -143,7 +143,7 @@ event_same group p c d (Wire frame) b none =
 input_same : Laws → (group : ℕ → Bool) (p : ℕ) (c d : CardState) (x : Deed) → Pair group p c d → LeavesNoInput group c → is_groups group x ≡ false → input_in group c x ≡ input_in group d x
 input_same laws group p c d (Hears q message files) b none free = ap Some (hears_same laws group p q c d message files b none free)
 input_same laws group p c d (Happens e) b none free = event_same group p c d e b none
-input_same laws group p c d (Signals q) b none free = refl
+input_same laws group p c d (Signals q vectors) b none free = refl
 input_same laws group p c d (Resets q) b none free = refl
 input_same laws group p c d (Comes q memory) b none free = refl
 input_same laws group p c d (Goes q) b none free = refl

@@ -27,7 +27,7 @@ policies_plain c d x same plain q = sym (deed_keeps c x plain q) ∙ same q ∙ 
 policies_after : (group : ℕ → Bool) (p : ℕ) (c d : CardState) (x : Deed) → Pair group p c d → IsDeed x → KeepsPolicies (after_deed c x).hosted.host (after_deed d x).hosted.host
 policies_after group p c d (Hears q message files) b deed = policies_plain c d (Hears q message files) b.alike.policies tt
 policies_after group p c d (Happens e) b deed = policies_plain c d (Happens e) b.alike.policies tt
-policies_after group p c d (Signals q) b deed = policies_plain c d (Signals q) b.alike.policies tt
+policies_after group p c d (Signals q vectors) b deed = policies_plain c d (Signals q vectors) b.alike.policies tt
 policies_after group p c d (Resets q) b deed = policies_plain c d (Resets q) b.alike.policies tt
 policies_after group p c d (Comes q memory) b deed = policies_plain c d (Comes q memory) b.alike.policies tt
 policies_after group p c d (Goes q) b deed = policies_plain c d (Goes q) b.alike.policies tt
@@ -118,7 +118,7 @@ event_shape group c d (Wire frame) = refl
 pub input_shape : (group : ℕ → Bool) (c d : CardState) (x : Deed) → is_some (input_in group c x) ≡ is_some (input_in group d x)
 input_shape group c d (Hears q message files) = refl
 input_shape group c d (Happens e) = event_shape group c d e
-input_shape group c d (Signals q) = refl
+input_shape group c d (Signals q vectors) = refl
 input_shape group c d (Resets q) = refl
 input_shape group c d (Comes q memory) = refl
 input_shape group c d (Goes q) = refl

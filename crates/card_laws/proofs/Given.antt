@@ -90,7 +90,7 @@ groups_none group p c (Hears q message files) card small outside is apart = othe
 groups_none group p c (Happens e) card small outside is apart =
     others_given p c (Happens e) (differs group p (pool_of e) is outside)
     ∙ ap (option_map Kept) (event_none group p (world_of c) e card.hosted.functions small is outside apart)
-groups_none group p c (Signals q) card small outside is apart = others_given p c (Signals q) (differs group p (Some q) is outside)
+groups_none group p c (Signals q vectors) card small outside is apart = others_given p c (Signals q vectors) (differs group p (Some q) is outside)
 groups_none group p c (Resets q) card small outside is apart = others_given p c (Resets q) (differs group p (Some q) is outside)
 groups_none group p c (Comes q memory) card small outside is apart = others_given p c (Comes q memory) (differs group p (Some q) is outside)
 groups_none group p c (Goes q) card small outside is apart = others_given p c (Goes q) (differs group p (Some q) is outside)
@@ -223,7 +223,7 @@ others_same : Laws → (group : ℕ → Bool) (p : ℕ) (c d : CardState) (x : D
     → given_by_others p c x ≡ given_by_others p d x
 others_same laws group p c d (Hears q message files) b deed free same = refl
 others_same laws group p c d (Happens e) b deed free same = ap (option_map Kept) (kept_same laws group p c d e b free deed same)
-others_same laws group p c d (Signals q) b deed free same = refl
+others_same laws group p c d (Signals q vectors) b deed free same = refl
 others_same laws group p c d (Resets q) b deed free same = refl
 others_same laws group p c d (Comes q memory) b deed free same = refl
 others_same laws group p c d (Goes q) b deed free same = refl
@@ -235,7 +235,7 @@ others_same laws group p c d (Notifies q) b deed free same = refl
 told_same : (group : ℕ → Bool) (p : ℕ) (c d : CardState) (x : Deed) → Pair group p c d → is_pool (whose x) p ≡ true → input_in group c x ≡ input_in group d x → is_told_of_others p c x ≡ is_told_of_others p d x
 told_same group p c d (Hears q message files) b own same = subst (λ (k : ℕ). is_address_held c k message files ≡ is_address_held d k message files) (eqb-true q p own) (some_is same)
 told_same group p c d (Happens e) b own same = refl
-told_same group p c d (Signals q) b own same = refl
+told_same group p c d (Signals q vectors) b own same = refl
 told_same group p c d (Resets q) b own same = refl
 told_same group p c d (Comes q memory) b own same = refl
 told_same group p c d (Goes q) b own same = refl

@@ -14,7 +14,7 @@ use Rattle.device.specs.Guests.{attach_refusal, attached, is_vacant, replace_ref
 use Rattle.device.specs.World.{World, function_of, step, with_function, world_after}
 use Rattle.device.proofs.Shape.{step_shape}
 use Rattle.mailbox.specs.declared.message.Message.{Message}
-use Rattle.mailbox.specs.Mailbox.{after_write as box_written}
+use Rattle.mailbox.specs.Mailbox.{after_write as box_written, notice_in}
 use Rattle.mailbox.specs.Message.{message_of}
 use Rattle.mailbox.specs.Within.{KeepsPolicies}
 use Rattle.mailbox.proofs.Policies.{message_policies, reset_policies}
@@ -22,6 +22,7 @@ use Rattle.mailbox_laws.specs.Turns.{events_of, host_at_end}
 use Rattle.mailbox_laws.specs.Turns.Turn.{Admits as AdmitsTurn, Answers, Dismisses as DismissesTurn, Forgets, Happens as HappensTurn}
 use Rattle.hosted.specs.Hosted.{HostedState, mailbox_at}
 use Rattle.hosted.specs.Turns.{reset_turns, resets, rings, takes, write_turns}
+use Rattle.hosted.proofs.Stands.{prompt_changes}
 use Rattle.vfio_session.specs.declared.decision.Ask.{Ask}
 use Rattle.vfio_session.specs.declared.decision.Ask.TheVariants.{Read, Write, Map, Unmap, Reset, Arm, Disarm}
 use Rattle.vfio_session.specs.declared.owed.Owed.{Owed}
@@ -73,14 +74,14 @@ replacing_many c q memory (Some fault) = refl
 pub as_many : Laws → (c : CardState) (x : Deed) → length (world_of (after_deed c x)).functions ≡ length (world_of c).functions
 as_many laws c (Hears q message files) = ap (λ (w : World). length w.functions) (laws.world q c message files) ∙ as_many_after (world_of c) (events_heard c q message files)
 as_many laws c (Happens e) = (step_shape (world_of c) e).functions
-as_many laws c (Signals q) = refl
+as_many laws c (Signals q vectors) = refl
 as_many laws c (Resets q) = as_many_after (world_of c) (events_of c.hosted.host (reset_turns c.hosted q))
 as_many laws c (Comes q memory) = coming_many c q memory (attach_refusal (world_of c) q (length memory))
 as_many laws c (Goes q) = going_many c q (is_vacant (world_of c) q)
 as_many laws c (Replaces q memory) = replacing_many c q memory (replace_refusal (world_of c) q (length memory))
 as_many laws c (Admits q policy) = as_many_after (world_of c) (events_of c.hosted.host (AdmitsTurn q policy ∷ []))
 as_many laws c (Dismisses q) = as_many_after (world_of c) (events_of c.hosted.host (DismissesTurn q ∷ []))
-as_many laws c (Notifies q) = refl
+as_many laws c (Notifies q) = (prompt_changes q (world_of c) (notice_in (mailbox_at c.hosted q))).many
 
 -- ---- policies
 
@@ -140,7 +141,7 @@ IsPlain _ = Unit {0}
 pub deed_keeps : (c : CardState) (x : Deed) → IsPlain x → KeepsPolicies c.hosted.host (after_deed c x).hosted.host
 deed_keeps c (Hears q message files) plain = told_keeps c q message files
 deed_keeps c (Happens e) plain = λ n. refl
-deed_keeps c (Signals q) plain = λ n. refl
+deed_keeps c (Signals q vectors) plain = λ n. refl
 deed_keeps c (Resets q) plain = reset_keeps c.hosted q
 deed_keeps c (Comes q memory) plain = coming_keeps c q memory (attach_refusal (world_of c) q (length memory))
 deed_keeps c (Goes q) plain = going_keeps c q (if is_vacant (world_of c) q then world_of c else with_function (world_of c) q (Closed 0)) (is_vacant (world_of c) q)
@@ -153,7 +154,7 @@ deed_keeps c (Notifies q) plain = λ n. refl
 pub groups_plain : (group : ℕ → Bool) (x : Deed) → is_groups group x ≡ true → IsPlain x
 groups_plain group (Hears q message files) is = tt
 groups_plain group (Happens e) is = tt
-groups_plain group (Signals q) is = tt
+groups_plain group (Signals q vectors) is = tt
 groups_plain group (Resets q) is = tt
 groups_plain group (Comes q memory) is = tt
 groups_plain group (Goes q) is = tt

@@ -1,6 +1,7 @@
 //! The clients of a card, and the drivers behind them. Nothing here has a contract: a test's next lines are checked without what the card
 //! promises of each call.
-use card::{Card, Order, Step};
+use card::{Card, Order, Step, Vector};
+use irq_causes::Vectors;
 use live_memory::Shared;
 use live_run::Frames;
 use mailbox::{Notice, Policy, VlanPolicy};
@@ -37,8 +38,17 @@ pub struct Clients<'a> {
 }
 
 impl<'a> Clients<'a> {
-    /// A card of so many vacant functions, whose policies may name the VLANs 0 and 100.
+    /// A card of so many vacant functions, whose policies may name the VLANs 0 and 100. It does nothing for drivers.
     pub fn vacant(alloc: Global, functions: usize) -> Result<Clients<'a>, Fail> {
+        Clients::made_with(alloc, functions, Offloads::none())
+    }
+
+    /// The same with these offloads.
+    pub fn made_with(
+        alloc: Global,
+        functions: usize,
+        offloads: Offloads,
+    ) -> Result<Clients<'a>, Fail> {
         let mut memories = Vec::new(alloc);
         for _ in 0..functions {
             memories.push(LiveMem::for_guest(alloc, 0)?)?;
@@ -50,7 +60,7 @@ impl<'a> Clients<'a> {
             &ids,
             None,
             FrameLimit::standard(),
-            Offloads::none(),
+            offloads,
         )?;
         Ok(Clients {
             card,
@@ -145,8 +155,21 @@ impl<'a> Clients<'a> {
         self.card.raised().bits()
     }
 
+    /// All vectors of a function that wait and have a file.
     pub fn signal(&mut self, pool: PoolId) -> u8 {
-        self.card.signal(pool).bits()
+        self.signal_named(pool, 7)
+    }
+
+    /// Those of them that are named.
+    pub fn signal_named(&mut self, pool: PoolId, vectors: u8) -> u8 {
+        match Vectors::new(vectors) {
+            Some(named) => self.card.signal(pool, named).bits(),
+            None => 0,
+        }
+    }
+
+    pub fn interval(&self, pool: PoolId, vector: Vector) -> u16 {
+        self.card.interval(pool, vector)
     }
 
     /// Whether the last reply is this one, and nothing stands behind it.

@@ -1,5 +1,6 @@
 //! The example of the documentation of card, which docs/check compares with this.
 use card::{Card, Step};
+use irq_causes::Vectors;
 use live_run::Frames;
 use mapped_memory::LiveMem;
 use offload::Offloads;
@@ -43,6 +44,6 @@ fn example_of_card(rt: HostRuntime) -> Result<(), Fail> {
     let mut frame = FrameBuf::blank();
     assert!(rt; !card.more(pool, &mut frames, &mut frame));
     // and the vectors whose files are to be written
-    assert!(rt; card.signal(pool).is_empty());
+    assert!(rt; card.signal(pool, Vectors::from_bits(7)).is_empty());
     Ok(())
 }

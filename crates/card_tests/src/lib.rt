@@ -15,4 +15,6 @@ mod frames;
 #[cfg(test)]
 mod policies;
 #[cfg(test)]
+mod prompts;
+#[cfg(test)]
 mod resets;

@@ -34,7 +34,7 @@ pub fn driven<'a>(alloc: Global) -> Result<Clients<'a>, Fail> {
 }
 
 // A guest of no regions comes.
-fn come<'a>(clients: &mut Clients<'a>, pool: PoolId, alloc: Global) -> Result<(), Fail> {
+pub fn come<'a>(clients: &mut Clients<'a>, pool: PoolId, alloc: Global) -> Result<(), Fail> {
     if !clients.attach(pool, LiveMem::for_guest(alloc, 4096)?) {
         return Err("the guest is refused".into());
     }

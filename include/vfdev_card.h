@@ -46,6 +46,10 @@ extern "C" {
 #define VFDEV_OFFLOAD_AUTO_MASK 8u
 /* It takes legacy receive descriptors (SRRCTL.DESCTYPE 0). */
 #define VFDEV_OFFLOAD_LEGACY_RECEIVE 16u
+/* It keeps how far apart the driver wants the messages of each vector (VTEITR): vfdev_card_interval tells. */
+#define VFDEV_OFFLOAD_THROTTLE 32u
+/* It says in the receive descriptor whether the checksums of a frame verify (IPCS, L4CS, IPE, L4E). */
+#define VFDEV_OFFLOAD_RECEIVE_CHECKSUM 64u
 
 /* A handle. It is empty, or holds a card. */
 typedef struct vfdev_card {
@@ -205,6 +209,14 @@ uint64_t vfdev_card_raised(vfdev_card *card);
 
 /* Hands out the vectors of a function that were raised since the last time and have a file: bit v for vector v. */
 uint32_t vfdev_card_signal(vfdev_card *card, uint8_t function);
+
+/* The same of the vectors alone that are named, bit v for vector v: the others go on waiting. So a caller that knows the time keeps the
+ * messages of a vector as far apart as its driver wants (vfdev_card_interval). */
+uint32_t vfdev_card_signal_some(vfdev_card *card, uint8_t function, uint32_t vectors);
+
+/* How many microseconds apart a function's driver wants the messages of a vector to be at least (VTEITR), 0 to 1022. 0 where it wants nothing
+ * of the kind, where there is no such function or vector, and where the card was made without VFDEV_OFFLOAD_THROTTLE. */
+uint32_t vfdev_card_interval(vfdev_card *card, uint8_t function, uint32_t vector);
 
 /* ---- the administrator */
 

@@ -49,11 +49,16 @@
 #define VFDEV_VTIVAR_TX1(x) ((uint32_t)(x) << 24) /* of transmit queue 1 */
 #define VFDEV_VTIVAR_TX1_MASK 0xFF000000u
 
-/* The vector of the mailbox. */
+/* The vector of the cause "other", which the mailbox raises. */
 #define VFDEV_VTIVAR_MISC 0x140u
 #define VFDEV_VTIVAR_MISC_INT_ALLOC(x) ((uint32_t)(x) << 0) /* the vector */
 #define VFDEV_VTIVAR_MISC_INT_ALLOC_MASK 0x3u
 #define VFDEV_VTIVAR_MISC_INT_ALLOC_VAL (1u << 7) /* it is valid */
+
+/* How far apart the messages of a vector are to be, q below 3. */
+#define VFDEV_VTEITR(q) (0x820u + 0x4u * (uint32_t)(q))
+#define VFDEV_VTEITR_ITR_INTERVAL(x) ((uint32_t)(x) << 3) /* at least so many units of 2 microseconds */
+#define VFDEV_VTEITR_ITR_INTERVAL_MASK 0xFF8u
 
 /* Receive ring: the low half of its base, q below 2. */
 #define VFDEV_RDBAL(q) (0x1000u + 0x40u * (uint32_t)(q))
@@ -196,7 +201,11 @@
 #define VFDEV_RXD_DD ((uint64_t)1 << 0) /* done */
 #define VFDEV_RXD_EOP ((uint64_t)1 << 1) /* the last of the frame */
 #define VFDEV_RXD_VP ((uint64_t)1 << 3) /* a tag was stripped */
+#define VFDEV_RXD_L4CS ((uint64_t)1 << 5) /* the checksum of TCP or UDP was looked at */
+#define VFDEV_RXD_IPCS ((uint64_t)1 << 6) /* that of the IPv4 header was */
 #define VFDEV_RXD_LB ((uint64_t)1 << 18) /* another pool sent the frame */
+#define VFDEV_RXD_L4E ((uint64_t)1 << 30) /* the checksum of TCP or UDP does not verify */
+#define VFDEV_RXD_IPE ((uint64_t)1 << 31) /* that of the IPv4 header does not */
 #define VFDEV_RXD_LENGTH(x) ((uint64_t)(x) << 32) /* bytes of the piece */
 #define VFDEV_RXD_LENGTH_MASK 0xFFFF00000000ull
 #define VFDEV_RXD_VLAN(x) ((uint64_t)(x) << 48) /* the tag control that was stripped */
@@ -208,6 +217,10 @@
 #define VFDEV_RXL_DD ((uint64_t)1 << 32) /* done */
 #define VFDEV_RXL_EOP ((uint64_t)1 << 33) /* the last of the frame */
 #define VFDEV_RXL_VP ((uint64_t)1 << 35) /* a tag was stripped */
+#define VFDEV_RXL_L4CS ((uint64_t)1 << 37) /* the checksum of TCP or UDP was looked at */
+#define VFDEV_RXL_IPCS ((uint64_t)1 << 38) /* that of the IPv4 header was */
+#define VFDEV_RXL_L4E ((uint64_t)1 << 46) /* the checksum of TCP or UDP does not verify */
+#define VFDEV_RXL_IPE ((uint64_t)1 << 47) /* that of the IPv4 header does not */
 #define VFDEV_RXL_VLAN(x) ((uint64_t)(x) << 48) /* the tag control that was stripped */
 #define VFDEV_RXL_VLAN_MASK 0xFFFF000000000000ull
 

@@ -15,7 +15,7 @@ static void makers(vfdev_card *card)
     EQUAL(vfdev_card_make(card, 2, past, 1, VFDEV_CARD_NOBODY, 1518, 0), VFDEV_BAD_MAKE);
     EQUAL(vfdev_card_make(card, 2, ids, 2, 64, 1518, 0), VFDEV_BAD_MAKE);
     EQUAL(vfdev_card_make(card, 2, ids, 2, VFDEV_CARD_NOBODY, 1517, 0), VFDEV_BAD_MAKE);
-    EQUAL(vfdev_card_make(card, 2, ids, 2, VFDEV_CARD_NOBODY, 1518, 32), VFDEV_BAD_MAKE);
+    EQUAL(vfdev_card_make(card, 2, ids, 2, VFDEV_CARD_NOBODY, 1518, 128), VFDEV_BAD_MAKE);
     EQUAL(vfdev_card_attach(card, 0), VFDEV_CARD_NO_CARD);
     EQUAL(say(card, 0, version, 0).kind, VFDEV_STEP_NO_CARD);
     EQUAL(vfdev_card_make(card, 2, ids, 2, VFDEV_CARD_NOBODY, 1518, 0), VFDEV_OK);
@@ -157,8 +157,12 @@ static void frames(vfdev_card *card)
     memset(frame, 0xFF, 6);
     EQUAL(vfdev_card_wire(card, frame, 60).kind, VFDEV_DONE);
     EQUAL(vfdev_card_raised(card), 1);
-    EQUAL(vfdev_card_signal(card, 0), 2);
+    EQUAL(vfdev_card_signal_some(card, 0, 5), 0);
+    EQUAL(vfdev_card_raised(card), 1);
+    EQUAL(vfdev_card_signal_some(card, 0, 0xFFFFFFFF), 2);
+    EQUAL(vfdev_card_raised(card), 0);
     EQUAL(vfdev_card_signal(card, 0), 0);
+    EQUAL(vfdev_card_signal_some(card, 64, 7), 0);
     EQUAL(memory[0x2800], 0xFF);
     EQUAL(memory[0x100C], 60);
 }
@@ -185,7 +189,7 @@ static void begin_full(vfdev_card *card)
     const vfdev_card_policy first = policy(1);
     EQUAL(vfdev_card_make(card, 1, ids, 2, VFDEV_CARD_NOBODY, 1518,
                           VFDEV_OFFLOAD_VLAN | VFDEV_OFFLOAD_CHECKSUM | VFDEV_OFFLOAD_SEGMENTATION | VFDEV_OFFLOAD_AUTO_MASK |
-                              VFDEV_OFFLOAD_LEGACY_RECEIVE), VFDEV_OK);
+                              VFDEV_OFFLOAD_LEGACY_RECEIVE | VFDEV_OFFLOAD_THROTTLE | VFDEV_OFFLOAD_RECEIVE_CHECKSUM), VFDEV_OK);
     EQUAL(vfdev_card_admit(card, 0, &first).refusal, VFDEV_ADMITTED);
     EQUAL(vfdev_card_attach(card, 0), VFDEV_OK);
     EQUAL(vfdev_card_map(card, 0, 0, (vfdev_block){memory, sizeof memory}, false), VFDEV_OK);
@@ -211,12 +215,25 @@ static vfdev_card_more_result cut(vfdev_card *card, uint32_t place, uint64_t pro
     return vfdev_card_more(card, 0);
 }
 
+/* How far apart the driver wants the interrupts of its vectors. */
+static void intervals(vfdev_card *card)
+{
+    write_register(card, 0, VFDEV_VTEITR(1), VFDEV_VTEITR_ITR_INTERVAL(25));
+    EQUAL(read_register(card, 0, VFDEV_VTEITR(1)), 200);
+    EQUAL(vfdev_card_interval(card, 0, 0), 0);
+    EQUAL(vfdev_card_interval(card, 0, 1), 50);
+    EQUAL(vfdev_card_interval(card, 0, 3), 0);
+    EQUAL(vfdev_card_interval(card, 64, 1), 0);
+}
+
 /* Each segment has its lengths, its numbers, its flags and its sums; a frame of UDP can't be cut, and is counted. */
 static void offloads(void)
 {
     vfdev_card card = VFDEV_CARD_NONE;
     EQUAL(vfdev_card_shortfalls(&card, 0), 0);
+    EQUAL(vfdev_card_interval(&card, 0, 1), 0);
     begin_full(&card);
+    intervals(&card);
     vfdev_card_more_result more = cut(&card, 0, 1);
     EQUAL(more.frames, 3);
     EQUAL(more.goes_on, 0);
@@ -249,9 +266,14 @@ int main(void)
     frames(&card);
     guest_to_guest(&card);
     /* the host's message waits until the driver has looked at its mailbox */
+    write_register(&card, 0, VFDEV_VTIVAR_MISC, VFDEV_VTIVAR_MISC_INT_ALLOC_VAL | VFDEV_VTIVAR_MISC_INT_ALLOC(0));
+    write_register(&card, 0, VFDEV_VTEIMS, 1);
     EQUAL(vfdev_card_notify(&card, 0), 0);
+    EQUAL(vfdev_card_raised(&card), 0);
     EQUAL(read_register(&card, 0, 0x2FC) & 0x10, 0x10);
     EQUAL(vfdev_card_notify(&card, 0), 1);
+    /* and tells the driver by its vector */
+    EQUAL(vfdev_card_signal(&card, 0), 1);
     EQUAL(vfdev_card_flr(&card, 0), VFDEV_OK);
     EQUAL(read_register(&card, 0, 0x200), 0x40000100);
     EQUAL(vfdev_card_detach(&card, 0), VFDEV_OK);

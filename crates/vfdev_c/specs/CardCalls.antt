@@ -1,19 +1,21 @@
 -- What a call over a card leaves of it, and what it answers.
-use Rattle.std.specs.Prelude.{◌≡◌, ◌≢◌, ℕ, ◌<◌, ◌==◌, ◌&&◌, ◌||◌, ◌⊎◌, Bool, true, false, not, nat_eq, nat_le, nat_lt, List, [], ◌∷◌, ◌++◌, drop, length, replicate, slice_index, slice_index_or, slice_set, Option, Some, None, if◌then◌else◌}
+use Rattle.std.specs.Prelude.{◌≡◌, ◌≢◌, ℕ, ◌<◌, ◌&&◌, ◌||◌, ◌⊎◌, Bool, true, false, not, bit_and, nat_eq, nat_le, nat_lt, List, [], ◌∷◌, ◌++◌, drop, length, replicate, slice_index, slice_index_or, slice_set, Option, Some, None, if◌then◌else◌}
 use Rattle.wire_frame.specs.Bits.{has_bit}
 use Rattle.wire_frame.specs.Fault.{number_of}
 use Rattle.wire_frame.specs.Frame.{is_frame}
 use Rattle.wire_frame.specs.declared.fault.Fault.{Fault}
 use Rattle.wire_frame.specs.declared.fault.Fault.TheVariants.{BadFrame}
+use Rattle.irq_causes.specs.Causes.{◌without◌, vectors_in}
 use Rattle.irq_causes.specs.Messages.{both}
 use Rattle.live_run.specs.Frames.{Room}
 use Rattle.device.specs.Accesses.{accesses_by}
-use Rattle.device.specs.declared.event.Answer.{Answer}
 use Rattle.device.specs.declared.event.Event.TheVariants.{Wire}
 use Rattle.device.specs.Guests.{attach_refusal, attached, detached, is_vacant}
 use Rattle.device.specs.Live.{AreListed, AreMet, told_world}
 use Rattle.device.specs.World.{World, function_of, step}
-use Rattle.vf_unit.specs.Unit.{size_of, shortfalls_of}
+use Rattle.vf_unit.specs.Unit.{Function, interval_of, size_of, shortfalls_of}
+use Rattle.vf_unit.specs.declared.intervals.Vector.{Vector}
+use Rattle.vf_unit.specs.declared.intervals.Vector.TheVariants.{V0, V1, V2}
 use Rattle.mailbox.specs.Address.{number_of as number_of_address}
 use Rattle.mailbox.specs.Host.{refusal}
 use Rattle.mailbox.specs.Mailbox.{blank, notice_in}
@@ -28,6 +30,7 @@ use Rattle.mailbox.specs.declared.policy.VlanPolicy.{VlanPolicy}
 use Rattle.mailbox.specs.declared.policy.VlanPolicy.TheVariants.{Port, Joins}
 use Rattle.mailbox_laws.specs.Turns.Turn.{Admits, Dismisses, Forgets}
 use Rattle.hosted.specs.Hosted.{HaveTaken, LeavesUnconcerned, mailbox_at, with_world}
+use Rattle.hosted.specs.Turns.{prompted_by, vectors_by}
 use Rattle.vfio_user.specs.declared.request.Access.{Access}
 use Rattle.vfio_user.specs.declared.request.Access.TheVariants.{ReadOnly, WriteOnly, ReadWrite}
 use Rattle.vfio_session.specs.Answers.{answer_to}
@@ -35,9 +38,9 @@ use Rattle.vfio_session.specs.declared.decision.Breach.{Breach}
 use Rattle.vfio_session.specs.declared.decision.Breach.TheVariants.{NoHeader, WrongSize, NoVersion, OtherVersion, SecondVersion, StrayFiles}
 use Rattle.vfio_session.specs.declared.owed.Owed.{Owed}
 use Rattle.vfio_session.specs.declared.owed.Settled.TheVariants.{Finished}
-use Rattle.card.specs.Card.{CardState, LeavesAlone, cleared, end_at}
+use Rattle.card.specs.Card.{LeavesAlone, cleared, end_at}
 use Rattle.card.specs.Served.{AreServed, is_busy, signalled}
-use Rattle.card.specs.Told.{Told, after_reset, told}
+use Rattle.card.specs.Told.{Told, after_reset, joined, told}
 use Rattle.card.specs.declared.step.Order.{Order}
 use Rattle.card.specs.declared.step.Order.TheVariants.{Map, Unmap, Arm, Disarm}
 use Rattle.card.specs.declared.step.Step.{Step}
@@ -261,6 +264,18 @@ busy_at p c = nat_lt p 64 && is_busy (end_at c.card p)
 abbrev pub shortfalls_at : ℕ → HeldCard → ℕ
 shortfalls_at p c = if nat_lt p 64 then shortfalls_of (function_of p c.card.hosted.device.world) else 0
 
+-- a vector by its number
+abbrev pub vector_numbered : ℕ → Option Vector
+vector_numbered n = if nat_eq n 0 then Some V0 else (if nat_eq n 1 then Some V1 else (if nat_eq n 2 then Some V2 else None))
+
+-- how many microseconds apart a driver wants the messages of a vector, if there is one of that number
+abbrev pub interval_for : Option Vector → Function → ℕ
+interval_for None f = 0
+interval_for (Some v) f = interval_of f v
+
+abbrev pub interval_at : ℕ → ℕ → HeldCard → ℕ
+interval_at p n c = if nat_lt p 64 then interval_for (vector_numbered n) (function_of p c.card.hosted.device.world) else 0
+
 -- a frame from the wire was taken: all of it is the device's step, in the world in which each function's memory holds what was read of it
 pub record IsWired (frame : List ℕ) (c d : HeldCard) (reply : VfdevReply) : Type 0 where
   pub met : World
@@ -283,6 +298,15 @@ pub record Wires (frame : List ℕ) (c d : HeldCard) (reply : VfdevReply) : Type
 pub record Signals (p : ℕ) (c d : HeldCard) (vectors : ℕ) : Type 0 where
   pub handed_out : vectors ≡ (if nat_lt p 64 then signalled (slice_index c.card.raised p) (end_at c.card p).session.armed else 0)
   pub raised : d.card.raised ≡ (if nat_lt p 64 then slice_set c.card.raised p 0 else c.card.raised)
+  pub hosted : d.card.hosted ≡ c.card.hosted
+  pub ends : d.card.ends ≡ c.card.ends
+  pub spares : d.spares ≡ c.spares
+  pub frames : d.frames ≡ c.frames
+
+-- those alone that a word names, by its low three bits; the others go on waiting
+pub record SignalsSome (p named : ℕ) (c d : HeldCard) (vectors : ℕ) : Type 0 where
+  pub handed_out : vectors ≡ (if nat_lt p 64 then signalled (bit_and (slice_index c.card.raised p) (vectors_in named)) (end_at c.card p).session.armed else 0)
+  pub raised : d.card.raised ≡ (if nat_lt p 64 then slice_set c.card.raised p (slice_index c.card.raised p without vectors_in named) else c.card.raised)
   pub hosted : d.card.hosted ≡ c.card.hosted
   pub ends : d.card.ends ≡ c.card.ends
   pub spares : d.spares ≡ c.spares
@@ -354,13 +378,15 @@ abbrev pub notice_number : Notice → ℕ
 notice_number Raises = 1
 notice_number Waits = 0
 
+-- the host's own message; where it stands in the mailbox the cause "other" is raised, whose vectors wait then
 pub record Notifying (p : ℕ) (c d : HeldCard) (answer : ℕ) : Type 0 where
   pub answered : answer ≡ (if nat_lt p 64 then notice_number (notice_in (mailbox_at c.card.hosted p)) else 0)
   pub mailboxes : d.card.hosted.mailboxes ≡ (if nat_lt p 64 then slice_set c.card.hosted.mailboxes p (notified c.card.hosted.host p (mailbox_at c.card.hosted p)) else c.card.hosted.mailboxes)
+  pub world : d.card.hosted.device.world ≡ (if nat_lt p 64 then prompted_by (notice_in (mailbox_at c.card.hosted p)) c.card.hosted.device.world p else c.card.hosted.device.world)
   pub host : d.card.hosted.host ≡ c.card.hosted.host
-  pub device : d.card.hosted.device ≡ c.card.hosted.device
+  pub accesses : d.card.hosted.device.accesses ≡ c.card.hosted.device.accesses
   pub ends : d.card.ends ≡ c.card.ends
-  pub raised : d.card.raised ≡ c.card.raised
+  pub raised : d.card.raised ≡ (if nat_lt p 64 then joined c.card.raised p (vectors_by (notice_in (mailbox_at c.card.hosted p)) c.card.hosted.device.world p) else c.card.raised)
   pub spares : d.spares ≡ c.spares
   pub frames : d.frames ≡ c.frames
 

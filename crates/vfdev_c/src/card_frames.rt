@@ -1,14 +1,17 @@
 //! Frames and interrupts of a card.
 ghost use Rattle.std.specs.Prelude.{◌≡◌, false};
 ghost use Rattle.card.specs.Card.{LeavesAlone};
-ghost use Rattle.vfdev_c.specs.CardCalls.{AreRaised, OnCard, OthersStay, Serves, Signals, Wires, busy_at, shortfalls_at, frame_at, none_more, of_card};
+ghost use Rattle.vfdev_c.specs.CardCalls.{AreRaised, OnCard, OthersStay, Serves, Signals, SignalsSome, Wires, busy_at, shortfalls_at, frame_at, interval_at, none_more, of_card, vector_numbered};
 ghost use Rattle.vfdev_c.specs.Handle.{frame_in, length_in, no_device};
 
 use crate::card_held::CardHeld;
 use crate::handle::Vfdev;
-use crate::handle_state::{HandleState, MOST_FRAME, lay};
+use crate::handle_state::{MOST_FRAME, lay};
+use crate::on_card::on_card;
 use crate::reply::VfdevReply;
+use irq_causes::Vectors;
 use std::alloc::Global;
+use vf_unit::Vector;
 use wire_frame::{Fault, PoolId, is_frame};
 
 /// What came of descriptors that were taken, as C sees it.
@@ -26,18 +29,7 @@ pub struct VfdevCardMore {
 pub extern "C" fn vfdev_card_more(alloc: Global, handle: &mut Vfdev, function: u8) -> VfdevCardMore
     ensures called { OnCard none_more (Serves function) handle.old.owner.held handle.new.owner.held result }
 {
-    let Some(mut state) = handle.take(alloc) else {
-        return VfdevCardMore::none();
-    };
-    let done = match &mut *state {
-        HandleState::Card(held) => held.more(function),
-        HandleState::Lending(_)
-        | HandleState::Made(_)
-        | HandleState::Kept(_)
-        | HandleState::Lent(_) => VfdevCardMore::none(),
-    };
-    handle.put(state);
-    done
+    on_card!(handle, alloc, VfdevCardMore::none(), held => held.more(function))
 }
 
 /// A frame of those that left at the last [`vfdev_card_more`].
@@ -52,18 +44,7 @@ pub extern "C" fn vfdev_card_frame(
     ensures length { result ≡ of_card handle.old.owner.held 0 (λ c. length_in (frame_at number out.old c)) }
     ensures bytes { out.new ≡ of_card handle.old.owner.held out.old (λ c. frame_in (frame_at number out.old c) out.old) }
 {
-    let Some(state) = handle.take(alloc) else {
-        return 0;
-    };
-    let count = match &*state {
-        HandleState::Card(held) => held.frame_of(number, out),
-        HandleState::Lending(_)
-        | HandleState::Made(_)
-        | HandleState::Kept(_)
-        | HandleState::Lent(_) => 0,
-    };
-    handle.put(state);
-    count
+    on_card!(handle, alloc, 0, held => held.frame_of(number, out))
 }
 
 /// Whether a transmit queue of the function may have descriptors that were not taken.
@@ -72,18 +53,7 @@ pub extern "C" fn vfdev_card_is_busy(alloc: Global, handle: &mut Vfdev, function
     ensures handle { handle.new.owner.held ≡ handle.old.owner.held }
     ensures busy { result ≡ of_card handle.old.owner.held false (busy_at function) }
 {
-    let Some(state) = handle.take(alloc) else {
-        return false;
-    };
-    let is_busy = match &*state {
-        HandleState::Card(held) => held.is_busy(function),
-        HandleState::Lending(_)
-        | HandleState::Made(_)
-        | HandleState::Kept(_)
-        | HandleState::Lent(_) => false,
-    };
-    handle.put(state);
-    is_busy
+    on_card!(handle, alloc, false, held => held.is_busy(function))
 }
 
 /// How often something that the function's driver left to the card could not be done, modulo 2^32.
@@ -92,18 +62,7 @@ pub extern "C" fn vfdev_card_shortfalls(alloc: Global, handle: &mut Vfdev, funct
     ensures handle { handle.new.owner.held ≡ handle.old.owner.held }
     ensures count { result ≡ of_card handle.old.owner.held 0 (shortfalls_at function) }
 {
-    let Some(state) = handle.take(alloc) else {
-        return 0;
-    };
-    let count = match &*state {
-        HandleState::Card(held) => held.shortfalls(function),
-        HandleState::Lending(_)
-        | HandleState::Made(_)
-        | HandleState::Kept(_)
-        | HandleState::Lent(_) => 0,
-    };
-    handle.put(state);
-    count
+    on_card!(handle, alloc, 0, held => held.shortfalls(function))
 }
 
 /// A frame comes from the wire.
@@ -111,18 +70,7 @@ pub extern "C" fn vfdev_card_shortfalls(alloc: Global, handle: &mut Vfdev, funct
 pub extern "C" fn vfdev_card_wire(alloc: Global, handle: &mut Vfdev, frame: &[u8]) -> VfdevReply
     ensures called { OnCard no_device (Wires frame.now) handle.old.owner.held handle.new.owner.held result }
 {
-    let Some(mut state) = handle.take(alloc) else {
-        return VfdevReply::no_device();
-    };
-    let reply = match &mut *state {
-        HandleState::Card(held) => held.wire(frame),
-        HandleState::Lending(_)
-        | HandleState::Made(_)
-        | HandleState::Kept(_)
-        | HandleState::Lent(_) => VfdevReply::no_device(),
-    };
-    handle.put(state);
-    reply
+    on_card!(handle, alloc, VfdevReply::no_device(), held => held.wire(frame))
 }
 
 /// The functions that have vectors which were raised and not handed out.
@@ -131,18 +79,7 @@ pub extern "C" fn vfdev_card_raised(alloc: Global, handle: &mut Vfdev) -> u64
     ensures handle { handle.new.owner.held ≡ handle.old.owner.held }
     ensures raised { AreRaised handle.old.owner.held result }
 {
-    let Some(state) = handle.take(alloc) else {
-        return 0;
-    };
-    let raised = match &*state {
-        HandleState::Card(held) => held.card.raised().bits(),
-        HandleState::Lending(_)
-        | HandleState::Made(_)
-        | HandleState::Kept(_)
-        | HandleState::Lent(_) => 0,
-    };
-    handle.put(state);
-    raised
+    on_card!(handle, alloc, 0, held => held.card.raised().bits())
 }
 
 /// Hands out the vectors of a function that were raised since the last time and have a file.
@@ -151,18 +88,35 @@ pub extern "C" fn vfdev_card_signal(alloc: Global, handle: &mut Vfdev, function:
     ensures called { OnCard 0 (Signals function) handle.old.owner.held handle.new.owner.held result }
     ensures others { OthersStay function handle.old.owner.held handle.new.owner.held }
 {
-    let Some(mut state) = handle.take(alloc) else {
-        return 0;
-    };
-    let vectors = match &mut *state {
-        HandleState::Card(held) => held.signal(function),
-        HandleState::Lending(_)
-        | HandleState::Made(_)
-        | HandleState::Kept(_)
-        | HandleState::Lent(_) => 0,
-    };
-    handle.put(state);
-    vectors
+    on_card!(handle, alloc, 0, held => held.signal(function))
+}
+
+/// Hands out those of them that the low bits name; the others go on waiting.
+#[unsafe(no_mangle)]
+pub extern "C" fn vfdev_card_signal_some(
+    alloc: Global,
+    handle: &mut Vfdev,
+    function: u8,
+    vectors: u32,
+) -> u32
+    ensures called { OnCard 0 (SignalsSome function vectors) handle.old.owner.held handle.new.owner.held result }
+    ensures others { OthersStay function handle.old.owner.held handle.new.owner.held }
+{
+    on_card!(handle, alloc, 0, held => held.signal_some(function, vectors))
+}
+
+/// How many microseconds apart a function's driver wants the messages of a vector to be at least.
+#[unsafe(no_mangle)]
+pub extern "C" fn vfdev_card_interval(
+    alloc: Global,
+    handle: &mut Vfdev,
+    function: u8,
+    vector: u32,
+) -> u32
+    ensures handle { handle.new.owner.held ≡ handle.old.owner.held }
+    ensures interval { result ≡ of_card handle.old.owner.held 0 (interval_at function vector) }
+{
+    on_card!(handle, alloc, 0, held => held.interval(function, vector))
 }
 
 impl VfdevCardMore {
@@ -245,8 +199,46 @@ impl CardHeld {
         ensures others { LeavesAlone function self.old.card self.new.card }
     {
         match PoolId::new(function) {
-            Some(pool) => u32::from(self.card.signal(pool).bits()),
+            Some(pool) => u32::from(self.card.signal(pool, Vectors::from_bits(7)).bits()),
             None => 0,
         }
+    }
+
+    fn signal_some(&mut self, function: u8, vectors: u32) -> u32
+        ensures called { SignalsSome function vectors self.old self.new result }
+        ensures others { LeavesAlone function self.old.card self.new.card }
+    {
+        match PoolId::new(function) {
+            Some(pool) => u32::from(
+                self.card
+                    .signal(pool, Vectors::from_bits((vectors % 8) as u8))
+                    .bits(),
+            ),
+            None => 0,
+        }
+    }
+
+    fn interval(&self, function: u8, vector: u32) -> u32
+        ensures { result ≡ interval_at function vector self.now }
+    {
+        let Some(pool) = PoolId::new(function) else {
+            return 0;
+        };
+        match vector_numbered(vector) {
+            Some(vector) => u32::from(self.card.interval(pool, vector)),
+            None => 0,
+        }
+    }
+}
+
+// A vector by its number.
+fn vector_numbered(number: u32) -> Option<Vector>
+    ensures { result ≡ vector_numbered number }
+{
+    match number {
+        0 => Some(Vector::V0),
+        1 => Some(Vector::V1),
+        2 => Some(Vector::V2),
+        _ => None,
     }
 }

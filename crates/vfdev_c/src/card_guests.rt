@@ -6,7 +6,7 @@ ghost use Rattle.vfdev_c.specs.CardCalls.{Attaches, Detaches, Maps, OnCard, Othe
 use crate::block::Block;
 use crate::card_held::CardHeld;
 use crate::handle::Vfdev;
-use crate::handle_state::HandleState;
+use crate::on_card::on_card;
 use mapped_memory::MapError;
 use spare_memory::NotMapped;
 use std::alloc::Global;
@@ -31,18 +31,7 @@ pub extern "C" fn vfdev_card_attach(alloc: Global, handle: &mut Vfdev, function:
     ensures called { OnCard 32 (Attaches function) handle.old.owner.held handle.new.owner.held result }
     ensures others { OthersStay function handle.old.owner.held handle.new.owner.held }
 {
-    let Some(mut state) = handle.take(alloc) else {
-        return NO_CARD;
-    };
-    let answer = match &mut *state {
-        HandleState::Card(held) => held.attach(function),
-        HandleState::Lending(_)
-        | HandleState::Made(_)
-        | HandleState::Kept(_)
-        | HandleState::Lent(_) => NO_CARD,
-    };
-    handle.put(state);
-    answer
+    on_card!(handle, alloc, NO_CARD, held => held.attach(function))
 }
 
 /// A guest goes.
@@ -51,18 +40,7 @@ pub extern "C" fn vfdev_card_detach(alloc: Global, handle: &mut Vfdev, function:
     ensures called { OnCard 32 (Detaches function) handle.old.owner.held handle.new.owner.held result }
     ensures others { OthersStay function handle.old.owner.held handle.new.owner.held }
 {
-    let Some(mut state) = handle.take(alloc) else {
-        return NO_CARD;
-    };
-    let answer = match &mut *state {
-        HandleState::Card(held) => held.detach(function),
-        HandleState::Lending(_)
-        | HandleState::Made(_)
-        | HandleState::Kept(_)
-        | HandleState::Lent(_) => NO_CARD,
-    };
-    handle.put(state);
-    answer
+    on_card!(handle, alloc, NO_CARD, held => held.detach(function))
 }
 
 /// A block is memory of a function's guest from an address on.
@@ -79,18 +57,7 @@ pub extern "C" fn vfdev_card_map(
     ensures others { OthersStay function handle.old.owner.held handle.new.owner.held }
 {
     let cells = block.into_cells();
-    let Some(mut state) = handle.take(alloc) else {
-        return NO_CARD;
-    };
-    let answer = match &mut *state {
-        HandleState::Card(held) => held.map(function, at, cells, is_read_only),
-        HandleState::Lending(_)
-        | HandleState::Made(_)
-        | HandleState::Kept(_)
-        | HandleState::Lent(_) => NO_CARD,
-    };
-    handle.put(state);
-    answer
+    on_card!(handle, alloc, NO_CARD, held => held.map(function, at, cells, is_read_only))
 }
 
 /// The region that begins at an address is mapped no more.
@@ -99,18 +66,7 @@ pub extern "C" fn vfdev_card_unmap(alloc: Global, handle: &mut Vfdev, function: 
     ensures called { OnCard 32 (Unmaps function) handle.old.owner.held handle.new.owner.held result }
     ensures others { OthersStay function handle.old.owner.held handle.new.owner.held }
 {
-    let Some(mut state) = handle.take(alloc) else {
-        return NO_CARD;
-    };
-    let answer = match &mut *state {
-        HandleState::Card(held) => held.unmap(function, at),
-        HandleState::Lending(_)
-        | HandleState::Made(_)
-        | HandleState::Kept(_)
-        | HandleState::Lent(_) => NO_CARD,
-    };
-    handle.put(state);
-    answer
+    on_card!(handle, alloc, NO_CARD, held => held.unmap(function, at))
 }
 
 impl CardHeld {

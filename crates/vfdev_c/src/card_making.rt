@@ -7,6 +7,7 @@ use crate::card_held::CardHeld;
 use crate::handle::Vfdev;
 use crate::handle_state::HandleState;
 use crate::making::{HELD, MADE};
+use crate::on_card::on_card;
 use std::alloc::Global;
 use wire_frame::Fault;
 
@@ -57,18 +58,7 @@ pub extern "C" fn vfdev_card_functions(alloc: Global, handle: &mut Vfdev) -> u32
     ensures handle { handle.new.owner.held ≡ handle.old.owner.held }
     ensures count { result ≡ of_card handle.old.owner.held 0 (λ c. length c.card.hosted.device.world.functions) }
 {
-    let Some(state) = handle.take(alloc) else {
-        return 0;
-    };
-    let count = match &*state {
-        HandleState::Card(held) => held.card.functions() as u32,
-        HandleState::Lending(_)
-        | HandleState::Made(_)
-        | HandleState::Kept(_)
-        | HandleState::Lent(_) => 0,
-    };
-    handle.put(state);
-    count
+    on_card!(handle, alloc, 0, held => held.card.functions() as u32)
 }
 
 // A card in a box.

@@ -6,7 +6,7 @@ ghost use Rattle.vfdev_c.specs.CardCalls.{OthersStay, laid_for, of_card, of_kind
 use crate::card_held::CardHeld;
 use crate::card_step::VfdevCardStep;
 use crate::handle::Vfdev;
-use crate::handle_state::HandleState;
+use crate::on_card::on_card;
 use std::alloc::Global;
 use vfio_session::ROOM;
 use wire_frame::PoolId;
@@ -27,18 +27,8 @@ pub extern "C" fn vfdev_card_receive(
     ensures reply { room.new ≡ of_card handle.old.owner.held room.old (laid_for function message.now files room.old) }
     ensures others { OthersStay function handle.old.owner.held handle.new.owner.held }
 {
-    let Some(mut state) = handle.take(alloc) else {
-        *step = VfdevCardStep::of_kind(6);
-        return;
-    };
-    *step = match &mut *state {
-        HandleState::Card(held) => held.receive(function, message, files, room),
-        HandleState::Lending(_)
-        | HandleState::Made(_)
-        | HandleState::Kept(_)
-        | HandleState::Lent(_) => VfdevCardStep::of_kind(6),
-    };
-    handle.put(state);
+    *step =
+        on_card!(handle, alloc, VfdevCardStep::of_kind(6), held => held.receive(function, message, files, room));
 }
 
 impl CardHeld {

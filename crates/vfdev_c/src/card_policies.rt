@@ -6,7 +6,7 @@ ghost use Rattle.vfdev_c.specs.CardCalls.{Admitting, OnCard, Dismissing, Notifyi
 use crate::card_guests::{DONE, NO_CARD};
 use crate::card_held::{CardHeld, NOBODY};
 use crate::handle::Vfdev;
-use crate::handle_state::HandleState;
+use crate::on_card::on_card;
 use mailbox::{NotAdmitted, Notice, Policy, VlanPolicy};
 use std::alloc::Global;
 use wire_frame::{Fault, Mac, PoolId};
@@ -51,18 +51,7 @@ pub extern "C" fn vfdev_card_admit(
 ) -> VfdevCardAdmission
     ensures called { OnCard (refused_by 4) (Admitting function (policy_of policy.now)) handle.old.owner.held handle.new.owner.held result }
 {
-    let Some(mut state) = handle.take(alloc) else {
-        return VfdevCardAdmission::refused(4);
-    };
-    let admission = match &mut *state {
-        HandleState::Card(held) => held.admit(function, policy),
-        HandleState::Lending(_)
-        | HandleState::Made(_)
-        | HandleState::Kept(_)
-        | HandleState::Lent(_) => VfdevCardAdmission::refused(4),
-    };
-    handle.put(state);
-    admission
+    on_card!(handle, alloc, VfdevCardAdmission::refused(4), held => held.admit(function, policy))
 }
 
 /// Takes a function's policy away.
@@ -71,18 +60,7 @@ pub extern "C" fn vfdev_card_dismiss(alloc: Global, handle: &mut Vfdev, function
     ensures called { OnCard 32 (Dismissing function) handle.old.owner.held handle.new.owner.held result }
     ensures others { OthersStay function handle.old.owner.held handle.new.owner.held }
 {
-    let Some(mut state) = handle.take(alloc) else {
-        return NO_CARD;
-    };
-    let answer = match &mut *state {
-        HandleState::Card(held) => held.dismiss(function),
-        HandleState::Lending(_)
-        | HandleState::Made(_)
-        | HandleState::Kept(_)
-        | HandleState::Lent(_) => NO_CARD,
-    };
-    handle.put(state);
-    answer
+    on_card!(handle, alloc, NO_CARD, held => held.dismiss(function))
 }
 
 /// Puts the host's own message into a function's mailbox.
@@ -91,18 +69,7 @@ pub extern "C" fn vfdev_card_notify(alloc: Global, handle: &mut Vfdev, function:
     ensures called { OnCard 0 (Notifying function) handle.old.owner.held handle.new.owner.held result }
     ensures others { OthersStay function handle.old.owner.held handle.new.owner.held }
 {
-    let Some(mut state) = handle.take(alloc) else {
-        return 0;
-    };
-    let stands = match &mut *state {
-        HandleState::Card(held) => held.notify(function),
-        HandleState::Lending(_)
-        | HandleState::Made(_)
-        | HandleState::Kept(_)
-        | HandleState::Lent(_) => 0,
-    };
-    handle.put(state);
-    stands
+    on_card!(handle, alloc, 0, held => held.notify(function))
 }
 
 /// Resets a function from outside.
@@ -112,18 +79,7 @@ pub extern "C" fn vfdev_card_flr(alloc: Global, handle: &mut Vfdev, function: u8
     ensures answer { result ≡ of_card handle.old.owner.held 32 (λ c. if nat_lt function 64 then 0 else 1) }
     ensures others { OthersStay function handle.old.owner.held handle.new.owner.held }
 {
-    let Some(mut state) = handle.take(alloc) else {
-        return NO_CARD;
-    };
-    let answer = match &mut *state {
-        HandleState::Card(held) => held.flr(function),
-        HandleState::Lending(_)
-        | HandleState::Made(_)
-        | HandleState::Kept(_)
-        | HandleState::Lent(_) => NO_CARD,
-    };
-    handle.put(state);
-    answer
+    on_card!(handle, alloc, NO_CARD, held => held.flr(function))
 }
 
 impl VfdevCardPolicy {

@@ -27,6 +27,7 @@ mod lending;
 pub mod lends;
 mod lent_device;
 pub mod making;
+mod on_card;
 pub mod owner;
 pub mod raw_box;
 mod recorder;

@@ -30,6 +30,7 @@ use crate::kinds::Fault;
 use crate::raw;
 use std::fmt;
 use std::ptr::NonNull;
+use std::time::Duration;
 
 /// The room for a reply, in bytes: the longest that there is.
 pub const ROOM: usize = 4128;
@@ -231,6 +232,10 @@ pub struct Offloads {
     pub auto_mask: bool,
     /// It takes legacy receive descriptors (SRRCTL.DESCTYPE 0).
     pub legacy_receive: bool,
+    /// It keeps how far apart the driver wants the messages of each vector (VTEITR): [`Card::interval`] tells.
+    pub throttle: bool,
+    /// It says in the receive descriptor whether the checksums of a frame verify (IPCS, L4CS, IPE, L4E).
+    pub receive_checksum: bool,
 }
 
 impl Offloads {
@@ -241,6 +246,8 @@ impl Offloads {
         segmentation: false,
         auto_mask: false,
         legacy_receive: false,
+        throttle: false,
+        receive_checksum: false,
     };
     /// All of it.
     pub const ALL: Offloads = Offloads {
@@ -249,6 +256,8 @@ impl Offloads {
         segmentation: true,
         auto_mask: true,
         legacy_receive: true,
+        throttle: true,
+        receive_checksum: true,
     };
 
     fn raw(self) -> u32 {
@@ -258,6 +267,8 @@ impl Offloads {
             (self.segmentation, raw::OFFLOAD_SEGMENTATION),
             (self.auto_mask, raw::OFFLOAD_AUTO_MASK),
             (self.legacy_receive, raw::OFFLOAD_LEGACY_RECEIVE),
+            (self.throttle, raw::OFFLOAD_THROTTLE),
+            (self.receive_checksum, raw::OFFLOAD_RECEIVE_CHECKSUM),
         ]
         .into_iter()
         .filter_map(|(is_on, flag)| is_on.then_some(flag))
@@ -594,6 +605,23 @@ impl Card {
     pub fn signal(&mut self, function: u8) -> u32 {
         // SAFETY: the reference leads to one live value, which only this card holds.
         unsafe { raw::vfdev_card_signal(&mut self.handle, function) }
+    }
+
+    /// The same of the vectors alone that are named, bit v for vector v: the others go on waiting. So who knows the time keeps the messages
+    /// of a vector as far apart as its driver wants ([`Card::interval`]).
+    #[must_use = "these interrupts have to be delivered to their guest"]
+    pub fn signal_some(&mut self, function: u8, vectors: u32) -> u32 {
+        // SAFETY: the reference leads to one live value, which only this card holds.
+        unsafe { raw::vfdev_card_signal_some(&mut self.handle, function, vectors) }
+    }
+
+    /// How far apart a function's driver wants the messages of a vector to be at least (VTEITR): up to 1022 microseconds. Zero where it wants
+    /// nothing of the kind, where there is no such function or vector, and where the card was made without [`Offloads::throttle`].
+    #[must_use]
+    pub fn interval(&mut self, function: u8, vector: u32) -> Duration {
+        // SAFETY: the reference leads to one live value, which only this card holds.
+        let micros = unsafe { raw::vfdev_card_interval(&mut self.handle, function, vector) };
+        Duration::from_micros(u64::from(micros))
     }
 
     /// Gives a function a policy, its first or another one. What the new one doesn't grant goes. Answers the function that had chosen the

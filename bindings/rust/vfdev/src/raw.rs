@@ -100,6 +100,8 @@ pub const OFFLOAD_CHECKSUM: u32 = 2;
 pub const OFFLOAD_SEGMENTATION: u32 = 4;
 pub const OFFLOAD_AUTO_MASK: u32 = 8;
 pub const OFFLOAD_LEGACY_RECEIVE: u32 = 16;
+pub const OFFLOAD_THROTTLE: u32 = 32;
+pub const OFFLOAD_RECEIVE_CHECKSUM: u32 = 64;
 
 extern "C" {
     pub fn vfdev_version() -> u32;
@@ -194,6 +196,8 @@ extern "C" {
     pub fn vfdev_card_wire(c: &mut VfdevCard, frame: *const u8, len: usize) -> Reply;
     pub fn vfdev_card_raised(c: &mut VfdevCard) -> u64;
     pub fn vfdev_card_signal(c: &mut VfdevCard, function: u8) -> u32;
+    pub fn vfdev_card_signal_some(c: &mut VfdevCard, function: u8, vectors: u32) -> u32;
+    pub fn vfdev_card_interval(c: &mut VfdevCard, function: u8, vector: u32) -> u32;
     pub fn vfdev_card_admit(c: &mut VfdevCard, function: u8, policy: &CardPolicy) -> CardAdmission;
     pub fn vfdev_card_dismiss(c: &mut VfdevCard, function: u8) -> u32;
     pub fn vfdev_card_notify(c: &mut VfdevCard, function: u8) -> u32;

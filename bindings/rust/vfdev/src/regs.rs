@@ -70,7 +70,7 @@ pub const fn vtivar_tx1(x: u32) -> u32 {
     (x << 24) & VTIVAR_TX1_MASK
 }
 
-/// VTIVAR_MISC: the vector of the mailbox.
+/// VTIVAR_MISC: the vector of the cause "other", which the mailbox raises.
 pub const VTIVAR_MISC: u32 = 0x140;
 /// Bits 1:0 of VTIVAR_MISC: the vector.
 pub const VTIVAR_MISC_INT_ALLOC_MASK: u32 = 0x3;
@@ -81,6 +81,19 @@ pub const fn vtivar_misc_int_alloc(x: u32) -> u32 {
 }
 /// Bit 7 of VTIVAR_MISC: it is valid.
 pub const VTIVAR_MISC_INT_ALLOC_VAL: u32 = 1 << 7;
+
+/// VTEITR(q), q below 3: how far apart the messages of a vector are to be.
+#[must_use]
+pub const fn vteitr(q: u32) -> u32 {
+    0x820 + 0x4 * q
+}
+/// Bits 11:3 of VTEITR: at least so many units of 2 microseconds.
+pub const VTEITR_ITR_INTERVAL_MASK: u32 = 0xff8;
+/// These bits of VTEITR, of a number: at least so many units of 2 microseconds.
+#[must_use]
+pub const fn vteitr_itr_interval(x: u32) -> u32 {
+    (x << 3) & VTEITR_ITR_INTERVAL_MASK
+}
 
 /// RDBAL(q), q below 2: receive ring: the low half of its base.
 #[must_use]
@@ -363,8 +376,16 @@ pub const RXD_DD: u64 = 1 << 0;
 pub const RXD_EOP: u64 = 1 << 1;
 /// Bit 3 of RXD: a tag was stripped.
 pub const RXD_VP: u64 = 1 << 3;
+/// Bit 5 of RXD: the checksum of TCP or UDP was looked at.
+pub const RXD_L4CS: u64 = 1 << 5;
+/// Bit 6 of RXD: that of the IPv4 header was.
+pub const RXD_IPCS: u64 = 1 << 6;
 /// Bit 18 of RXD: another pool sent the frame.
 pub const RXD_LB: u64 = 1 << 18;
+/// Bit 30 of RXD: the checksum of TCP or UDP does not verify.
+pub const RXD_L4E: u64 = 1 << 30;
+/// Bit 31 of RXD: that of the IPv4 header does not.
+pub const RXD_IPE: u64 = 1 << 31;
 /// Bits 47:32 of RXD: bytes of the piece.
 pub const RXD_LENGTH_MASK: u64 = 0xffff_0000_0000;
 /// These bits of RXD, of a number: bytes of the piece.
@@ -393,6 +414,14 @@ pub const RXL_DD: u64 = 1 << 32;
 pub const RXL_EOP: u64 = 1 << 33;
 /// Bit 35 of RXL: a tag was stripped.
 pub const RXL_VP: u64 = 1 << 35;
+/// Bit 37 of RXL: the checksum of TCP or UDP was looked at.
+pub const RXL_L4CS: u64 = 1 << 37;
+/// Bit 38 of RXL: that of the IPv4 header was.
+pub const RXL_IPCS: u64 = 1 << 38;
+/// Bit 46 of RXL: the checksum of TCP or UDP does not verify.
+pub const RXL_L4E: u64 = 1 << 46;
+/// Bit 47 of RXL: that of the IPv4 header does not.
+pub const RXL_IPE: u64 = 1 << 47;
 /// Bits 63:48 of RXL: the tag control that was stripped.
 pub const RXL_VLAN_MASK: u64 = 0xffff_0000_0000_0000;
 /// These bits of RXL, of a number: the tag control that was stripped.

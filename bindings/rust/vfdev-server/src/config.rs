@@ -476,7 +476,7 @@ mod tests {
     // What the card does, as a list and as a text; and what is refused of either.
     #[test]
     fn offloads_are_a_list_or_a_word() {
-        let known = "they are vlan, checksum, segmentation, auto-mask and legacy-receive, or all or none alone";
+        let known = "they are vlan, checksum, segmentation, auto-mask, legacy-receive, throttle and receive-checksum, or all or none alone";
         let some = Offloads {
             vlan: true,
             legacy_receive: true,

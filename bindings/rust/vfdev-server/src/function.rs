@@ -5,6 +5,7 @@ use crate::connection::Connection;
 use crate::counters::Counters;
 use crate::directory::{listen, Place, Unusable};
 use crate::os::{EventFile, NotAnEventfd};
+use crate::rests::Rests;
 use std::io;
 use std::os::fd::OwnedFd;
 use std::os::unix::net::UnixListener;
@@ -27,6 +28,8 @@ pub struct Function {
     pub is_watched_for_room: bool,
     /// What is counted.
     pub counters: Counters,
+    /// Until when its vectors rest.
+    pub rests: Rests,
     vectors: [Option<EventFile>; VECTORS as usize],
 }
 
@@ -44,6 +47,7 @@ impl Function {
             is_barred: false,
             is_watched_for_room: false,
             counters: Counters::default(),
+            rests: Rests::default(),
             vectors: Default::default(),
         })
     }
@@ -89,6 +93,7 @@ impl Function {
     /// can't be they stay open, and nobody comes here any more.
     pub fn forget_client(&mut self, apart: &Apart) {
         self.is_watched_for_room = false;
+        self.rests = Rests::default();
         self.disarm(0, VECTORS);
         let files = self.client.take().map(Connection::into_files);
         let files = files.unwrap_or_default();

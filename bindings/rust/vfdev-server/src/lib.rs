@@ -17,6 +17,7 @@
 //! | [`directory`] | the folder of the sockets |
 //! | [`counters`] | what is counted, and its text |
 //! | [`polling`] | how long it looks for work before it sleeps |
+//! | [`rests`] | how far apart the interrupts of a vector are |
 //! | [`apart`] | what may take long to let go of |
 //! | [`os`] | what the standard library lacks; all `unsafe` |
 #![deny(
@@ -39,6 +40,7 @@ pub mod options;
 pub mod os;
 pub mod polling;
 pub mod reload;
+pub mod rests;
 pub mod server;
 pub mod signals;
 pub mod source;

@@ -22,6 +22,8 @@ const CHECKSUM: &str = "checksum";
 const SEGMENTATION: &str = "segmentation";
 const AUTO_MASK: &str = "auto-mask";
 const LEGACY_RECEIVE: &str = "legacy-receive";
+const THROTTLE: &str = "throttle";
+const RECEIVE_CHECKSUM: &str = "receive-checksum";
 
 /// Why a name can't be among offloads.
 #[derive(Clone, Debug, PartialEq, Eq)]
@@ -38,7 +40,7 @@ impl fmt::Display for NoOffload {
         match self {
             NoOffload::Unknown(name) => write!(
                 f,
-                "there is no offload `{name}`: they are {VLAN}, {CHECKSUM}, {SEGMENTATION}, {AUTO_MASK} and {LEGACY_RECEIVE}, or all or none alone"
+                "there is no offload `{name}`: they are {VLAN}, {CHECKSUM}, {SEGMENTATION}, {AUTO_MASK}, {LEGACY_RECEIVE}, {THROTTLE} and {RECEIVE_CHECKSUM}, or all or none alone"
             ),
             NoOffload::Twice(name) => write!(f, "the offload `{name}` stands here twice"),
         }
@@ -58,6 +60,8 @@ pub fn add(offloads: &mut Offloads, name: &str) -> Result<(), NoOffload> {
         SEGMENTATION => &mut offloads.segmentation,
         AUTO_MASK => &mut offloads.auto_mask,
         LEGACY_RECEIVE => &mut offloads.legacy_receive,
+        THROTTLE => &mut offloads.throttle,
+        RECEIVE_CHECKSUM => &mut offloads.receive_checksum,
         _ => return Err(NoOffload::Unknown(name.to_owned())),
     };
     if *flag {
@@ -94,6 +98,8 @@ pub fn shown(offloads: Offloads) -> String {
         (offloads.segmentation, SEGMENTATION),
         (offloads.auto_mask, AUTO_MASK),
         (offloads.legacy_receive, LEGACY_RECEIVE),
+        (offloads.throttle, THROTTLE),
+        (offloads.receive_checksum, RECEIVE_CHECKSUM),
     ]
     .into_iter()
     .filter_map(|(is_on, name)| is_on.then_some(name))
@@ -148,7 +154,7 @@ mod tests {
     use super::*;
 
     const KNOWN: &str =
-        "they are vlan, checksum, segmentation, auto-mask and legacy-receive, or all or none alone";
+        "they are vlan, checksum, segmentation, auto-mask, legacy-receive, throttle and receive-checksum, or all or none alone";
 
     #[test]
     fn each_refusal_names_what_is_wrong() {
@@ -176,6 +182,8 @@ mod tests {
             "segmentation",
             "auto-mask",
             "legacy-receive",
+            "throttle",
+            "receive-checksum",
         ];
         let one = |name| parse(name).unwrap_or_default();
         for (name, is_on) in [
@@ -184,6 +192,8 @@ mod tests {
             (names[2], one(names[2]).segmentation),
             (names[3], one(names[3]).auto_mask),
             (names[4], one(names[4]).legacy_receive),
+            (names[5], one(names[5]).throttle),
+            (names[6], one(names[6]).receive_checksum),
         ] {
             assert!(is_on, "{name}");
             assert_eq!(shown(one(name)), name);

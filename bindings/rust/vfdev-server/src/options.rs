@@ -34,8 +34,8 @@ pub struct Options {
     #[arg(long, value_name = "BYTES", default_value_t = 1518, value_parser = clap::value_parser!(u16).range(1518..=9018))]
     pub frame: u16,
 
-    /// What the card does for the drivers of its guests: all, none, or names of vlan, checksum, segmentation, auto-mask and legacy-receive with
-    /// commas between. It holds in place of the configuration's `offloads`; without both it is all
+    /// What the card does for the drivers of its guests: all, none, or names of vlan, checksum, segmentation, auto-mask, legacy-receive, throttle
+    /// and receive-checksum with commas between. It holds in place of the configuration's `offloads`; without both it is all
     #[arg(long, value_name = "LIST", value_parser = offloads::parse)]
     pub offloads: Option<Offloads>,
 

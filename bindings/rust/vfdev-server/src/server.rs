@@ -1,7 +1,7 @@
 //! The loop: one thread, which waits for sockets, hands their messages to the card, does its orders, and sends what it answers.
 //!
 //! No client holds up another one: nothing here waits but for all of them together, and in one turn each has [`MOST_MESSAGES`] messages
-//! handled at most, its transmit queues served once, and its vectors signalled once.
+//! handled at most, its transmit queues served once, and its vectors signalled once, where they have rested.
 
 use crate::apart::Apart;
 use crate::config::Settings;
@@ -11,7 +11,7 @@ use crate::directory::{listen, open_directory, Place, Unusable};
 use crate::function::Function;
 use crate::offloads;
 use crate::options::Options;
-use crate::os::{Alarm, Interest, MappedCard, Poller};
+use crate::os::{Alarm, Interest, MappedCard, Patience, Poller};
 use crate::polling::Polling;
 use crate::signals::{drain, Signals};
 use crate::source::Source;
@@ -21,9 +21,9 @@ use std::io::{self, Write};
 use std::os::fd::{AsFd, OwnedFd};
 use std::os::unix::net::UnixListener;
 use std::path::PathBuf;
-use std::time::Duration;
+use std::time::{Duration, Instant};
 use tracing::{debug, error, info, warn};
-use vfdev::card::{CardFault, NotAdmitted, Order, Step};
+use vfdev::card::{CardFault, NotAdmitted, Order, Step, VECTORS};
 use vfdev::MOST_FRAME;
 
 /// How many messages of one client are handled in a turn at most.
@@ -105,6 +105,8 @@ pub struct Server {
     apart: Apart,
     // the functions whose transmit queues may have more, a bit for each
     busy: u64,
+    // when the first vector that waits has rested
+    due: Option<Instant>,
     // the function that comes first in this turn
     first: usize,
     // room for a frame that is one byte too long, so that it is seen to be
@@ -155,6 +157,7 @@ impl Server {
             alarm: Alarm::new()?,
             apart: Apart::default(),
             busy: 0,
+            due: None,
             first: 0,
             frame: Box::new([0; MOST_FRAME + 1]),
             totals: Totals::default(),
@@ -187,7 +190,7 @@ impl Server {
         let mut ready = Vec::new();
         loop {
             let may_sleep = self.busy == 0 && self.polling.is_over();
-            self.poller.wait(&mut ready, may_sleep)?;
+            self.poller.wait(&mut ready, self.patience(may_sleep))?;
             self.totals.turns += 1;
             match ready.is_empty() {
                 true if may_sleep => self.alarm.rest()?,
@@ -213,6 +216,15 @@ impl Server {
             }
             self.serve_queues();
             self.signal_vectors()?;
+        }
+    }
+
+    // How long it may be waited for clients: a vector that waits is signalled once it has rested.
+    fn patience(&self, may_sleep: bool) -> Patience {
+        match (may_sleep, self.due) {
+            (false, _) => Patience::None,
+            (true, None) => Patience::Endless,
+            (true, Some(due)) => Patience::For(due.saturating_duration_since(Instant::now())),
         }
     }
 
@@ -469,21 +481,36 @@ impl Server {
         Ok(())
     }
 
-    // Each function that vectors were raised of gets each of them once. A client that makes such a write wait does so once.
+    // Each function that vectors were raised of gets each of them once; one that rests waits. A client that makes such a write wait does so
+    // once.
     fn signal_vectors(&mut self) -> io::Result<()> {
+        self.due = None;
         let raised = self.card.raised();
         if raised == 0 {
             return Ok(());
         }
         self.alarm.use_it()?;
+        let now = Instant::now();
         for function in (0..self.count()).filter(|function| raised >> function & 1 == 1) {
-            let vectors = self.card.signal(function);
-            if !self.functions[usize::from(function)].signal(vectors) {
+            if !self.signal_vectors_of(function, now) {
                 self.functions[usize::from(function)].is_barred = true;
                 self.end(function, &Ended::MadeWait)?;
             }
         }
         Ok(())
+    }
+
+    // False where its client made a write wait.
+    fn signal_vectors_of(&mut self, function: u8, now: Instant) -> bool {
+        let here = &mut self.functions[usize::from(function)];
+        let vectors = self.card.signal(function, here.rests.over(now));
+        for vector in (0..VECTORS).filter(|vector| vectors >> vector & 1 == 1) {
+            here.rests.begin(vector, self.card.interval(function, vector), now);
+        }
+        if self.card.raised() >> function & 1 == 1 {
+            self.due = [self.due, here.rests.next()].into_iter().flatten().min();
+        }
+        here.signal(vectors)
     }
 
     // Who connects there gets the text of all counters, and nothing is read. What the socket doesn't take at once is lost.

@@ -35,8 +35,9 @@ enum Rule {
 use Rule::{Any, Here, Missing, Where};
 
 // The calls, by what they are for. Those of each turn stand first.
-const RULES: [Rule; 49] = [
+const RULES: [Rule; 50] = [
     Any(libc::SYS_epoll_wait),
+    Any(libc::SYS_epoll_pwait2),
     Any(libc::SYS_recvmsg),
     Any(libc::SYS_write),
     Any(libc::SYS_sendto),

@@ -8,6 +8,7 @@ use std::fs::File;
 use std::io;
 use std::os::fd::{AsFd, OwnedFd};
 use std::os::unix::fs::MetadataExt;
+use std::time::Duration;
 use vfdev::card::{Access, Card, CardFault, More, NotAdmitted, Offloads, Policy, Step, ROOM};
 
 /// A card, and for each of its functions the files that are mapped as memory of its guest. The two stand together, so that no range of a file
@@ -324,10 +325,15 @@ impl MappedCard {
         self.card.raised()
     }
 
-    /// As [`Card::signal`].
+    /// As [`Card::signal_some`].
     #[must_use = "these interrupts have to be delivered to their guest"]
-    pub fn signal(&mut self, function: u8) -> u32 {
-        self.card.signal(function)
+    pub fn signal(&mut self, function: u8, vectors: u32) -> u32 {
+        self.card.signal_some(function, vectors)
+    }
+
+    /// As [`Card::interval`].
+    pub fn interval(&mut self, function: u8, vector: u32) -> Duration {
+        self.card.interval(function, vector)
     }
 
     /// As [`Card::admit`].

@@ -11,7 +11,7 @@ mod receive;
 mod tap;
 
 pub use alarm::Alarm;
-pub use epoll::{Interest, Poller};
+pub use epoll::{Interest, Patience, Poller};
 pub use event_file::{is_eventfd, EventFile, NotAnEventfd};
 pub use filter::allow_serving_alone;
 pub use mapped_card::{MapError, MappedCard};

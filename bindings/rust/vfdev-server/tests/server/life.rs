@@ -319,7 +319,12 @@ impl Card {
             || match self {
                 Card::Plain => differs_undone(difference),
                 Card::AsThen => false,
-                Card::Full => differs_masked(difference) || differs_received(difference),
+                Card::Full => {
+                    differs_masked(difference)
+                        || differs_received(difference)
+                        || differs_summed(difference)
+                        || differs_kept(difference)
+                }
             }
     }
 }
@@ -385,6 +390,19 @@ fn differs_masked(difference: &Difference) -> bool {
 // Where legacy descriptors receive a frame: its cause stands beside the others.
 fn differs_received(difference: &Difference) -> bool {
     register(difference) == Some(0x100) && difference.now[32] == difference.was[32] | 1
+}
+
+// Where the card says of a frame that came which of its sums it looked at: none of these has one that doesn't verify.
+fn differs_summed(difference: &Difference) -> bool {
+    const CHECKED: u8 = 0x60;
+    let Difference { what, was, now, .. } = difference;
+    let advanced = [&was[..8], &[was[8] | now[8] & CHECKED], &was[9..]].concat();
+    *what == What::Memory && was.len() == 16 && was[8] & 3 == 3 && *now == advanced
+}
+
+// Where the card keeps how far apart interrupts are to be.
+fn differs_kept(difference: &Difference) -> bool {
+    matches!(register(difference), Some(0x820 | 0x824 | 0x828))
 }
 
 // Lives a life, which has so many lines and differs nowhere where it may not, and tells what differed.

@@ -3,6 +3,7 @@
 use crate::driver::Guest;
 use crate::program::{Folder, Server, PATIENCE};
 use std::os::unix::net::UnixDatagram;
+use std::time::{Duration, Instant};
 use vfdev::regs;
 
 // The heads of a frame, in bytes: Ethernet, IPv4, TCP.
@@ -154,4 +155,30 @@ fn what_cannot_be_done_is_counted() {
     guest.send_by((first, of_sctp), regs::TXD_TXSM, &frame);
     assert_eq!(received(&cable), frame);
     server.wait_for_counter("shortfalls_total", 0, 2);
+}
+
+// A driver wants 1,022 microseconds between interrupts. However many frames come, there are no more than fit into the time; and the last
+// frame is told of too.
+#[test]
+fn interrupts_are_as_far_apart_as_the_driver_asks() {
+    const INTERVAL: Duration = Duration::from_micros(1022);
+    const COUNTER: &str = "vfdev_interrupts_total{function=\"1\",name=\"vf1\"}";
+    let server = Server::new(2);
+    let (mut one, mut two) = (Guest::attach(&server, 0), Guest::attach(&server, 1));
+    two.client.write(regs::vteitr(0), 0xFFFF_FFFF);
+    assert_eq!(two.client.read(regs::vteitr(0)), 0xFF8);
+    let begun = Instant::now();
+    let before = server.counter(COUNTER);
+    for number in 0..300u32 {
+        let sent = one.frame(two.mac, &number.to_le_bytes());
+        one.send(&sent);
+        assert!(two.wait() == sent, "frame {number}");
+        two.client.write(regs::VTEIMS, 7);
+    }
+    let told = server.counter(COUNTER) - before;
+    let most = begun.elapsed().as_micros() / INTERVAL.as_micros() + 1;
+    assert!(u128::from(told) <= most, "{told} interrupts for {most}");
+    let last = one.frame(two.mac, b"last");
+    one.send(&last);
+    assert!(two.sleep() == last);
 }

@@ -31,7 +31,7 @@ fn bad_words_are_told() {
         (
             &["--offloads", "vlan,tso"],
             2,
-            "'--offloads <LIST>': there is no offload `tso`: they are vlan, checksum, segmentation, auto-mask and legacy-receive, or all or none alone",
+            "'--offloads <LIST>': there is no offload `tso`: they are vlan, checksum, segmentation, auto-mask, legacy-receive, throttle and receive-checksum, or all or none alone",
         ),
         (
             &["--offloads", "vlan,vlan"],
@@ -85,7 +85,7 @@ fn a_bad_configuration_is_told_with_its_line() {
         ),
         (
             "vlans = [0]\noffloads = [\"vlan\", \"tso\"]\n",
-            "line 2: there is no offload `tso`: they are vlan, checksum, segmentation, auto-mask and legacy-receive, or all or none alone",
+            "line 2: there is no offload `tso`: they are vlan, checksum, segmentation, auto-mask, legacy-receive, throttle and receive-checksum, or all or none alone",
         ),
     ] {
         let folder = Folder::new();

@@ -14,7 +14,8 @@ use Rattle.offload.specs.declared.context.Transport.TheVariants.{Udp, Tcp, Sctp,
 use Rattle.offload.specs.declared.sums.Sums.{Sums}
 use Rattle.offload.specs.declared.sums.NotSummed.{NotSummed}
 use Rattle.offload.specs.declared.sums.NotSummed.TheVariants.{NotIpv4, IpOutside, TransportOutside, SctpUnsummed, NoProtocol}
-use Rattle.offload.proofs.Parts.{length-with_word, word_at-with_word, word_at-drop, length-middle, drop-middle, slice-middle, length-slice, drop-last, slice-last}
+use Rattle.internet_checksum.proofs.Written.{length-with_word, word_at-with_word}
+use Rattle.offload.proofs.Parts.{word_at-drop, length-middle, drop-middle, slice-middle, length-slice, drop-last, slice-last}
 
 -- ---- one header
 

@@ -9,10 +9,6 @@ use Rattle.internet_checksum.specs.Sum.{word_at, with_word}
 
 -- ---- a word
 
-pub length-with_word : (place word : ℕ) (bytes : List ℕ) → place + 2 ≤ length bytes → length (with_word place word bytes) ≡ length bytes
-length-with_word place word bytes fits =
-    omega (arith, length-append (take place bytes) (big_bytes 2 word ++ drop (place + 2) bytes), length-take-le place bytes (omega arith), length-drop (place + 2) bytes)
-
 -- bytes behind the word stay
 pub drop-with_word : (place word : ℕ) (bytes : List ℕ) (n : ℕ) → place + 2 ≤ n → place + 2 ≤ length bytes → drop n (with_word place word bytes) ≡ drop n bytes
 drop-with_word place word bytes n behind fits =
@@ -20,21 +16,6 @@ drop-with_word place word bytes n behind fits =
     omega (arith, length-append (take place bytes) (big_bytes 2 word), length-take-le place bytes (omega arith)) in
     ap (drop n) (sym (append_assoc (take place bytes) (big_bytes 2 word) (drop (place + 2) bytes)))
     ∙ drop-append-drop (place + 2) bytes (take place bytes ++ big_bytes 2 word) n behind front
-
--- the word that was written is read
-pub word_at-with_word : (place word : ℕ) (bytes : List ℕ) → place + 2 ≤ length bytes → word < 65536 → word_at place (with_word place word bytes) ≡ word
-word_at-with_word place word bytes fits small =
-    let front : length (take place bytes) ≡ place = length-take-le place bytes (omega arith) in
-    let behind : List ℕ = big_bytes 2 word ++ drop (place + 2) bytes in
-    let none : place - length (take place bytes) ≡ 0 = omega arith in
-    let one : place + 1 - length (take place bytes) ≡ 1 = omega arith in
-    let high = get_or-append_right (take place bytes) behind place 0 (omega arith) ∙ ap (λ (i : ℕ). get_or behind i 0) none in
-    let low = get_or-append_right (take place bytes) behind (place + 1) 0 (omega arith) ∙ ap (λ (i : ℕ). get_or behind i 0) one in
-    joined high low
-  where
-    joined : get_or (with_word place word bytes) place 0 ≡ word / 256 % 256 → get_or (with_word place word bytes) (place + 1) 0 ≡ word % 256
-        → word_at place (with_word place word bytes) ≡ word
-    joined high low = omega (arith, high, low)
 
 -- a word further on
 pub word_at-drop : (from place : ℕ) (bytes : List ℕ) → word_at place (drop from bytes) ≡ word_at (from + place) bytes

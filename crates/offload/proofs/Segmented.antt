@@ -13,7 +13,8 @@ use Rattle.offload.specs.Segment.{ip_of, pseudo_header, with_sequence, with_flag
 use Rattle.offload.specs.declared.context.Context.{Context}
 use Rattle.offload.specs.declared.context.Ip.{Ip}
 use Rattle.offload.specs.declared.context.Ip.TheVariants.{V4, V6}
-use Rattle.offload.proofs.Parts.{length-with_word, drop-with_word, word_at-with_word, length-middle, drop-middle, slice-middle, length-slice, length-last, drop-last, slice-last}
+use Rattle.internet_checksum.proofs.Written.{length-with_word, word_at-with_word}
+use Rattle.offload.proofs.Parts.{drop-with_word, length-middle, drop-middle, slice-middle, length-slice, length-last, drop-last, slice-last}
 use Rattle.offload.proofs.Pseudo.{length-part}
 use Rattle.offload.proofs.Checked.{length-header_summed, header_verifies, tcp_verifies}
 

@@ -7,7 +7,7 @@ use Rattle.internet_checksum.proofs.Adding.{folded-split}
 use Rattle.internet_checksum.proofs.Stored.{word_sum-around, word_sum-with_word}
 use Rattle.receive_checksum.specs.declared.check.Check.TheVariants.{Good, Bad}
 use Rattle.receive_checksum.specs.Checks.{judged, transport_sum}
-use Rattle.receive_checksum.proofs.Stored.{length-with_word}
+use Rattle.internet_checksum.proofs.Written.{length-with_word}
 
 -- two sums that verify differ by a multiple of 65535
 alike : (more other old new : ℕ) → folded (more + (old + other)) ≡ 65535 → folded (more + (new + other)) ≡ 65535 → new % 65535 ≡ old % 65535

@@ -16,7 +16,6 @@ mod frames;
 #[cfg(test)]
 mod function;
 #[cfg(test)]
-mod lent_blocks;
 #[cfg(test)]
 mod memory;
 #[cfg(test)]

@@ -130,6 +130,38 @@ word_sum-sixteen bytes first second more long =
     regrouped : (first second x y : ℕ) → first + x + (second + y) ≡ first + second + x + y
     regrouped first second x y = omega arith
 
+-- eight bytes from a place on
+eight_at : (place : ℕ) (bytes : List ℕ) (total more : ℕ) → place + 8 ≤ length bytes
+    → folded (256 * (total + little_number 8 (drop place bytes)) + (more + word_sum (drop (place + 8) bytes)))
+    ≡ folded (256 * total + (more + word_sum (drop place bytes)))
+eight_at place bytes total more long =
+    ap (λ (l : List ℕ). folded (256 * (total + little_number 8 (drop place bytes)) + (more + word_sum l))) (sym (drop-drop 8 place bytes))
+    ∙ word_sum-eight (drop place bytes) total more (omega (arith, length-drop place bytes))
+
+-- a block of 64 bytes
+pub word_sum-block : (bytes : List ℕ) (total more a b c d e f g h : ℕ) → 64 ≤ length bytes
+    → a ≡ little_number 8 (drop 0 bytes) → b ≡ little_number 8 (drop 8 bytes) → c ≡ little_number 8 (drop 16 bytes) → d ≡ little_number 8 (drop 24 bytes)
+    → e ≡ little_number 8 (drop 32 bytes) → f ≡ little_number 8 (drop 40 bytes) → g ≡ little_number 8 (drop 48 bytes) → h ≡ little_number 8 (drop 56 bytes)
+    → folded (256 * (total + a + b + c + d + e + f + g + h) + (more + word_sum (drop 64 bytes))) ≡ folded (256 * total + (more + word_sum bytes))
+word_sum-block bytes total more a b c d e f g h long ai bi ci di ei fi gi hi =
+    let n0 : ℕ = total in
+    let n1 : ℕ = n0 + little_number 8 (drop 0 bytes) in
+    let n2 : ℕ = n1 + little_number 8 (drop 8 bytes) in
+    let n3 : ℕ = n2 + little_number 8 (drop 16 bytes) in
+    let n4 : ℕ = n3 + little_number 8 (drop 24 bytes) in
+    let n5 : ℕ = n4 + little_number 8 (drop 32 bytes) in
+    let n6 : ℕ = n5 + little_number 8 (drop 40 bytes) in
+    let n7 : ℕ = n6 + little_number 8 (drop 48 bytes) in
+    rw (ai, bi, ci, di, ei, fi, gi, hi)
+    (eight_at 56 bytes n7 more (omega (arith, long))
+    ∙ eight_at 48 bytes n6 more (omega (arith, long))
+    ∙ eight_at 40 bytes n5 more (omega (arith, long))
+    ∙ eight_at 32 bytes n4 more (omega (arith, long))
+    ∙ eight_at 24 bytes n3 more (omega (arith, long))
+    ∙ eight_at 16 bytes n2 more (omega (arith, long))
+    ∙ eight_at 8 bytes n1 more (omega (arith, long))
+    ∙ eight_at 0 bytes n0 more (omega (arith, long)))
+
 -- four bytes as one number, the highest first, count as the two words that they are
 pub word_sum-four : (bytes : List ℕ) (more : ℕ) → 4 ≤ length bytes → folded (more + (big_number 4 bytes + word_sum (drop 4 bytes))) ≡ folded (more + word_sum bytes)
 word_sum-four (a ∷ (b ∷ (c ∷ (d ∷ rest)))) more long =

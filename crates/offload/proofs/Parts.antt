@@ -1,11 +1,12 @@
 -- Bytes in parts, of which one is written over.
 use Rattle.std.proofs.Common.{◌≡◌, ℕ, ◌+◌, ◌-◌, ◌*◌, ◌/◌, ◌%◌, ◌<◌, ◌≤◌, List, [], ◌∷◌, ◌++◌, length, take, drop, get_or, refl, sym, ap, ◌∙◌, arith, append_assoc, length-append, length-drop}
-use Rattle.std.proofs.lemmas.List.{take_at, drop_at, take-append-le, drop-append-le, length-take-le, drop-take, get_or-drop}
+use Rattle.std.proofs.lemmas.List.{take-append-drop, take_at, drop_at, take-append-le, drop-append-le, length-take-le, drop-take, get_or-drop}
 use Rattle.std.proofs.lemmas.Slice.{drop-append-drop}
 use Rattle.std.proofs.Math.Seq.{get_or-append_right}
 use Rattle.std.specs.Prelude.{slice_range}
 use Rattle.byteorder.specs.Endian.{big_bytes}
-use Rattle.internet_checksum.specs.Sum.{word_at, with_word}
+use Rattle.internet_checksum.specs.Sum.{word_sum, folded, word_at, with_word}
+use Rattle.internet_checksum.proofs.Adding.{folded-part, word_sum-append}
 
 -- ---- a word
 
@@ -65,3 +66,19 @@ slice-last m t bytes part order fits =
     ∙ take_at (drop m (take t bytes)) part (t - m) count
     ∙ ap (λ (n : ℕ). drop m (take n bytes)) (sym whole)
     ∙ drop-take m (t - m) bytes
+
+-- ---- a sum of two parts
+
+-- the sum of what stands behind an even number of bytes is what theirs starts from
+pub sum_in_two : (even : ℕ) (bytes : List ℕ) → even % 2 ≡ 0 → even ≤ length bytes
+    → folded (folded (word_sum (drop even bytes)) + word_sum (take even bytes)) ≡ folded (word_sum bytes)
+sum_in_two even bytes is fits =
+    let front : length (take even bytes) ≡ even = length-take-le even bytes fits in
+    folded-part (word_sum (drop even bytes)) (word_sum (take even bytes))
+    ∙ ap folded
+    (swapped (word_sum (drop even bytes)) (word_sum (take even bytes))
+    ∙ sym (word_sum-append (take even bytes) (drop even bytes) (ap (λ (n : ℕ). n % 2) front ∙ is))
+    ∙ ap word_sum (take-append-drop even bytes))
+  where
+    swapped : (m n : ℕ) → m + n ≡ n + m
+    swapped m n = omega arith

@@ -103,6 +103,17 @@ unfolding marked
 drop-marked c n last bytes from far least =
     drop-set-lt from (with_sequence (n * c.mss) bytes) 13 _ (omega arith) ∙ drop-with_sequence (n * c.mss) bytes from far least
 
+-- what is behind the header's first 20 bytes is the same before the sum
+pub drop_readied : (before flags partial : ℕ) (bytes moved new : List ℕ) → 20 ≤ length bytes → moved ≡ with_sequence before bytes
+    → new ≡ with_word 16 partial (set moved 13 flags) → drop 20 new ≡ drop 20 bytes
+drop_readied before flags partial bytes moved new least is made =
+    let one = ap length is ∙ length-with_sequence before bytes least in
+    ap (drop 20) made
+    ∙ drop-with_word 16 partial (set moved 13 flags) 20 (omega arith) (omega (arith, length-set moved 13 flags, one, least))
+    ∙ drop-set-lt 20 moved 13 flags (omega arith)
+    ∙ ap (drop 20) is
+    ∙ drop-with_sequence before bytes 20 (omega arith) least
+
 pub length-tcp_of : (c : Context) (n : ℕ) (last : Bool) (partial : ℕ) (bytes : List ℕ) → 20 ≤ length bytes → length (tcp_of c n last partial bytes) ≡ length bytes
 unfolding tcp_of tcp_summed marked
 length-tcp_of c n last partial bytes least =
@@ -134,9 +145,9 @@ tcp_of_verifies c n last more bytes least =
 
 -- ---- the segment
 
-record IsCopy (c : Context) (bytes : List ℕ) : Type 0 where
-  ip : ip_least c.ip ≤ c.iplen
-  tcp : transport_at c + 20 ≤ length bytes
+pub record IsCopy (c : Context) (bytes : List ℕ) : Type 0 where
+  pub ip : ip_least c.ip ≤ c.iplen
+  pub tcp : transport_at c + 20 ≤ length bytes
 
 length-ip_header : (c : Context) (bytes : List ℕ) → transport_at c ≤ length bytes → length (ip_header c bytes) ≡ c.iplen
 length-ip_header c bytes inside = length-slice c.maclen (transport_at c) bytes (omega arith) inside ∙ omega arith
@@ -153,6 +164,14 @@ length-with_ip_of c n bytes copy =
 drop-with_ip_of : (c : Context) (n : ℕ) (bytes : List ℕ) → IsCopy c bytes → drop (transport_at c) (with_ip_of c n bytes) ≡ drop (transport_at c) bytes
 drop-with_ip_of c n bytes copy =
     drop-middle c.maclen (transport_at c) bytes (ip_of c.ip n (length bytes - transport_at c) (ip_header c bytes)) (omega arith) (omega (arith, copy.tcp)) (length-new_header c n bytes copy)
+
+-- and what stands further behind
+pub drop_behind_ip : (c : Context) (n : ℕ) (bytes new : List ℕ) → IsCopy c bytes → new ≡ with_ip_of c n bytes
+    → drop (transport_at c + 20) new ≡ drop (transport_at c + 20) bytes
+drop_behind_ip c n bytes new copy is =
+    sym (drop-drop 20 (transport_at c) new)
+    ∙ ap (drop 20) (ap (drop (transport_at c)) is ∙ drop-with_ip_of c n bytes copy)
+    ∙ drop-drop 20 (transport_at c) bytes
 
 -- its parts
 drop-finished : (c : Context) (n : ℕ) (last : Bool) (bytes : List ℕ) → IsCopy c bytes

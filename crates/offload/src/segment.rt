@@ -8,7 +8,7 @@ ghost use Rattle.offload.specs.Segment.{ip_of, pseudo_header, with_sequence, fla
 use crate::context::{Context, Ip};
 use crate::cut::is_last;
 use crate::store::store_word;
-use crate::sums::{sum_header, sum_tcp};
+use crate::sums::{TCP_LEAST, sum_header, sum_tcp_onto};
 use byteorder::{BigEndian, ByteOrder};
 use internet_checksum::sum;
 
@@ -166,10 +166,21 @@ fn finish(bytes: &mut [u8], context: &Context, number: usize, is_last: bool)
     requires before { number * context.now.mss < 2 ^ 64 }
     ensures { bytes.new ≡ finished context.now number is_last bytes.old }
 {
+    // What is summed before anything is written doesn't wait for it: a processor sums on while the headers change.
+    let rest = sum_from(bytes, context.transport_at() + TCP_LEAST);
     let behind = (bytes.len() - context.transport_at()) as u16;
     let partial = pseudo_sum_within(bytes, context, behind);
     finish_ip(bytes, context, number, behind);
-    finish_tcp(bytes, context, number, is_last, partial);
+    finish_tcp(bytes, context, number, is_last, partial, rest);
+}
+
+// The sum of the bytes from a place on.
+#[inline]
+fn sum_from(bytes: &[u8], place: usize) -> u16
+    requires { place ≤ length bytes.now }
+    ensures { result ≡ folded (word_sum (drop place bytes.now)) }
+{
+    sum(&bytes[place..], 0)
 }
 
 // The sum of the pseudo header of a segment.
@@ -240,10 +251,18 @@ fn size_ipv6(header: &mut [u8], behind: u16)
     store_word(header, IPV6_PAYLOAD, length);
 }
 
-// Makes the TCP header that of a segment.
-fn finish_tcp(bytes: &mut [u8], context: &Context, number: usize, is_last: bool, partial: u16)
+// Makes the TCP header that of a segment. The sum of what stands behind its first 20 bytes is known.
+fn finish_tcp(
+    bytes: &mut [u8],
+    context: &Context,
+    number: usize,
+    is_last: bool,
+    partial: u16,
+    rest: u16,
+)
     requires tcp { transport_at context.now + 20 ≤ length bytes.old }
     requires before { number * context.now.mss < 2 ^ 64 }
+    requires rest { rest ≡ folded (word_sum (drop (transport_at context.now + 20) bytes.old)) }
     ensures { bytes.new ≡ with_tcp_of context.now number is_last partial bytes.old }
 {
     number_tcp(
@@ -252,21 +271,30 @@ fn finish_tcp(bytes: &mut [u8], context: &Context, number: usize, is_last: bool,
         number,
         is_last,
         partial,
+        rest,
     );
 }
 
 // Sequence number, flags and checksum of a TCP header with its payload.
 #[tactic(auto, unfolding(crate::specs::Segment::tcp_of))]
-fn number_tcp(bytes: &mut [u8], context: &Context, number: usize, is_last: bool, partial: u16)
+fn number_tcp(
+    bytes: &mut [u8],
+    context: &Context,
+    number: usize,
+    is_last: bool,
+    partial: u16,
+    rest: u16,
+)
     requires tcp { 20 ≤ length bytes.old }
     requires before { number * context.now.mss < 2 ^ 64 }
+    requires rest { rest ≡ folded (word_sum (drop 20 bytes.old)) }
     ensures { bytes.new ≡ tcp_of context.now number is_last partial bytes.old }
 {
     move_sequence(bytes, number * usize::from(context.mss));
     let flags = bytes[TCP_FLAGS];
     bytes[TCP_FLAGS] = flags_of(number == 0, is_last, flags);
     store_word(bytes, TCP_CHECKSUM, partial);
-    sum_tcp(bytes);
+    sum_tcp_onto(bytes, rest);
 }
 
 // Moves the sequence number on.

@@ -10,7 +10,7 @@
 #include <stdio.h>
 #include <stdlib.h>
 
-enum { ROUNDS = 20, SLOTS = 128, BURST = 64, HEADERS = 54, MSS = 1448, SEGMENTS = 45, FRAME = 0x20000, BUFFERS = 0x10000 };
+enum { ROUNDS = 20, SLOTS = 128, BURST = 64, HEADERS = 54, MSS = 1448, SEGMENTS = 45, FRAME = 0x20000, FRAMES = 0x40000, BUFFERS = 0x10000 };
 
 static uint8_t memory[2][1 << 19], room[VFDEV_CARD_ROOM];
 static vfdev_card card = VFDEV_CARD_NONE;
@@ -50,7 +50,6 @@ static void give(uint32_t buffers, uint32_t descriptors)
 
 static void burst(void) { give(BURST, BURST); }
 static void pairs(void) { give(BURST / 2, BURST); }
-static void plain_large(void) { give(SEGMENTS, SEGMENTS); }
 static void one_large(void) { give(SEGMENTS, 1); }
 
 static void serve(void)
@@ -68,13 +67,11 @@ static void serve(void)
 enum { DATA = 0x29300000, VLE = 1 << 30 };
 static const uint64_t CONTEXT = 0x20200c00 | (uint64_t)20 << 40 | (uint64_t)MSS << 48, LENGTHS = 14 << 9 | 20, TXSM = 1ull << 41;
 
-static void all_plain(uint32_t length)
+static void plain_60(void)
 {
     for (uint32_t slot = 0; slot < SLOTS; slot++)
-        put(slot, FRAME, DATA | length);
+        put(slot, FRAME, DATA | 60);
 }
-static void plain_60(void) { all_plain(60); }
-static void plain_1502(void) { all_plain(HEADERS + MSS); }
 
 static void summed(void)
 {
@@ -94,6 +91,14 @@ static void cut(void)
         put(slot, FRAME, 1ull << 31 | DATA | (HEADERS + SEGMENTS * MSS));
 }
 
+/* The bytes that `cut` sends, in frames that lie behind one another as a driver would have made them. */
+static void plain_large(void)
+{
+    for (uint32_t i = 0; i < SEGMENTS; i++)
+        put((sent + i) % SLOTS, FRAMES + (HEADERS + MSS) * i, DATA | (HEADERS + MSS));
+    give(SEGMENTS, SEGMENTS);
+}
+
 static const struct row {
     const char *name;
     void (*fill)(void), (*before)(void);
@@ -102,7 +107,7 @@ static const struct row {
     {"60 bytes, as they stand", plain_60, burst, BURST},
     {"60 bytes, a context before each, with tag and sum", summed_in_pairs, pairs, BURST / 2},
     {"60 bytes with tag and sum, under one context", summed, burst, BURST},
-    {"1,502 bytes, as they stand", plain_1502, plain_large, SEGMENTS},
+    {"1,502 bytes, as they stand", nothing, plain_large, SEGMENTS},
     {"1,502 bytes, cut from 65,214", cut, one_large, SEGMENTS},
 };
 
@@ -135,6 +140,13 @@ int main(void)
     start_driver(0);
     start_driver(1);
     memcpy(memory[0] + FRAME, headers, HEADERS);
+    for (uint32_t at = 0; at < SEGMENTS * MSS; at++)
+        memory[0][FRAME + HEADERS + at] = (uint8_t)(at * 2654435761u >> 13);
+    for (uint32_t i = 0; i < SEGMENTS; i++) {
+        uint8_t *frame = memory[0] + FRAMES + (HEADERS + MSS) * i;
+        memcpy(frame, headers, HEADERS);
+        memcpy(frame + HEADERS, memory[0] + FRAME + HEADERS + MSS * i, MSS);
+    }
     printf("| A frame of | ns |\n|---|---|\n");
     for (size_t i = 0; i < sizeof ROWS / sizeof *ROWS; i++) {
         const struct row *row = &ROWS[i];

@@ -21,7 +21,8 @@ use std::alloc::{AllocError, Global};
 use std::marker::Model;
 use wire_frame::{FrameBuf, FrameLimit, PortVlan, is_tagged};
 
-/// How many bytes there is room for: those of the longest frame that is to be cut, and one segment behind it.
+/// How many bytes there is room for: those of the longest frame that is to be cut, and behind them what stands where the headers of one
+/// segment are made meanwhile, which are no longer than the longest frame that may leave.
 const ROOM: usize = MOST_CUT + 9018;
 
 /// The bytes gathered so far of the frame that is being sent, or that they are too many.
@@ -232,7 +233,7 @@ fn leave_front(
     requires start { len ≤ length cells.old.items }
     requires size { cut.now.size ≡ len }
     requires number { number < segment_count cut.now.context len }
-    requires room { len + longest cut.now.context len ≤ vec_capacity cells.old }
+    requires room { len + payload_at cut.now.context ≤ vec_capacity cells.old }
     ensures kept { take len cells.new.items ≡ take len cells.old.items }
     ensures inside { len ≤ length cells.new.items }
     ensures value { leaving terms.now.rule terms.now.limit tag

@@ -131,9 +131,10 @@ fn narrow(total: u128) -> u64
     (total % 0x1_0000_0000 + total / 0x1_0000_0000) as u64
 }
 
-// A sum of 64 bits in ones' complement of 16.
+/// A number as a sum of 16 bits in ones' complement: what goes beyond the highest bit is added at the lowest. 0 comes from 0 alone. So the
+/// sum of words that a caller has added up, as where it knows what is to stand in a header.
 #[inline]
-fn fold(total: u64) -> u16
+pub fn fold(total: u64) -> u16
     ensures { result ≡ folded total }
 {
     let total = total % 0x1_0000_0000 + total / 0x1_0000_0000;

@@ -1,12 +1,12 @@
 -- Bytes in parts, of which one is written over.
-use Rattle.std.proofs.Common.{◌≡◌, ℕ, ◌+◌, ◌-◌, ◌*◌, ◌/◌, ◌%◌, ◌<◌, ◌≤◌, List, [], ◌∷◌, ◌++◌, length, take, drop, get_or, refl, sym, ap, ◌∙◌, arith, append_assoc, length-append, length-drop}
-use Rattle.std.proofs.lemmas.List.{take-append-drop, take_at, drop_at, take-append-le, drop-append-le, length-take-le, drop-take, get_or-drop}
+use Rattle.std.proofs.Common.{◌≡◌, ℕ, ◌+◌, ◌-◌, ◌*◌, ◌/◌, ◌%◌, ◌<◌, ◌≤◌, List, [], ◌∷◌, ◌++◌, length, take, drop, get_or, set, refl, sym, ap, ◌∙◌, arith, append_assoc, length-append, length-drop}
+use Rattle.std.proofs.lemmas.List.{take_at, drop_at, take-append-le, drop-append-le, length-take-le, drop-take, get_or-drop}
 use Rattle.std.proofs.lemmas.Slice.{drop-append-drop}
 use Rattle.std.proofs.Math.Seq.{get_or-append_right}
 use Rattle.std.specs.Prelude.{slice_range}
 use Rattle.byteorder.specs.Endian.{big_bytes}
-use Rattle.internet_checksum.specs.Sum.{word_sum, folded, word_at, with_word}
-use Rattle.internet_checksum.proofs.Adding.{folded-part, word_sum-append}
+use Rattle.internet_checksum.specs.Sum.{word_sum, word_at, with_word}
+use Rattle.internet_checksum.proofs.Adding.{word_sum-two}
 
 -- ---- a word
 
@@ -17,6 +17,14 @@ drop-with_word place word bytes n behind fits =
     omega (arith, length-append (take place bytes) (big_bytes 2 word), length-take-le place bytes (omega arith)) in
     ap (drop n) (sym (append_assoc (take place bytes) (big_bytes 2 word) (drop (place + 2) bytes)))
     ∙ drop-append-drop (place + 2) bytes (take place bytes ++ big_bytes 2 word) n behind front
+
+-- a word over another
+pub overwritten : (place first second : ℕ) (bytes : List ℕ) → place + 2 ≤ length bytes
+    → with_word place second (with_word place first bytes) ≡ with_word place second bytes
+overwritten place first second bytes fits =
+    ap (λ (l : List ℕ). l ++ (big_bytes 2 second ++ drop (place + 2) (with_word place first bytes)))
+    (take_at (take place bytes) (big_bytes 2 first ++ drop (place + 2) bytes) place (length-take-le place bytes (omega arith)))
+    ∙ ap (λ (l : List ℕ). take place bytes ++ (big_bytes 2 second ++ l)) (drop-with_word place first bytes (place + 2) (omega arith) fits)
 
 -- a word further on
 pub word_at-drop : (from place : ℕ) (bytes : List ℕ) → word_at place (drop from bytes) ≡ word_at (from + place) bytes
@@ -67,18 +75,33 @@ slice-last m t bytes part order fits =
     ∙ ap (λ (n : ℕ). drop m (take n bytes)) (sym whole)
     ∙ drop-take m (t - m) bytes
 
--- ---- a sum of two parts
+-- ---- a sum of words that are to be written
 
--- the sum of what stands behind an even number of bytes is what theirs starts from
-pub sum_in_two : (even : ℕ) (bytes : List ℕ) → even % 2 ≡ 0 → even ≤ length bytes
-    → folded (folded (word_sum (drop even bytes)) + word_sum (take even bytes)) ≡ folded (word_sum bytes)
-sum_in_two even bytes is fits =
-    let front : length (take even bytes) ≡ even = length-take-le even bytes fits in
-    folded-part (word_sum (drop even bytes)) (word_sum (take even bytes))
-    ∙ ap folded
-    (swapped (word_sum (drop even bytes)) (word_sum (take even bytes))
-    ∙ sym (word_sum-append (take even bytes) (drop even bytes) (ap (λ (n : ℕ). n % 2) front ∙ is))
-    ∙ ap word_sum (take-append-drop even bytes))
+-- the first six words, and the others
+word_sum-six : (a b c d e f g h i j k l : ℕ) (rest : List ℕ)
+    → word_sum (a ∷ (b ∷ (c ∷ (d ∷ (e ∷ (f ∷ (g ∷ (h ∷ (i ∷ (j ∷ (k ∷ (l ∷ rest))))))))))))
+    ≡ a * 256 + b + (c * 256 + d + (e * 256 + f + (g * 256 + h + (i * 256 + j + (k * 256 + l + word_sum rest)))))
+word_sum-six a b c d e f g h i j k l rest =
+    rw (word_sum-two a b (c ∷ (d ∷ (e ∷ (f ∷ (g ∷ (h ∷ (i ∷ (j ∷ (k ∷ (l ∷ rest)))))))))), word_sum-two c d (e ∷ (f ∷ (g ∷ (h ∷ (i ∷ (j ∷ (k ∷ (l ∷ rest)))))))), word_sum-two e f (g ∷ (h ∷ (i ∷ (j ∷ (k ∷ (l ∷ rest)))))), word_sum-two g h (i ∷ (j ∷ (k ∷ (l ∷ rest)))), word_sum-two i j (k ∷ (l ∷ rest)), word_sum-two k l rest) refl
+
+-- an IPv4 header with a length and an identification, without its checksum
+pub numbered_sum : (total identification : ℕ) (header : List ℕ) → 12 ≤ length header → total < 65536 → identification < 65536
+    → word_at 0 header + word_at 6 header + word_at 8 header + total + identification + word_sum (drop 12 header)
+    ≡ word_sum (with_word 10 0 (with_word 4 identification (with_word 2 total header)))
+numbered_sum total identification (a ∷ (b ∷ (c ∷ (d ∷ (e ∷ (f ∷ (g ∷ (h ∷ (i ∷ (j ∷ (k ∷ (l ∷ rest)))))))))))) long small low =
+    sym (word_sum-six a b (total / 256 % 256) (total % 256) (identification / 256 % 256) (identification % 256) g h i j 0 0 rest ∙ omega arith)
+numbered_sum total identification _ long small low = absurd (omega (arith, long))
+
+-- a TCP header with flags and a partial sum
+pub marked_sum : (flags partial : ℕ) (bytes : List ℕ) → 20 ≤ length bytes → partial < 65536
+    → word_at 0 bytes + word_at 2 bytes + (word_at 4 bytes + word_at 6 bytes + word_at 8 bytes + word_at 10 bytes)
+    + (get_or bytes 12 0 * 256 + flags) + (word_at 14 bytes + word_at 18 bytes) + partial + word_sum (drop 20 bytes)
+    ≡ word_sum (with_word 16 partial (set bytes 13 flags))
+marked_sum flags partial (a ∷ (b ∷ (c ∷ (d ∷ (e ∷ (f ∷ (g ∷ (h ∷ (i ∷ (j ∷ (k ∷ (l ∷ (m ∷ (n ∷ (o ∷ (p ∷ (q ∷ (r ∷ (s ∷ (t ∷ rest)))))))))))))))))))) long small =
+    sym (word_sum-six a b c d e f g h i j k l (m ∷ (flags ∷ (o ∷ (p ∷ (partial / 256 % 256 ∷ (partial % 256 ∷ (s ∷ (t ∷ rest)))))))) ∙ omega (arith, behind m flags o p (partial / 256 % 256) (partial % 256) s t rest))
   where
-    swapped : (m n : ℕ) → m + n ≡ n + m
-    swapped m n = omega arith
+    behind : (a b c d e f g h : ℕ) (rest : List ℕ)
+        → word_sum (a ∷ (b ∷ (c ∷ (d ∷ (e ∷ (f ∷ (g ∷ (h ∷ rest)))))))) ≡ a * 256 + b + (c * 256 + d + (e * 256 + f + (g * 256 + h + word_sum rest)))
+    behind a b c d e f g h rest =
+        rw (word_sum-two a b (c ∷ (d ∷ (e ∷ (f ∷ (g ∷ (h ∷ rest)))))), word_sum-two c d (e ∷ (f ∷ (g ∷ (h ∷ rest)))), word_sum-two e f (g ∷ (h ∷ rest)), word_sum-two g h rest) refl
+marked_sum flags partial _ long small = absurd (omega (arith, long))

@@ -83,7 +83,7 @@ unfolding with_sequence
 length-with_sequence before bytes least =
     omega (arith, length-append (take 4 bytes) (big_bytes 4 ((big_number 4 (drop 4 bytes) + before) % 2 ^ 32) ++ drop 8 bytes), length-take-le 4 bytes (omega arith), length-drop 8 bytes)
 
-drop-with_sequence : (before : ℕ) (bytes : List ℕ) (n : ℕ) → 20 ≤ n → 20 ≤ length bytes → drop n (with_sequence before bytes) ≡ drop n bytes
+pub drop-with_sequence : (before : ℕ) (bytes : List ℕ) (n : ℕ) → 20 ≤ n → 20 ≤ length bytes → drop n (with_sequence before bytes) ≡ drop n bytes
 unfolding with_sequence
 drop-with_sequence before bytes n far least =
     let new : List ℕ = big_bytes 4 ((big_number 4 (drop 4 bytes) + before) % 2 ^ 32) in
@@ -102,17 +102,6 @@ drop-marked : (c : Context) (n : ℕ) (last : Bool) (bytes : List ℕ) (from : �
 unfolding marked
 drop-marked c n last bytes from far least =
     drop-set-lt from (with_sequence (n * c.mss) bytes) 13 _ (omega arith) ∙ drop-with_sequence (n * c.mss) bytes from far least
-
--- what is behind the header's first 20 bytes is the same before the sum
-pub drop_readied : (before flags partial : ℕ) (bytes moved new : List ℕ) → 20 ≤ length bytes → moved ≡ with_sequence before bytes
-    → new ≡ with_word 16 partial (set moved 13 flags) → drop 20 new ≡ drop 20 bytes
-drop_readied before flags partial bytes moved new least is made =
-    let one = ap length is ∙ length-with_sequence before bytes least in
-    ap (drop 20) made
-    ∙ drop-with_word 16 partial (set moved 13 flags) 20 (omega arith) (omega (arith, length-set moved 13 flags, one, least))
-    ∙ drop-set-lt 20 moved 13 flags (omega arith)
-    ∙ ap (drop 20) is
-    ∙ drop-with_sequence before bytes 20 (omega arith) least
 
 pub length-tcp_of : (c : Context) (n : ℕ) (last : Bool) (partial : ℕ) (bytes : List ℕ) → 20 ≤ length bytes → length (tcp_of c n last partial bytes) ≡ length bytes
 unfolding tcp_of tcp_summed marked

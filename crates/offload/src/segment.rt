@@ -1,16 +1,17 @@
 //! The segments of a frame.
-ghost use Rattle.std.specs.Prelude.{◌≡◌, ◌+◌, ◌-◌, ◌*◌, ◌/◌, ◌<◌, ◌≤◌, ◌++◌, ◌==◌, ◌^◌, ℕ, true, length, drop, take, slice_range, slice_index};
-ghost use Rattle.internet_checksum.specs.Sum.{word_sum, folded};
+ghost use Rattle.std.specs.Prelude.{◌≡◌, ◌+◌, ◌-◌, ◌*◌, ◌/◌, ◌<◌, ◌≤◌, ◌++◌, ◌==◌, ◌^◌, ℕ, true, length, drop, take, slice_range, slice_index, slice_set};
+ghost use Rattle.internet_checksum.specs.Sum.{word_sum, folded, checksum, with_word};
 ghost use Rattle.offload.specs.Context.{transport_at, payload_at};
 ghost use Rattle.offload.specs.Cut.{IsCut, ip_least, longest, segment_count};
+ghost use Rattle.offload.specs.Sums.{header_cleared};
 ghost use Rattle.offload.specs.Segment.{ip_of, pseudo_header, with_sequence, flags_of, with_flags, tcp_of, finished, pseudo_of, with_ip_of, with_tcp_of, piece, segment_of};
 
 use crate::context::{Context, Ip};
 use crate::cut::is_last;
-use crate::store::store_word;
-use crate::sums::{TCP_LEAST, sum_header, sum_tcp_onto};
+use crate::store::{load_word, store_word};
+use crate::sums::{IPV4_CHECKSUM, TCP_CHECKSUM, TCP_LEAST};
 use byteorder::{BigEndian, ByteOrder};
-use internet_checksum::sum;
+use internet_checksum::{fold, sum};
 
 /// Where the total length of an IPv4 header stands (RFC 791, 3.1).
 const IPV4_TOTAL: usize = 2;
@@ -32,10 +33,10 @@ const IPV6_ADDRESSES_END: usize = 40;
 const TCP: u16 = 6;
 /// Where the sequence number of a TCP header stands.
 const TCP_SEQUENCE: usize = 4;
+/// Where its offset stands, in front of the flags.
+const TCP_OFFSET: usize = 12;
 /// Where its flags stand.
 const TCP_FLAGS: usize = 13;
-/// Where its checksum stands.
-const TCP_CHECKSUM: usize = 16;
 /// Congestion window reduced.
 const CWR: u8 = 0x80;
 /// Push.
@@ -227,17 +228,32 @@ fn finish_ip(bytes: &mut [u8], context: &Context, number: usize, behind: u16)
 }
 
 // Length, identification and checksum of an IPv4 header.
-#[tactic(auto, unfolding(crate::specs::Segment::ip_of))]
+#[tactic(auto, unfolding(crate::specs::Segment::ip_of, crate::specs::Sums::header_summed), using(crate::proofs::Parts::overwritten))]
 fn number_ipv4(header: &mut [u8], number: usize, behind: u16)
     requires least { 20 ≤ length header.old }
     requires few { length header.old + behind ≤ 65535 }
     ensures { header.new ≡ ip_of Ip.V4 number behind header.old }
 {
-    let first = BigEndian::read_u16(&header[IPV4_IDENTIFICATION..]);
+    let first = load_word(header, IPV4_IDENTIFICATION);
     let identification = ((usize::from(first) + number % 65536) % 65536) as u16;
-    store_word(header, IPV4_TOTAL, header.len() as u16 + behind);
+    let total = header.len() as u16 + behind;
+    let sum = numbered_checksum(header, total, identification);
+    store_word(header, IPV4_TOTAL, total);
     store_word(header, IPV4_IDENTIFICATION, identification);
-    sum_header(header);
+    store_word(header, IPV4_CHECKSUM, sum);
+}
+
+// The checksum of an IPv4 header that is to have this length and identification. It is made before they are written, which the sum of the
+// header would have to wait for.
+fn numbered_checksum(header: &[u8], total: u16, identification: u16) -> u16
+    requires { 20 ≤ length header.now }
+    ensures { result ≡ checksum (header_cleared (with_word 4 identification (with_word 2 total header.now))) }
+{
+    let fixed = u64::from(load_word(header, 0))
+        + u64::from(load_word(header, 6))
+        + u64::from(load_word(header, 8));
+    let rest = sum_from(header, IPV4_ADDRESSES);
+    u16::MAX - fold(fixed + u64::from(total) + u64::from(identification) + u64::from(rest))
 }
 
 // The length in an IPv6 header.
@@ -276,7 +292,7 @@ fn finish_tcp(
 }
 
 // Sequence number, flags and checksum of a TCP header with its payload.
-#[tactic(auto, unfolding(crate::specs::Segment::tcp_of))]
+#[tactic(auto, unfolding(crate::specs::Segment::tcp_of, crate::specs::Sums::tcp_summed), using(crate::proofs::Parts::overwritten))]
 fn number_tcp(
     bytes: &mut [u8],
     context: &Context,
@@ -291,10 +307,28 @@ fn number_tcp(
     ensures { bytes.new ≡ tcp_of context.now number is_last partial bytes.old }
 {
     move_sequence(bytes, number * usize::from(context.mss));
-    let flags = bytes[TCP_FLAGS];
-    bytes[TCP_FLAGS] = flags_of(number == 0, is_last, flags);
-    store_word(bytes, TCP_CHECKSUM, partial);
-    sum_tcp_onto(bytes, rest);
+    let flags = flags_of(number == 0, is_last, bytes[TCP_FLAGS]);
+    let sum = marked_checksum(bytes, flags, partial, rest);
+    bytes[TCP_FLAGS] = flags;
+    store_word(bytes, TCP_CHECKSUM, sum);
+}
+
+// The checksum of a TCP header that is to have these flags and this partial sum, with its payload; of what stands behind its first 20 bytes
+// the sum is known. It is made before they are written, as that of an IPv4 header is.
+fn marked_checksum(bytes: &[u8], flags: u8, partial: u16, rest: u16) -> u16
+    requires least { 20 ≤ length bytes.now }
+    requires rest { rest ≡ folded (word_sum (drop 20 bytes.now)) }
+    ensures { result ≡ checksum (with_word 16 partial (slice_set bytes.now 13 flags)) }
+{
+    let ports = u64::from(load_word(bytes, 0)) + u64::from(load_word(bytes, 2));
+    let numbers = u64::from(load_word(bytes, 4))
+        + u64::from(load_word(bytes, 6))
+        + u64::from(load_word(bytes, 8))
+        + u64::from(load_word(bytes, 10));
+    let marks = u64::from(bytes[TCP_OFFSET]) * 256 + u64::from(flags);
+    let others = u64::from(load_word(bytes, 14)) + u64::from(load_word(bytes, 18));
+    let known = u64::from(partial) + u64::from(rest);
+    u16::MAX - fold(ports + numbers + marks + others + known)
 }
 
 // Moves the sequence number on.

@@ -1,23 +1,23 @@
 //! Checksums of a frame: that of the IPv4 header, and that of TCP or UDP.
 ghost use Rattle.std.specs.Prelude.{◌≡◌, ◌+◌, ◌<◌, ◌≤◌, ◌++◌, length, take, drop, slice_range, is_ok, true, Option, None, if◌then◌else◌};
 ghost use Rattle.std.specs.Result.{result_err};
-ghost use Rattle.internet_checksum.specs.Sum.{word_sum, folded, with_word};
+ghost use Rattle.internet_checksum.specs.Sum.{with_word};
 ghost use Rattle.offload.specs.Context.{transport_at};
 ghost use Rattle.offload.specs.Sums.{header_summed, tcp_summed, udp_summed, transport_summed, ip_refusal, transport_refusal, refusal, summed};
 
 use crate::context::{Context, Ip, Transport};
 use crate::store::store_word;
-use internet_checksum::{checksum, never_zero, sum};
+use internet_checksum::{checksum, never_zero};
 use thiserror::Error;
 
 /// How short an IPv4 header can be (RFC 791, 3.1).
 const IPV4_LEAST: u16 = 20;
 /// Where its checksum stands.
-const IPV4_CHECKSUM: usize = 10;
+pub(crate) const IPV4_CHECKSUM: usize = 10;
 /// How short a TCP header can be (RFC 9293, 3.1).
 pub(crate) const TCP_LEAST: usize = 20;
 /// Where its checksum stands.
-const TCP_CHECKSUM: usize = 16;
+pub(crate) const TCP_CHECKSUM: usize = 16;
 /// How long a UDP header is (RFC 768).
 const UDP_LEAST: usize = 8;
 /// Where its checksum stands.
@@ -157,10 +157,10 @@ fn sum_behind(frame: &mut [u8], transport: Transport, from: usize)
     sum_transport(&mut frame[from..], transport);
 }
 
-/// Puts the checksum of an IPv4 header into its field, whatever stood there.
+// Puts the checksum of an IPv4 header into its field, whatever stood there.
 #[inline]
 #[tactic(auto, unfolding(crate::specs::Sums::header_summed))]
-pub(crate) fn sum_header(header: &mut [u8])
+fn sum_header(header: &mut [u8])
     requires { 20 ≤ length header.old }
     ensures { header.new ≡ header_summed header.old }
 {
@@ -192,18 +192,6 @@ fn sum_tcp(bytes: &mut [u8])
     ensures { bytes.new ≡ tcp_summed bytes.old }
 {
     let sum = checksum(bytes);
-    store_word(bytes, TCP_CHECKSUM, sum);
-}
-
-/// The same, where the sum of what stands behind the header's first 20 bytes is known.
-#[inline]
-#[tactic(auto, unfolding(crate::specs::Sums::tcp_summed), using(crate::proofs::Parts::sum_in_two))]
-pub(crate) fn sum_tcp_onto(bytes: &mut [u8], rest: u16)
-    requires least { 20 ≤ length bytes.old }
-    requires rest { rest ≡ folded (word_sum (drop 20 bytes.old)) }
-    ensures { bytes.new ≡ tcp_summed bytes.old }
-{
-    let sum = u16::MAX - sum(&bytes[..TCP_LEAST], rest);
     store_word(bytes, TCP_CHECKSUM, sum);
 }
 

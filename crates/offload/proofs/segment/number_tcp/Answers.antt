@@ -1,12 +1,11 @@
--- What is written stands in the header's first 20 bytes.
-use Rattle.std.proofs.Common.{◌≡◌, ℕ, ◌*◌, List, sym, ap, ◌∙◌}
+-- The sequence number stands in the header's first 20 bytes.
+use Rattle.std.proofs.Common.{◌≡◌, ℕ, ◌*◌, List, drop, sym, ap, ◌∙◌, arith}
 use Rattle.internet_checksum.specs.Sum.{word_sum, folded}
-use Rattle.offload.proofs.Segmented.{drop_readied}
+use Rattle.offload.proofs.Segmented.{drop-with_sequence}
 use Rattle.offload.proofs.segment.number_tcp.Goals as goal
 
-pub sum_tcp_onto-requires-clause-rest : goal.sum_tcp_onto-requires-clause-rest
-sum_tcp_onto-requires-clause-rest c =
+pub marked_checksum-sum-requires-clause-rest : goal.marked_checksum-sum-requires-clause-rest
+marked_checksum-sum-requires-clause-rest c =
     c.requires.rest
     ∙ ap (λ (l : List ℕ). folded (word_sum l))
-    (sym (drop_readied (c.args.number * c.from.result) c.flags_of.result c.args.partial c.args.bytes.now c.move_sequence.new.bytes c.store_word.new.bytes c.requires.tcp
-    c.move_sequence.ensures c.store_word.ensures.bytes))
+    (sym (ap (drop 20) c.move_sequence.ensures ∙ drop-with_sequence (c.args.number * c.from.result) c.args.bytes.now 20 (omega arith) c.requires.tcp))

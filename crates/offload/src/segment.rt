@@ -13,10 +13,16 @@ use crate::sums::{IPV4_CHECKSUM, TCP_CHECKSUM, TCP_LEAST};
 use byteorder::{BigEndian, ByteOrder};
 use internet_checksum::{fold, sum};
 
-/// Where the total length of an IPv4 header stands (RFC 791, 3.1).
+/// Where the version of an IPv4 header stands, with its length and type of service (RFC 791, 3.1).
+const IPV4_VERSION: usize = 0;
+/// Where its total length stands.
 const IPV4_TOTAL: usize = 2;
 /// Where its identification stands.
 const IPV4_IDENTIFICATION: usize = 4;
+/// Where the offset of its fragment stands.
+const IPV4_FRAGMENT: usize = 6;
+/// Where its time to live stands, with its protocol.
+const IPV4_TIME: usize = 8;
 /// Where its addresses stand.
 const IPV4_ADDRESSES: usize = 12;
 
@@ -31,12 +37,22 @@ const IPV6_ADDRESSES: usize = 8;
 const IPV6_ADDRESSES_END: usize = 40;
 /// The number of TCP as a protocol (RFC 9293, 3.1).
 const TCP: u16 = 6;
-/// Where the sequence number of a TCP header stands.
+/// Where the source port of a TCP header stands.
+const TCP_SOURCE: usize = 0;
+/// Where its destination port stands.
+const TCP_DESTINATION: usize = 2;
+/// Where its sequence number stands.
 const TCP_SEQUENCE: usize = 4;
+/// Where its acknowledgment number stands.
+const TCP_ACKNOWLEDGMENT: usize = 8;
 /// Where its offset stands, in front of the flags.
 const TCP_OFFSET: usize = 12;
 /// Where its flags stand.
 const TCP_FLAGS: usize = 13;
+/// Where its window stands.
+const TCP_WINDOW: usize = 14;
+/// Where its urgent pointer stands.
+const TCP_URGENT: usize = 18;
 /// Congestion window reduced.
 const CWR: u8 = 0x80;
 /// Push.
@@ -249,9 +265,9 @@ fn numbered_checksum(header: &[u8], total: u16, identification: u16) -> u16
     requires { 20 ≤ length header.now }
     ensures { result ≡ checksum (header_cleared (with_word 4 identification (with_word 2 total header.now))) }
 {
-    let fixed = u64::from(load_word(header, 0))
-        + u64::from(load_word(header, 6))
-        + u64::from(load_word(header, 8));
+    let fixed = u64::from(load_word(header, IPV4_VERSION))
+        + u64::from(load_word(header, IPV4_FRAGMENT))
+        + u64::from(load_word(header, IPV4_TIME));
     let rest = sum_from(header, IPV4_ADDRESSES);
     u16::MAX - fold(fixed + u64::from(total) + u64::from(identification) + u64::from(rest))
 }
@@ -320,13 +336,14 @@ fn marked_checksum(bytes: &[u8], flags: u8, partial: u16, rest: u16) -> u16
     requires rest { rest ≡ folded (word_sum (drop 20 bytes.now)) }
     ensures { result ≡ checksum (with_word 16 partial (slice_set bytes.now 13 flags)) }
 {
-    let ports = u64::from(load_word(bytes, 0)) + u64::from(load_word(bytes, 2));
-    let numbers = u64::from(load_word(bytes, 4))
-        + u64::from(load_word(bytes, 6))
-        + u64::from(load_word(bytes, 8))
-        + u64::from(load_word(bytes, 10));
+    let ports = u64::from(load_word(bytes, TCP_SOURCE))
+        + u64::from(load_word(bytes, TCP_DESTINATION));
+    let numbers = u64::from(load_word(bytes, TCP_SEQUENCE))
+        + u64::from(load_word(bytes, TCP_SEQUENCE + 2))
+        + u64::from(load_word(bytes, TCP_ACKNOWLEDGMENT))
+        + u64::from(load_word(bytes, TCP_ACKNOWLEDGMENT + 2));
     let marks = u64::from(bytes[TCP_OFFSET]) * 256 + u64::from(flags);
-    let others = u64::from(load_word(bytes, 14)) + u64::from(load_word(bytes, 18));
+    let others = u64::from(load_word(bytes, TCP_WINDOW)) + u64::from(load_word(bytes, TCP_URGENT));
     let known = u64::from(partial) + u64::from(rest);
     u16::MAX - fold(ports + numbers + marks + others + known)
 }

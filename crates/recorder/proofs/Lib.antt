@@ -3,4 +3,3 @@ mod RaiseLemmas
 mod ReadLemmas
 mod ShareLemmas
 mod SizeLemmas
-mod Walks

@@ -4,3 +4,4 @@ pub mod Held
 pub mod Made
 pub mod Read
 pub mod Inside
+pub mod Asked

@@ -1,24 +1,48 @@
 //! Calls that contracts alone see.
-ghost use Rattle.std.specs.Borrow.{ftrue};
-ghost use Rattle.std.specs.Prelude.{◌≡◌, List, [], ◌∷◌, ◌++◌};
-ghost use Rattle.history.specs.Entries.{Entry, last_of};
+ghost use Rattle.std.specs.Prelude.{◌≡◌, [], ◌∷◌, ◌++◌};
+ghost use Rattle.history.specs.Entries.{last_of};
 
 use history::History;
+use shadow::{Shadow, Shows};
 use std::marker::Model;
 
-/// Calls, for contracts: it has no bytes, and its functions do nothing.
+// What contracts see of a list of calls. One that is made has none.
+#[derive(Drop)]
+struct Calls {}
+
+impl Model for Calls {
+    ghost use Rattle.std.specs.Prelude.{List, []};
+    ghost use Rattle.history.specs.Entries.{Entry};
+
+    ghost Value = { List Entry };
+
+    ghost view = { λ _. [] };
+}
+
+/// Calls, for contracts: it has no bytes, and its functions do nothing. Contracts see its `calls`, the oldest first.
 #[derive(Drop)]
 pub(crate) struct Asked {
-    /// The calls, the oldest first.
-    pub ghost calls: { List Entry },
+    shadow: Shadow<Calls>,
 }
 
 impl Model for Asked {
-    ghost also_owns = { λ _. ftrue };
+    ghost use Rattle.recorder.specs.Asked.{Listed};
+
+    ghost Value = { Listed };
+
+    ghost view = { λ a. record { calls = a.shadow.value } };
 }
 
-// It owns nothing.
-unsafe impl Send for Asked {}
+// Calls, and a history that keeps one more.
+#[derive(Drop)]
+struct More<'a> {
+    past: &'a Asked,
+    history: &'a History,
+}
+
+impl Shows<Calls> for More<'_> {
+    ghost shown = { λ m. m.past.now.calls ++ last_of m.history.now.entries ∷ [] };
+}
 
 impl Asked {
     /// No calls.
@@ -26,7 +50,9 @@ impl Asked {
     pub(crate) fn new() -> Asked
         ensures { result.calls ≡ [] }
     {
-        Asked {}
+        Asked {
+            shadow: Shadow::of(&Calls {}),
+        }
     }
 
     /// The calls, and the one that a history keeps last.
@@ -34,6 +60,12 @@ impl Asked {
     pub(crate) fn and(&self, history: &History) -> Asked
         ensures { result.calls ≡ self.now.calls ++ last_of history.now.entries ∷ [] }
     {
-        Asked {}
+        let more = More {
+            past: self,
+            history,
+        };
+        Asked {
+            shadow: Shadow::by(&more),
+        }
     }
 }

@@ -16,4 +16,4 @@
 pub mod laws;
 mod words;
 
-pub use words::{checksum, fold, never_zero, sum};
+pub use words::{checksum, folded, never_zero, sum};

@@ -26,7 +26,7 @@ pub fn sum(bytes: &[u8], start: u16) -> u16
         first += u128::from(LittleEndian::read_u64(rest));
         rest = &rest[8..];
     }
-    fold(narrow(first + second) * 256 + u64::from(start) + short_sum(rest))
+    folded(narrow(first + second) * 256 + u64::from(start) + short_sum(rest))
 }
 
 /// The checksum of the bytes, as it stands in a header: their sum with each bit turned over.
@@ -131,10 +131,10 @@ fn narrow(total: u128) -> u64
     (total % 0x1_0000_0000 + total / 0x1_0000_0000) as u64
 }
 
-/// A number as a sum of 16 bits in ones' complement: what goes beyond the highest bit is added at the lowest. 0 comes from 0 alone. So the
-/// sum of words that a caller has added up, as where it knows what is to stand in a header.
+/// A number as a sum of 16 bits in ones' complement: what goes beyond the highest bit is added at the lowest. 0 comes from 0 alone. It makes
+/// the sum of words that a caller has added up itself, as where it knows what is to stand in a header.
 #[inline]
-pub fn fold(total: u64) -> u16
+pub fn folded(total: u64) -> u16
     ensures { result ≡ folded total }
 {
     let total = total % 0x1_0000_0000 + total / 0x1_0000_0000;

@@ -11,7 +11,7 @@ use crate::cut::is_last;
 use crate::store::{load_word, store_word};
 use crate::sums::{IPV4_CHECKSUM, TCP_CHECKSUM, TCP_LEAST};
 use byteorder::{BigEndian, ByteOrder};
-use internet_checksum::{fold, sum};
+use internet_checksum::{folded, sum};
 
 /// Where the version of an IPv4 header stands, with its length and type of service (RFC 791, 3.1).
 const IPV4_VERSION: usize = 0;
@@ -269,7 +269,7 @@ fn numbered_checksum(header: &[u8], total: u16, identification: u16) -> u16
         + u64::from(load_word(header, IPV4_FRAGMENT))
         + u64::from(load_word(header, IPV4_TIME));
     let rest = sum_from(header, IPV4_ADDRESSES);
-    u16::MAX - fold(fixed + u64::from(total) + u64::from(identification) + u64::from(rest))
+    u16::MAX - folded(fixed + u64::from(total) + u64::from(identification) + u64::from(rest))
 }
 
 // The length in an IPv6 header.
@@ -345,7 +345,7 @@ fn marked_checksum(bytes: &[u8], flags: u8, partial: u16, rest: u16) -> u16
     let marks = u64::from(bytes[TCP_OFFSET]) * 256 + u64::from(flags);
     let others = u64::from(load_word(bytes, TCP_WINDOW)) + u64::from(load_word(bytes, TCP_URGENT));
     let known = u64::from(partial) + u64::from(rest);
-    u16::MAX - fold(ports + numbers + marks + others + known)
+    u16::MAX - folded(ports + numbers + marks + others + known)
 }
 
 // Moves the sequence number on.

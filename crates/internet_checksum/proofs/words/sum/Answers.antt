@@ -34,7 +34,7 @@ returns c =
           ∙ c.loop-rest.invariant.whole
       | else-rest-ge8 w ↦ ap folded (omega (arith, w.first-is, ap (λ (r : Bor (List ℕ)). word_sum r.now) w.rest-is)) ∙ c.loop-rest.invariant.whole
     ] in
-    c.fold.ensures
+    c.folded.ensures
     ∙ ap folded (omega arith)
     ∙ c.short_sum.ensures.sum (256 * narrow + c.args.start)
     ∙ ap folded (omega arith)

@@ -17,4 +17,4 @@ returns c =
     omega (arith, words, c.from-7.ensures, c.from-8.ensures, c.from-9.ensures, c.from-10.ensures, c.from-11.ensures, c.from-12.ensures, c.load_word-7.ensures, c.load_word-8.ensures, c.requires.rest) in
     let whole : rest + put ≡ word_sum (with_word 16 c.args.partial (set bytes 13 c.args.flags)) =
     omega (arith, marked_sum c.args.flags c.args.partial bytes c.requires.least (omega arith)) in
-    ap (λ (s : ℕ). 65535 - s) (c.fold.ensures ∙ ap folded parts ∙ folded-part rest put ∙ ap folded whole)
+    ap (λ (s : ℕ). 65535 - s) (c.folded.ensures ∙ ap folded parts ∙ folded-part rest put ∙ ap folded whole)

@@ -14,4 +14,4 @@ returns c =
     omega (arith, c.from.ensures, c.from-2.ensures, c.from-3.ensures, c.from-4.ensures, c.from-5.ensures, c.from-6.ensures, c.load_word.ensures, c.load_word-2.ensures, c.load_word-3.ensures, c.sum_from-rest.ensures) in
     let whole : rest + put ≡ word_sum (with_word 10 0 (with_word 4 c.args.identification (with_word 2 c.args.total header))) =
     omega (arith, numbered_sum c.args.total c.args.identification header (omega (arith, c.requires)) (omega arith) (omega arith)) in
-    ap (λ (s : ℕ). 65535 - s) (c.fold.ensures ∙ ap folded parts ∙ folded-part rest put ∙ ap folded whole)
+    ap (λ (s : ℕ). 65535 - s) (c.folded.ensures ∙ ap folded parts ∙ folded-part rest put ∙ ap folded whole)

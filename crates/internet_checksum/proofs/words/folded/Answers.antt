@@ -2,7 +2,7 @@
 use Rattle.std.proofs.Common.{◌≡◌, ℕ, ◌+◌, ◌/◌, ◌%◌, ◌<◌, arith, sym, ◌∙◌}
 use Rattle.internet_checksum.specs.Sum.{folded}
 use Rattle.internet_checksum.proofs.Adding.{folded-fits, folded-halves}
-use Rattle.internet_checksum.proofs.words.fold.Goals as goal
+use Rattle.internet_checksum.proofs.words.folded.Goals as goal
 
 pub returns : goal.returns
 returns c =

@@ -2,7 +2,7 @@
 ghost use Rattle.std.specs.Prelude.{◌≡◌, ◌↔◌, IsTrue, ℕ, ◌+◌, ◌-◌, ◌≤◌, ◌++◌, [], length, take, replicate, slice_range, vec_capacity, IfOk, IfSome, is_some, nat_lt, ◌<◌, ◌^◌, ◌==◌, None, if◌then◌else◌};
 ghost use Rattle.tx_desc.specs.Transmit.{Gathering, Gathered, Overlong, joined, ended, refuses, length_of};
 ghost use Rattle.offload.specs.Context.{payload_at};
-ghost use Rattle.offload.specs.Cut.{longest, segment_count};
+ghost use Rattle.offload.specs.Cut.{segment_count};
 ghost use Rattle.offload.specs.Segment.{segment_of};
 ghost use Rattle.offload.specs.Sums.{refusal};
 ghost use Rattle.tx_desc.specs.Offloaded.{ended_with, lacks_sums, leaving, with_sums, room_beside, bytes_of, segments_in};

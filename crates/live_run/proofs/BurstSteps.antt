@@ -30,7 +30,7 @@ one_service n p q = ap (λ (k : ℕ). services k p q) (add-one n) ∙ snoc n
     snoc zero = refl
     snoc (suc n) = ap (λ es. Serve p q ∷ es) (snoc n)
 
-united_more : (raised : List ℕ) (xs : List Answer) (a : Answer) → united raised (xs ++ a ∷ []) ≡ both (united raised xs) a.raised
+pub united_more : (raised : List ℕ) (xs : List Answer) (a : Answer) → united raised (xs ++ a ∷ []) ≡ both (united raised xs) a.raised
 unfolding united
 united_more raised [] a = refl
 united_more raised (x ∷ xs) a = united_more (both raised x.raised) xs a

@@ -4,5 +4,6 @@ mod FrameLemmas
 mod More
 mod Plain
 mod Runs
+mod WireSteps
 mod WithoutGroup
 mod Writes

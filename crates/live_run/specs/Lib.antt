@@ -1,3 +1,4 @@
+pub mod Arrivals
 pub mod Bursts
 pub mod Erased
 pub mod Frames

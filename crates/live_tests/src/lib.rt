@@ -26,3 +26,5 @@ mod restless;
 mod turning;
 #[cfg(test)]
 mod watched;
+#[cfg(test)]
+mod wire_bursts;

@@ -1,0 +1,118 @@
+//! Frames from the wire one after another, in one call.
+ghost use Rattle.std.specs.Prelude.{◌≡◌, ◌+◌, ◌≤◌, true, false, length, if◌then◌else◌};
+ghost use Rattle.wire_frame.specs.Frame.{is_frame};
+ghost use Rattle.device.specs.Outcome.{messages_or_refused};
+ghost use Rattle.device.specs.Live.{told_world};
+ghost use Rattle.device.specs.World.{step};
+ghost use Rattle.device.specs.declared.event.Event.TheVariants.{Wire};
+ghost use Rattle.live_run.specs.Arrivals.{IsArrival, IsWireBurst, cut};
+
+use device::Device;
+use irq_causes::Messages;
+use live_memory::Dma;
+use wire_frame::{FrameBuf, FrameLimit, PoolId};
+
+/// How many bytes a frame has at most.
+const MOST_FRAME: u16 = 9018;
+
+/// What came of frames from the wire.
+#[derive(Drop)]
+pub struct WireBurst {
+    /// How many frames the device took.
+    pub taken: usize,
+    /// How many were refused: those that are longer than the device takes, and what is no frame.
+    pub refused: usize,
+    /// The messages of all of them together.
+    pub messages: Messages,
+}
+
+/// Takes frames from the wire one after another, while guests may write the memories. They lie behind one another in `bytes`: the first
+/// begins at 0, each other where the one before it ends, and `ends` says where each ends. One whose end is before its beginning, or past
+/// the bytes, has no bytes.
+///
+/// It means what as many calls of [`Device::wire_live`](device::Device::wire_live) mean, one after another. What is refused there, or is no
+/// frame, is passed over. Each frame is laid into `frame` first.
+pub fn wire_burst<D: Dma<K>, K>(
+    device: &mut Device<D, K>,
+    bytes: &[u8],
+    ends: &[usize],
+    frame: &mut FrameBuf,
+) -> WireBurst
+    ensures { IsWireBurst D.shared device.old ends.now bytes.now device.new result }
+{
+    let count = device.functions();
+    prove!(count <= usize::from(PoolId::COUNT));
+    let mut taken = 0;
+    let mut messages = Messages::none();
+    let mut start = 0;
+    for end in ends {
+        let is_taken = take_one(device, cut(bytes, start, *end), frame, &mut messages);
+        taken += usize::from(is_taken);
+        start = *end;
+    }
+    WireBurst {
+        taken,
+        refused: ends.len() - taken,
+        messages,
+    }
+}
+
+// The bytes from a place to an end, if they are there.
+#[inline]
+fn cut(bytes: &[u8], start: usize, end: usize) -> &[u8]
+    ensures { result.now ≡ cut bytes.now start end }
+{
+    if start <= end && end <= bytes.len() {
+        &bytes[start..end]
+    } else {
+        &[]
+    }
+}
+
+// One frame more, if the bytes are one. Tells whether the device took it.
+fn take_one<D: Dma<K>, K>(
+    device: &mut Device<D, K>,
+    bytes: &[u8],
+    frame: &mut FrameBuf,
+    messages: &mut Messages,
+) -> bool
+    ensures came { is_frame 9018 bytes.now ≡ true
+        → IsArrival D.shared bytes.now device.old device.new messages.old messages.new result }
+    ensures stays { is_frame 9018 bytes.now ≡ false → device.new ≡ device.old }
+    ensures silent { is_frame 9018 bytes.now ≡ false → messages.new ≡ messages.old }
+    ensures passed { is_frame 9018 bytes.now ≡ false → result ≡ false }
+{
+    lay(frame, bytes) && arrive(device, frame, messages)
+}
+
+// Makes a frame these bytes, if they are one.
+#[inline]
+fn lay(frame: &mut FrameBuf, bytes: &[u8]) -> bool
+    ensures value { result ≡ is_frame 9018 bytes.now }
+    ensures frame { result ≡ true → frame.new ≡ bytes.now }
+{
+    match FrameLimit::new(MOST_FRAME) {
+        Some(longest) => frame.refill(bytes, longest),
+        None => unreachable!(),
+    }
+}
+
+// A frame comes from the wire. Tells whether the device took it.
+fn arrive<D: Dma<K>, K>(
+    device: &mut Device<D, K>,
+    frame: &FrameBuf,
+    messages: &mut Messages,
+) -> bool
+    ensures { IsArrival D.shared frame.now device.old device.new messages.old messages.new result }
+{
+    match device.wire_live(frame) {
+        Ok(raised) => {
+            messages.unite(&raised);
+            true
+        }
+        Err(_) => {
+            messages.unite(&Messages::none());
+            false
+        }
+    }
+}

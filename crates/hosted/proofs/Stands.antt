@@ -1,8 +1,9 @@
 -- What stands between two calls stands after turns of one function.
 use Rattle.std.proofs.Common.{◌≡◌, ℕ, zero, suc, ◌<◌, ◌≤◌, Bool, true, false, List, [], ◌∷◌, ◌++◌, ◌≢◌, length, get_or, refl, sym, ap, ◌∙◌, subst, arith}
 use Rattle.std.specs.List.{All}
-use Rattle.std.specs.Prelude.{◌&&◌, Option, None, Some, is_none, nat_lt, OnErr, Result, Ok, Err, slice_set, if◌then◌else◌}
+use Rattle.std.specs.Prelude.{◌&&◌, filter, map, Option, None, Some, is_none, nat_lt, OnErr, Result, Ok, Err, slice_set, if◌then◌else◌}
 use Rattle.std.proofs.lemmas.Bool.Decides.{nat_tests}
+use Rattle.wire_frame.specs.Frame.{is_frame}
 use Rattle.wire_frame.specs.declared.fault.Fault.{Fault}
 use Rattle.wire_frame.specs.declared.fault.Fault.TheVariants.{BadMake}
 use Rattle.offload.specs.declared.offloads.Offloads.{Offloads}
@@ -10,7 +11,8 @@ use Rattle.device.specs.Guests.{is_for_guests}
 use Rattle.device.specs.Events.{Event}
 use Rattle.std.proofs.lemmas.List.Elements.{All-cons, All-nil}
 use Rattle.std.proofs.lemmas.List.{append-nil, get_or-set_other, map-append, length-map, length-set}
-use Rattle.device.specs.declared.event.Event.TheVariants.{Flr, VfWrite}
+use Rattle.device.specs.declared.event.Answer.{Answer}
+use Rattle.device.specs.declared.event.Event.TheVariants.{Flr, VfWrite, Wire}
 use Rattle.device.specs.Lone.{lone_of}
 use Rattle.device.proofs.Append.{world_after_append}
 use Rattle.device.specs.World.{World, fresh_with, function_of, is_frame_limit, step, with_function, world_after}
@@ -35,10 +37,12 @@ use Rattle.mailbox_laws.specs.Turns.{IsTurn, Turn, sets_registers, events_of, wr
 use Rattle.mailbox_laws.proofs.Kept.{event_stays, few_still, first_run, run_settles}
 use Rattle.vf_unit.specs.Unit.{Closed, Function, other_raised}
 use Rattle.vf_unit.specs.declared.registers.Queue.{Queue}
+use Rattle.live_run.specs.Arrivals.{IsWireBurst, arrivals, cuts}
 use Rattle.live_run.specs.Bursts.{IsBurst, services}
 use Rattle.live_run.specs.declared.bursts.Burst.{Burst}
+use Rattle.live_run.specs.declared.wire_bursts.WireBurst.{WireBurst}
 use Rattle.live_run.specs.Frames.{Room}
-use Rattle.live_run.specs.Live.{Noted, live_after}
+use Rattle.live_run.specs.Live.{IsLiveRun, Noted, live_after}
 use Rattle.mailbox.specs.Start.{first_writes}
 use Rattle.mailbox.specs.Host.{host_without}
 use Rattle.mailbox.specs.Mailbox.{MailboxState, after_reset, blank}
@@ -335,13 +339,31 @@ run_as_many w b [] ts = refl
 run_as_many w b (e ∷ es) [] = refl
 run_as_many w b (e ∷ es) (t ∷ ts) = run_as_many (step (told_world b t w) e).world t es ts ∙ (step_shape (told_world b t w) e).functions ∙ length_told b t w.functions
 
--- a burst leaves what stands between two calls
-pub burst_stands : (shared : Bool) (p : ℕ) (q : Queue) (old new : HostedState) (room filled : Room) (done : Burst) → IsHosted old → IsBurst shared p q old.device room new.device filled done → new.host ≡ old.host → new.mailboxes ≡ old.mailboxes → IsHosted new
-burst_stands shared p q old new room filled done is burst host boxes = record {
-  settings = ap (λ (w : World). w.settings) burst.run.world ∙ run_stays old.device.world old.device.accesses (services done.taken p q) burst.run.noted (services_silent done.taken p q) ∙ is.settings ∙ ap settings_of (sym host);
+-- a run of such events leaves what stands between two calls
+run_stands : (shared : Bool) (old new : HostedState) (es : List Event) (answers : List Answer) → IsHosted old → AreSilent es → IsLiveRun shared old.device es answers new.device → new.host ≡ old.host → new.mailboxes ≡ old.mailboxes → IsHosted new
+run_stands shared old new es answers is silent run host boxes = record {
+  settings = ap (λ (w : World). w.settings) run.world ∙ run_stays old.device.world old.device.accesses es run.noted silent ∙ is.settings ∙ ap settings_of (sym host);
   within = subst IsWithin (sym host) is.within;
   ids = subst (λ (h : HostState). length h.ids ≤ 64) (sym host) is.ids;
   slots = ap (λ (h : HostState). length h.slots) host ∙ is.slots;
-  functions = subst (λ (n : ℕ). n ≤ 64) (sym (ap (λ (w : World). length w.functions) burst.run.world ∙ run_as_many old.device.world old.device.accesses (services done.taken p q) burst.run.noted)) is.functions;
+  functions = subst (λ (n : ℕ). n ≤ 64) (sym (ap (λ (w : World). length w.functions) run.world ∙ run_as_many old.device.world old.device.accesses es run.noted)) is.functions;
   many = ap length boxes ∙ is.many;
 }
+
+-- a burst of services is one
+pub burst_stands : (shared : Bool) (p : ℕ) (q : Queue) (old new : HostedState) (room filled : Room) (done : Burst) → IsHosted old → IsBurst shared p q old.device room new.device filled done → new.host ≡ old.host → new.mailboxes ≡ old.mailboxes → IsHosted new
+burst_stands shared p q old new room filled done is burst host boxes =
+    run_stands shared old new (services done.taken p q) burst.answers is (services_silent done.taken p q) burst.run host boxes
+
+-- and so is one of frames from the wire
+wires_silent : (fs : List (List ℕ)) → AreSilent (map Wire fs)
+wires_silent [] = tt
+wires_silent (f ∷ fs) = (refl, wires_silent fs)
+
+arrivals_silent : (ends bytes : List ℕ) → AreSilent (arrivals ends bytes)
+unfolding arrivals
+arrivals_silent ends bytes = wires_silent (filter (is_frame 9018) (cuts 0 ends bytes))
+
+pub wire_burst_stands : (shared : Bool) (old new : HostedState) (ends bytes : List ℕ) (done : WireBurst) → IsHosted old → IsWireBurst shared old.device ends bytes new.device done → new.host ≡ old.host → new.mailboxes ≡ old.mailboxes → IsHosted new
+wire_burst_stands shared old new ends bytes done is burst host boxes =
+    run_stands shared old new (arrivals ends bytes) burst.answers is (arrivals_silent ends bytes) burst.run host boxes

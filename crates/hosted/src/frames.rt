@@ -5,6 +5,7 @@ ghost use Rattle.device.specs.declared.event.Event.TheVariants.{Serve, Wire};
 ghost use Rattle.device.specs.Live.{AreListed, AreMet, TakesLive, told_world};
 ghost use Rattle.device.specs.Outcome.{messages_or_refused};
 ghost use Rattle.device.specs.World.{step};
+ghost use Rattle.live_run.specs.Arrivals.{IsWireBurst};
 ghost use Rattle.live_run.specs.Bursts.{IsBurst};
 ghost use Rattle.live_run.specs.Frames.{has_room};
 
@@ -12,7 +13,7 @@ use crate::hosted::HostedDevice;
 use device::{Queue, Response};
 use irq_causes::Messages;
 use live_memory::Dma;
-use live_run::{Burst, Frames, serve_burst};
+use live_run::{Burst, Frames, WireBurst, serve_burst, wire_burst};
 use wire_frame::{Fault, FrameBuf};
 
 impl<D: Dma<K>, K> HostedDevice<D, K> {
@@ -48,6 +49,16 @@ impl<D: Dma<K>, K> HostedDevice<D, K> {
         ensures mailboxes { self.new.mailboxes ≡ self.old.mailboxes }
     {
         self.device.wire_live(frame)
+    }
+
+    /// Takes frames from the wire one after another, as [`live_run::wire_burst`] says.
+    pub fn wire_burst(&mut self, bytes: &[u8], ends: &[usize], frame: &mut FrameBuf) -> WireBurst
+        ensures burst { IsWireBurst D.shared self.old.device ends.now bytes.now
+            self.new.device result }
+        ensures host { self.new.host ≡ self.old.host }
+        ensures mailboxes { self.new.mailboxes ≡ self.old.mailboxes }
+    {
+        wire_burst(&mut self.device, bytes, ends, frame)
     }
 
     /// Takes descriptors of a transmit queue one after another, as [`live_run::serve_burst`] says: `most` at most.

@@ -11,3 +11,4 @@ pub mod Raised
 pub mod Services
 mod Standing
 mod Told
+mod Wirings

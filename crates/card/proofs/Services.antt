@@ -45,10 +45,10 @@ pub record AreSets (raised : List ℕ) : Type 0 where
   pub many : length raised ≡ 64
   pub small : (p : ℕ) → slice_index raised p < 8
 
-both_sets : (xs ys : List ℕ) → AreSets (both xs ys)
+pub both_sets : (xs ys : List ℕ) → AreSets (both xs ys)
 both_sets xs ys = record { many = both_count xs ys; small = both_small xs ys }
 
-none_here : (p : ℕ) → p < 64 → slice_index no_messages p ≡ 0
+pub none_here : (p : ℕ) → p < 64 → slice_index no_messages p ≡ 0
 unfolding no_messages
 none_here p below = get_or-replicate 64 p 0 0 below
 
@@ -109,7 +109,7 @@ writes_live c b t (p ∷ ps) sets =
 
 -- ---- one event
 
-event_lives : (shared : Bool) (c : CardState) (b t : Noted) (e : Event) (rest : List Event) (n : ℕ) → length (world_of c).functions ≡ n → AreSets c.raised → AreMet shared b t (world_of c)
+pub event_lives : (shared : Bool) (c : CardState) (b t : Noted) (e : Event) (rest : List Event) (n : ℕ) → length (world_of c).functions ≡ n → AreSets c.raised → AreMet shared b t (world_of c)
     → card_after c (map Happens (writes_of b t (range_with_len 0 n) ++ e ∷ rest)) ≡ card_after (after_deed (over_world c (told_world b t (world_of c))) (Happens e)) (map Happens rest)
 event_lives shared c b t e rest n count sets met =
     ap (card_after c) (map-append Happens (writes_of b t (range_with_len 0 n)) (e ∷ rest))
@@ -198,7 +198,7 @@ services_live shared p q (suc k) c b (t ∷ ts) n inside count sets met long =
     d = after_deed (over_world c told) (Happens (Serve p q))
 
 -- vectors that join those that were there, one answer after another, or all answers' at once
-united_on : (raised more : List ℕ) (answers : List Answer) → both raised (united more answers) ≡ united (both raised more) answers
+pub united_on : (raised more : List ℕ) (answers : List Answer) → both raised (united more answers) ≡ united (both raised more) answers
 unfolding united
 united_on raised more [] = refl
 united_on raised more (a ∷ rest) =

@@ -4,3 +4,4 @@ pub mod Steps
 pub mod Served
 pub mod Alike
 pub mod Life
+pub mod Wired

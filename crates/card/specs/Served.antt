@@ -3,14 +3,17 @@ use Rattle.std.specs.Prelude.{◌≡◌, ◌⊎◌, ℕ, ◌+◌, ◌*◌, ◌�
 use Rattle.irq_causes.specs.Messages.{both}
 use Rattle.vf_unit.specs.declared.registers.Queue.{Queue}
 use Rattle.vf_unit.specs.declared.registers.Queue.TheVariants.{Q0, Q1}
+use Rattle.live_run.specs.Arrivals.{IsWireBurst}
 use Rattle.live_run.specs.Bursts.{IsBurst}
 use Rattle.live_run.specs.Frames.{Room, has_room}
 use Rattle.live_run.specs.declared.bursts.Burst.{Burst}
+use Rattle.live_run.specs.declared.wire_bursts.WireBurst.{WireBurst}
 use Rattle.wire_frame.specs.declared.fault.Fault.{Fault}
 use Rattle.device.specs.declared.event.Answer.{Answer}
 use Rattle.device.specs.declared.event.Reply.TheVariants.{Done}
 use Rattle.device.specs.Outcome.{messages_or_refused}
 use Rattle.card.specs.Card.{CardState, EndState, end_at}
+use Rattle.card.specs.declared.serving.WireCount.{WireCount}
 
 -- ---- descriptors
 
@@ -64,6 +67,17 @@ is_busy e = e.busy_0 || e.busy_1
 abbrev pub RaisedOrRefused : {X : Type 0} → Result X Fault → List ℕ → List ℕ → Answer → Type 0
 RaisedOrRefused (Ok x) old new answer = (answer.reply ≡ Done) × (new ≡ both old answer.raised)
 RaisedOrRefused (Err fault) old new answer = (answer ≡ messages_or_refused (Err fault)) × (new ≡ old)
+
+-- frames came one after another, by where they lie and end, and the messages of all are among those that wait
+pub record AreWired (shared : Bool) (ends_at bytes : List ℕ) (old new : CardState) (count : WireCount) : Type 0 where
+  pub done : WireBurst
+  pub burst : IsWireBurst shared old.hosted.device ends_at bytes new.hosted.device done
+  pub taken : count.taken ≡ done.taken
+  pub refused : count.refused ≡ done.refused
+  pub host : new.hosted.host ≡ old.hosted.host
+  pub mailboxes : new.hosted.mailboxes ≡ old.hosted.mailboxes
+  pub ends : new.ends ≡ old.ends
+  pub raised : new.raised ≡ both old.raised done.messages
 
 -- ---- vectors
 

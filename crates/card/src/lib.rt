@@ -11,7 +11,7 @@
 //! A function's client reaches nothing of another function: after each of these calls for function p every other function is as it was, in
 //! the device, at the host, its mailbox, its session, its queues and its vectors. That is a clause of each call (`others`), whatever bytes
 //! came. Frames are the one way from function to function, and the device's law of isolation is about these: [`Card::more`] is a run of
-//! services, and [`Card::wire`] one event of it. Over any list of calls a function lives by what it is given alone
+//! services, [`Card::wire`] one event of it, and [`Card::wire_burst`] a run of these. Over any list of calls a function lives by what it is given alone
 //! ([`laws::lived_by_ones_own`]).
 //!
 //! A shell does this for each function, in turn:
@@ -65,5 +65,5 @@ pub mod step;
 
 pub use card::{Card, End};
 pub use device::Vector;
-pub use serving::MOST_SERVICES;
+pub use serving::{MOST_SERVICES, WireCount};
 pub use step::{Order, Step};

@@ -8,7 +8,9 @@ ghost use Rattle.device.specs.Live.{AreListed, AreMet, told_world};
 ghost use Rattle.device.specs.World.{step};
 ghost use Rattle.card.specs.Card.{LeavesAlone, end_at};
 ghost use Rattle.card.specs.Life.{HasLived, HaveServed, Signals, live_deeds};
-ghost use Rattle.card.specs.Served.{ALL_VECTORS, AreServed, IsServed, RaisedOrRefused, armed_set, is_busy, signalled, with_busy};
+ghost use Rattle.live_run.specs.Arrivals.{arrivals};
+ghost use Rattle.card.specs.Served.{ALL_VECTORS, AreServed, AreWired, IsServed, RaisedOrRefused, armed_set, is_busy, signalled, with_busy};
+ghost use Rattle.card.specs.Wired.{HasLivedThrough};
 
 use crate::card::{Card, End};
 use device::Queue;
@@ -20,6 +22,15 @@ use wire_frame::{Fault, FrameBuf, PoolId, PoolSet};
 
 /// How many descriptors of a transmit queue one call takes at most.
 pub const MOST_SERVICES: usize = 128;
+
+/// How many frames from the wire were taken, and how many refused.
+#[derive(Clone, Copy, Debug, PartialEq, Eq)]
+pub struct WireCount {
+    /// How many frames the card took.
+    pub taken: usize,
+    /// How many were refused: those that are longer than the card's limit, and what is no frame.
+    pub refused: usize,
+}
 
 impl<D: Dma<K>, K> Card<D, K> {
     /// Takes descriptors of a function's busy transmit queues, [`MOST_SERVICES`] of each at most, first those of queue 0, and tells whether
@@ -114,6 +125,28 @@ impl<D: Dma<K>, K> Card<D, K> {
         let messages = self.hosted.wire(frame)?;
         self.raised.unite(&messages);
         Ok(())
+    }
+
+    /// Takes frames from the wire one after another, as [`live_run::wire_burst`] says: they lie behind one another in `bytes`, and `ends`
+    /// says where each ends. It means what as many calls of [`Card::wire`] mean; what these would refuse is passed over, and counted.
+    pub fn wire_burst(&mut self, bytes: &[u8], ends: &[usize], frame: &mut FrameBuf) -> WireCount
+        ensures wired { AreWired D.shared ends.now bytes.now self.old self.new result }
+        ensures lived { HasLivedThrough D.shared (arrivals ends.now bytes.now) self.old self.new }
+    {
+        self.raised.masks_are_small();
+        self.take_frames(bytes, ends, frame)
+    }
+
+    // Takes them.
+    fn take_frames(&mut self, bytes: &[u8], ends: &[usize], frame: &mut FrameBuf) -> WireCount
+        ensures { AreWired D.shared ends.now bytes.now self.old self.new result }
+    {
+        let came = self.hosted.wire_burst(bytes, ends, frame);
+        self.raised.unite(&came.messages);
+        WireCount {
+            taken: came.taken,
+            refused: came.refused,
+        }
     }
 
     /// Hands out vectors of a function that wait: those that are named, and that have a file. Each of these files is to be written once. One

@@ -150,6 +150,13 @@ impl<'a> Clients<'a> {
         self.card.wire(frame)
     }
 
+    /// How many of frames that lie behind one another were taken, and how many refused.
+    pub fn wire_burst(&mut self, bytes: &[u8], ends: &[usize]) -> (usize, usize) {
+        let mut frame = FrameBuf::blank();
+        let came = self.card.wire_burst(bytes, ends, &mut frame);
+        (came.taken, came.refused)
+    }
+
     /// The functions of which vectors were raised that were not handed out, as a mask.
     pub fn raised(&self) -> u64 {
         self.card.raised().bits()

@@ -95,3 +95,75 @@ fn a_frame_comes_from_the_wire(rt: HostRuntime) -> Result<(), Fail> {
     assert_equal(&rt, early.iter().all(|byte| *byte == 0), true);
     Ok(())
 }
+
+// Three broadcasts behind one another, of 60, 1519 and 60 bytes, and where each ends.
+const ENDS: [usize; 3] = [60, 1579, 1639];
+
+fn three_frames() -> [u8; 1639] {
+    let mut bytes = [0xFF; 1639];
+    bytes[12..60].copy_from_slice(&[0x5A; 48]);
+    bytes[60 + 12..1579].copy_from_slice(&[0x5B; 1507]);
+    bytes[1579 + 12..].copy_from_slice(&[0x5C; 48]);
+    bytes
+}
+
+// A guest that receives into two buffers, for which the frames come in one call or in three: how many were taken and refused, the vectors
+// that were raised, and its memory as it is then.
+fn receive_three(
+    in_one_call: bool,
+    memory: &mut [u8; SIZE],
+    alloc: Global,
+) -> Result<(usize, usize, u8), Fail> {
+    let first = pool(0)?;
+    receiving(memory);
+    memory[RING + 16..RING + 24].copy_from_slice(&[0, 0x28, 0, 0, 0, 0, 0, 0]);
+    let mut clients = Clients::vacant(alloc, 1)?;
+    clients.admit(first, &policy(1));
+    let is_there = come(&mut clients, first, memory, alloc)?
+        && clients.write_all(first, &RECEIVES)
+        && clients.write_all(first, &[(RDT0, 2)]);
+    if !is_there {
+        return Err("no guest came".into());
+    }
+    clients.say(first, &arm_message(2), 2);
+    let bytes = three_frames();
+    let (taken, refused) = if in_one_call {
+        clients.wire_burst(&bytes, &ENDS)
+    } else {
+        let (mut taken, mut refused) = (0, 0);
+        for of_one in [&bytes[..60], &bytes[60..1579], &bytes[1579..]] {
+            match clients.wire(&FrameBuf::from_bytes(of_one)?) {
+                Ok(()) => taken += 1,
+                Err(_) => refused += 1,
+            }
+        }
+        (taken, refused)
+    };
+    let told = clients.signal(first);
+    let _memory = go(&mut clients, first, alloc)?;
+    Ok((taken, refused, told))
+}
+
+/// Three frames in one call, of which the second is too long, are the same to a guest as three calls: it gets the first and the third.
+#[test]
+fn frames_come_in_one_call(rt: HostRuntime) -> Result<(), Fail> {
+    let alloc = rt.alloc();
+    let (mut burst, mut single) = ([0; SIZE], [0; SIZE]);
+    let got = receive_three(true, &mut burst, alloc)?;
+    assert_equal(&rt, got, (2, 1, 2));
+    let due = receive_three(false, &mut single, alloc)?;
+    assert_equal(&rt, got, due);
+    assert_equal(&rt, burst == single, true);
+    assert_equal(
+        &rt,
+        burst.get(BUFFER + 12..BUFFER + 60),
+        Some([0x5A; 48].as_slice()),
+    );
+    let second = BUFFER + 0x800;
+    assert_equal(
+        &rt,
+        burst.get(second + 12..second + 60),
+        Some([0x5C; 48].as_slice()),
+    );
+    Ok(())
+}

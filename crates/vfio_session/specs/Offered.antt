@@ -1,5 +1,5 @@
 -- What a client finds in a function: its version, its regions, and its interrupts.
-use Rattle.std.specs.Prelude.{ℕ, ◌==◌, Option, None, if◌then◌else◌}
+use Rattle.std.specs.Prelude.{ℕ, ◌==◌, ◌&&◌, Bool, Option, Some, None, if◌then◌else◌}
 use Rattle.vfio_user.specs.declared.reply.Area.{Area}
 use Rattle.pci_function.specs.Space.{size_of_bar}
 
@@ -31,9 +31,14 @@ CONFIGURATION = 7
 abbrev pub size_of_region : ℕ → ℕ
 size_of_region index = if index == CONFIGURATION then 4096 else size_of_bar index
 
--- the area of a region that the client may map: none
-abbrev pub area_of_region : ℕ → Option Area
-area_of_region index = None
+-- the page of BAR 0 that has the registers of the transmit queues and counts what was sent, and has nothing of the receive queues (82599
+-- Datasheet, VFTDBAL to VFTDWBAH, VFGPTC)
+abbrev pub TRANSMIT_PAGE : Area
+TRANSMIT_PAGE = record { offset = 0x2000; size = 0x1000 }
+
+-- the area of a region that the client may map: that page of BAR 0, where it is offered, and else none
+abbrev pub area_of_region : Bool → ℕ → Option Area
+area_of_region offers index = if offers && (index == REGISTERS) then Some TRANSMIT_PAGE else None
 
 -- ---- interrupts (linux/vfio.h, VFIO_PCI_INTX_IRQ_INDEX and the following)
 

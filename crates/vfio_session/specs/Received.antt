@@ -27,7 +27,7 @@ use Rattle.vfio_session.specs.Memory.{map, unmap}
 
 abbrev pub region_told : SessionState → Header → RegionQuery → Received
 region_told s h q =
-    if nat_lt q.index REGIONS then answered s h (RegionReply q (size_of_region q.index) (area_of_region q.index))
+    if nat_lt q.index REGIONS then answered s h (RegionReply q (size_of_region q.index) (area_of_region s.offers_area q.index))
     else refused s h Invalid
 
 abbrev pub irq_told : SessionState → Header → ℕ → Received

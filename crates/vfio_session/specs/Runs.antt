@@ -54,6 +54,11 @@ abbrev pub HasNoVersion : List Message → Type 0
 HasNoVersion [] = Unit {0}
 HasNoVersion (m ∷ ms) = (proposes m ≡ false) × HasNoVersion ms
 
+-- nothing is asked and nothing is answered
+pub record IsUnanswered (ms : List Message) (s : SessionState) : Type 0 where
+  pub asks : asks_in ms s ≡ []
+  pub replies : replies_in ms s ≡ []
+
 -- nothing is asked, nothing is answered, and the session is as it was
 pub record IsSilent (ms : List Message) (s : SessionState) : Type 0 where
   pub asks : asks_in ms s ≡ []

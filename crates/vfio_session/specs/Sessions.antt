@@ -1,5 +1,5 @@
 -- A session, and what a message makes of it.
-use Rattle.std.specs.Prelude.{ℕ, Bool, false, List, [], ◌∷◌, Option, Some, None, if◌then◌else◌}
+use Rattle.std.specs.Prelude.{ℕ, Bool, true, false, List, [], ◌∷◌, Option, Some, None, if◌then◌else◌}
 use Rattle.vfio_user.specs.declared.errno.Errno.{Errno}
 use Rattle.vfio_user.specs.declared.header.Header.{Header}
 use Rattle.vfio_user.specs.declared.reply.Reply.TheVariants.{Failed}
@@ -12,15 +12,20 @@ use Rattle.vfio_session.specs.declared.decision.Breach.{Breach}
 use Rattle.vfio_session.specs.declared.owed.Form.{Form}
 use Rattle.vfio_session.specs.declared.owed.Owed.{Owed}
 
--- whether a version was agreed on, the configuration space, and of each vector whether it has a file
+-- whether a version was agreed on, the configuration space, of each vector whether it has a file, and whether an area is offered to the client
 pub record SessionState : Type 0 where
   pub has_version : Bool
   pub space : List ℕ
   pub armed : List Bool
+  pub offers_area : Bool
 
 -- nothing was said yet
 abbrev pub fresh : SessionState
-fresh = record { has_version = false; space = initial; armed = false ∷ false ∷ false ∷ [] }
+fresh = record { has_version = false; space = initial; armed = false ∷ false ∷ false ∷ []; offers_area = false }
+
+-- the same session, in which an area is offered
+abbrev pub offering : SessionState → SessionState
+offering s = record s { offers_area = true }
 
 -- after a message: the session, the reply, what is asked and the reply that is owed for it, what becomes of the files, and why the
 -- connection ends

@@ -22,8 +22,11 @@
 //! # What a function has
 //!
 //! Version 0.0; nine regions, of which BAR 0 has the registers (16 KiB), BAR 3 the table of MSI-X (16 KiB), and region 7 is the configuration
-//! space (4 KiB, as one of PCI Express; zeros behind its 256 bytes); five types of interrupts, of which MSI-X has three vectors. No region has
-//! an area that a client may map.
+//! space (4 KiB, as one of PCI Express; zeros behind its 256 bytes); five types of interrupts, of which MSI-X has three vectors. A client
+//! may map no region, unless the caller offers an area of BAR 0 ([`Session::offer_area`]): the page with the registers of the transmit queues,
+//! offsets 0x2000 to 0x2FFF. Then the reply to DEVICE_GET_REGION_INFO of BAR 0 names it, and is the one reply beside which a file goes; its
+//! flags say so, by MMAP (bit 2). The page has nothing of the receive queues: a driver polls RXDCTL once it turned one off, so that its writes
+//! have to stay messages. What a client writes into the page, this crate neither sees nor is told.
 //!
 //! # What the protocol leaves open
 //!

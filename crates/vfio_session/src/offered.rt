@@ -19,6 +19,12 @@ pub(crate) const TABLE: u32 = 3;
 
 pub(crate) const CONFIGURATION: u32 = 7;
 
+// The page of BAR 0 with the registers of the transmit queues.
+const TRANSMIT_PAGE: Area = Area {
+    offset: 0x2000,
+    size: 0x1000,
+};
+
 // How many types of interrupts there are, which of them is MSI-X, and how many vectors that has.
 pub(crate) const IRQS: u32 = 5;
 
@@ -37,11 +43,15 @@ pub(crate) fn region_size(index: u32) -> u64
     }
 }
 
-// The area of a region that the client may map.
-pub(crate) fn region_area(_index: u32) -> Option<Area>
-    ensures { result ≡ area_of_region _index }
+// The area of a region that the client may map, where one is offered.
+pub(crate) fn region_area(offers: bool, index: u32) -> Option<Area>
+    ensures { result ≡ area_of_region offers index }
 {
-    None
+    if offers && index == REGISTERS {
+        Some(TRANSMIT_PAGE)
+    } else {
+        None
+    }
 }
 
 // How many interrupts of a type there are.

@@ -8,7 +8,7 @@ ghost use Rattle.pci_function.specs.Space.{bytes_at};
 ghost use Rattle.vfio_session.specs.declared.decision.Decision.TheVariants.{Answered, Asks, Ends};
 ghost use Rattle.vfio_user.specs.Replies.{of_lent as reply_lent};
 ghost use Rattle.vfio_session.specs.Decisions.{Says, count_of, ask_of, owed_of, fate_of, breach_of};
-ghost use Rattle.vfio_session.specs.Sessions.{fresh, answered, refused, asked, reply_to};
+ghost use Rattle.vfio_session.specs.Sessions.{fresh, offering, answered, refused, asked, reply_to};
 ghost use Rattle.vfio_session.specs.Regions.{read, read_register, write, write_register, write_configuration};
 ghost use Rattle.vfio_session.specs.Vectors.{set, turned_off, given_files, armed_after};
 ghost use Rattle.vfio_session.specs.Memory.{map, mapped, unmap};
@@ -41,6 +41,7 @@ pub struct Session {
     has_version: bool,
     space: PciFunction,
     armed: [bool; 3],
+    offers_area: bool,
 }
 
 impl Model for Session {
@@ -48,7 +49,7 @@ impl Model for Session {
 
     ghost Value = { SessionState };
 
-    ghost view = { λ s. record { has_version = s.has_version; space = s.space; armed = s.armed } };
+    ghost view = { λ s. record { has_version = s.has_version; space = s.space; armed = s.armed; offers_area = s.offers_area } };
 }
 
 impl Session {
@@ -60,7 +61,24 @@ impl Session {
             has_version: false,
             space: PciFunction::new(),
             armed: [false; 3],
+            offers_area: false,
         }
+    }
+
+    /// Offers the client to map the page of BAR 0 with the registers of the transmit queues, offsets 0x2000 to 0x2FFF: from now on the reply
+    /// to DEVICE_GET_REGION_INFO of BAR 0 names it as the one area that may be mapped, and a file of the region goes beside that reply. Nothing
+    /// else changes. It stays so until the connection ends, also where the function is reset.
+    pub fn offer_area(&mut self)
+        ensures { self.new ≡ offering self.old }
+    {
+        self.offers_area = true;
+    }
+
+    /// Whether that page is offered.
+    pub fn offers_area(&self) -> bool
+        ensures { result ≡ self.now.offers_area }
+    {
+        self.offers_area
     }
 
     /// Takes a whole message, header and body, with the number of files that came beside it, and decides what is done.
@@ -249,7 +267,7 @@ impl Session {
     {
         if query.index < REGIONS {
             let size = region_size(query.index);
-            let area = region_area(query.index);
+            let area = region_area(self.offers_area, query.index);
             say(header, Reply::RegionInfo(query, size, area), room)
         } else {
             refuse(header, Errno::Invalid, room)

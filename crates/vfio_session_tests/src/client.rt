@@ -35,10 +35,15 @@ impl Client {
     /// A client that agreed on a version, by QEMU's numbers.
     pub fn begun() -> Client {
         let mut client = Client::new();
+        client.begin();
+        client
+    }
+
+    /// Proposes version 0.0.
+    pub fn begin(&mut self) {
         let mut message = [0u8; 20];
         message[..8].copy_from_slice(&[0, 0, 1, 0, 20, 0, 0, 0]);
-        client.send(&message, 0, Settled::Finished);
-        client
+        self.send(&message, 0, Settled::Finished);
     }
 
     /// Sends a message with so many files beside it; what it asks for is settled so.

@@ -26,6 +26,8 @@ mod linux;
 #[cfg(test)]
 mod lives;
 #[cfg(test)]
+mod offers;
+#[cfg(test)]
 mod registers;
 #[cfg(test)]
 mod settling;

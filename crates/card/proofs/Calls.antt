@@ -21,8 +21,8 @@ use Rattle.vfio_session.specs.declared.decision.Ask.TheVariants.{Read, Write, Ma
 use Rattle.vfio_session.specs.declared.owed.Owed.{Owed}
 use Rattle.vfio_session.specs.Received.{received}
 use Rattle.vfio_session.specs.Sessions.{Received}
-use Rattle.card.specs.Card.{CardState, cleared, end_at}
-use Rattle.card.specs.Life.{Hears, Signals, Resets, Comes, Goes, Replaces, Admits, Dismisses, Notifies, HasLived, after_coming, after_notice, over_world, with_notes, without_guest, world_of}
+use Rattle.card.specs.Card.{CardState, cleared, end_at, with_offer}
+use Rattle.card.specs.Life.{Hears, Signals, Resets, Comes, Goes, Replaces, Admits, Dismisses, Notifies, Offers, HasLived, after_coming, after_notice, over_world, with_notes, without_guest, world_of}
 use Rattle.card.specs.Told.{after_reset, asked, joined, told, told_by, turned, with_session}
 
 -- a card whose world, host, mailboxes, ends and vectors are these
@@ -65,6 +65,10 @@ heard_lives old new p message files is =
 pub reset_lives : (old new : CardState) (p : ℕ) → new ≡ after_reset old p → HasLived (Resets p ∷ []) old new
 reset_lives old new p is =
     of_parts old new (after_reset old p) (ap world_of is) (ap (λ (c : CardState). c.hosted.host) is) (ap (λ (c : CardState). c.hosted.mailboxes) is) (ap (λ (c : CardState). c.ends) is) (ap (λ (c : CardState). c.raised) is) refl
+
+pub offered_lives : (old new : CardState) (p : ℕ) → new ≡ with_offer old p → HasLived (Offers p ∷ []) old new
+offered_lives old new p is =
+    of_parts old new (with_offer old p) (ap world_of is) (ap (λ (c : CardState). c.hosted.host) is) (ap (λ (c : CardState). c.hosted.mailboxes) is) (ap (λ (c : CardState). c.ends) is) (ap (λ (c : CardState). c.raised) is) refl
 
 pub signal_lives : (old new : CardState) (p vectors : ℕ) → new.hosted ≡ old.hosted → new.ends ≡ old.ends → new.raised ≡ slice_set old.raised p (slice_index old.raised p without vectors) → HasLived (Signals p vectors ∷ []) old new
 signal_lives old new p vectors hosted ends raised =

@@ -16,12 +16,13 @@ use Rattle.mailbox.specs.Address.{number_of}
 use Rattle.mailbox.specs.Mailbox.{notice_in}
 use Rattle.mailbox.proofs.Turns.{none_is, some_is}
 use Rattle.hosted.specs.Hosted.{mailbox_at}
+use Rattle.vfio_session.specs.Sessions.{offering}
 use Rattle.card.specs.Alike.{AreAlike, IsCard}
-use Rattle.card.specs.Card.{CardState, end_at}
-use Rattle.card.specs.Life.{Deed, Hears, Happens, Signals, Resets, Comes, Goes, Replaces, Admits, Dismisses, Notifies, IsDeed, Given, Own, Kept, Loses, Seen, Signalled, Noticed, accesses_in, sent_in, after_deed, given_by_others, given_in, heard_in, is_told_of_others, loses_to, shown_in, whose, world_of}
+use Rattle.card.specs.Card.{CardState, EndState, end_at}
+use Rattle.card.specs.Life.{Deed, Hears, Happens, Signals, Resets, Comes, Goes, Replaces, Admits, Dismisses, Notifies, Offers, IsDeed, Given, Own, Kept, Loses, Seen, Signalled, Noticed, accesses_in, sent_in, after_deed, given_by_others, given_in, heard_in, is_told_of_others, loses_to, shown_in, whose, world_of}
 use Rattle.card.specs.Served.{signalled}
 use Rattle.card.specs.Told.{told}
-use Rattle.card.proofs.Parts.{Pair, ends, mine}
+use Rattle.card.proofs.Parts.{Pair, ends, mine, session_pair}
 use Rattle.card.proofs.Standing.{Does, IsAlone, alone_does}
 use Rattle.card.proofs.Deeds.{Passes, Meets, apart, event_passes, events_meet, event_own, coming_meets, going_meets, replacing_meets, unseen, hearing_meets, signalling_meets, resetting_meets, notifying_meets, dismissing_meets, admitting_meets, losing_meets, admitting_passes}
 
@@ -85,6 +86,7 @@ passes p c (Admits q policy) below is there deed apart none =
     admitting_passes p c q policy (pair_alone p c below is there) deed (not_own p q apart) (none_lost (loses_to c.hosted.host q policy p) (number_of policy.address) none)
 passes p c (Dismisses q) below is there deed apart none = others_pass p q c (Dismisses q) tt refl deed (not_own p q apart) is there refl refl refl
 passes p c (Notifies q) below is there deed apart none = others_pass p q c (Notifies q) tt refl deed (not_own p q apart) is there (unseen p q (not_own p q apart) (Noticed (notice_in (mailbox_at c.hosted q)))) refl refl
+passes p c (Offers q) below is there deed apart none = others_pass p q c (Offers q) tt refl deed (not_own p q apart) is there refl refl refl
 
 pub deed_passes : (p : ℕ) (c : CardState) (x : Deed) → p < 64 → IsCard c → p < length (world_of c).functions → IsDeed x → given_in p c x ≡ None → Passes p c x
 deed_passes p c x below is there deed none = go (is_pool (whose x) p) refl none
@@ -94,6 +96,15 @@ deed_passes p c x below is there deed none = go (is_pool (whose x) p) refl none
     go false apart given = passes p c x below is there deed apart given
 
 -- ---- two deeds that give p the same
+
+-- an offer to p's client
+abbrev offered : EndState → EndState
+offered e = record e { session = offering e.session }
+
+offering_meets : (p : ℕ) (c d : CardState) → Pair p c d → Meets p c (Offers p) d (Offers p)
+offering_meets p c d b =
+    let after : Pair p (after_deed c (Offers p)) (after_deed d (Offers p)) = session_pair p c d (offered (end_at c p)) (offered (end_at d p)) b (ap offered (ends p c d b)) in
+    record { cards = after.alike; shown = refl; accesses = refl; sent = refl }
 
 -- a deed of p's own
 own_meets : (p : ℕ) (c d : CardState) (x : Deed) → Pair p c d → is_pool (whose x) p ≡ true → is_told_of_others p c x ≡ is_told_of_others p d x → Meets p c x d x
@@ -108,6 +119,7 @@ own_meets p c d (Replaces q memory) b own told_same = subst (λ (k : ℕ). Meets
 own_meets p c d (Admits q policy) b own told_same = subst (λ (k : ℕ). Meets p c (Admits k policy) d (Admits k policy)) (sym (eqb-true q p own)) (admitting_meets p c d policy b told_same)
 own_meets p c d (Dismisses q) b own told_same = subst (λ (k : ℕ). Meets p c (Dismisses k) d (Dismisses k)) (sym (eqb-true q p own)) (dismissing_meets p c d b)
 own_meets p c d (Notifies q) b own told_same = subst (λ (k : ℕ). Meets p c (Notifies k) d (Notifies k)) (sym (eqb-true q p own)) (notifying_meets p c d b)
+own_meets p c d (Offers q) b own told_same = subst (λ (k : ℕ). Meets p c (Offers k) d (Offers k)) (sym (eqb-true q p own)) (offering_meets p c d b)
 
 -- what others give, by what it is: a frame, or an address that is lost
 abbrev IsFrom : ℕ → CardState → Deed → Given → Type 0
@@ -134,6 +146,7 @@ from_others p c (Replaces q memory) g given = absurd (none_is given)
 from_others p c (Admits q policy) g given = lost_from p c q policy (loses_to c.hosted.host q policy p) g refl given
 from_others p c (Dismisses q) g given = absurd (none_is given)
 from_others p c (Notifies q) g given = absurd (none_is given)
+from_others p c (Offers q) g given = absurd (none_is given)
 
 others_meet : (p : ℕ) (c d : CardState) (x y : Deed) (g : Given) → Pair p c d → IsDeed x → IsDeed y → is_pool (whose x) p ≡ false → is_pool (whose y) p ≡ false → IsFrom p c x g → IsFrom p d y g → Meets p c x d y
 others_meet p c d x y (Own z is_told) b deed also_deed apart also_apart one two = absurd one

@@ -13,7 +13,7 @@ use Rattle.vfio_session.specs.Received.{received}
 use Rattle.vfio_session.specs.Sessions.{Received}
 use Rattle.card.specs.Alike.{AreAlike}
 use Rattle.card.specs.Card.{CardState, end_at}
-use Rattle.card.specs.Life.{Deed, Hears, Happens, Signals, Resets, Comes, Goes, Replaces, Admits, Dismisses, Notifies, HasLived, after_coming, after_deed, card_after, over_world, with_notes, without_guest, world_of}
+use Rattle.card.specs.Life.{Deed, Hears, Happens, Signals, Resets, Comes, Goes, Replaces, Admits, Dismisses, Notifies, Offers, HasLived, after_coming, after_deed, card_after, over_world, with_notes, without_guest, world_of}
 use Rattle.card.specs.Told.{asked, told, told_by, with_session}
 use Rattle.card.proofs.Services.{life_append}
 
@@ -71,6 +71,7 @@ deed_noted c n (Replaces p memory) = refl
 deed_noted c n (Admits p policy) = refl
 deed_noted c n (Dismisses p) = refl
 deed_noted c n (Notifies p) = refl
+deed_noted c n (Offers p) = refl
 
 life_noted : (c : CardState) (n : List (List Access)) (xs : List Deed) → card_after (with_notes c n) xs ≡ with_notes (card_after c xs) n
 life_noted c n [] = refl

@@ -280,7 +280,7 @@ reset_alike p c d b = record {
 -- ---- a message
 
 -- with another end of p, the same in both
-session_pair : (p : ℕ) (c d : CardState) (e f : EndState) → Pair p c d → e ≡ f → Pair p (with_end c p e) (with_end d p f)
+pub session_pair : (p : ℕ) (c d : CardState) (e f : EndState) → Pair p c d → e ≡ f → Pair p (with_end c p e) (with_end d p f)
 session_pair p c d e f b same = record {
   below = b.below;
   one = record { hosted = b.one.hosted; ends = length-set c.ends p e ∙ b.one.ends; raised = b.one.raised; sets = b.one.sets };

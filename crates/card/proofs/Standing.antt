@@ -45,11 +45,11 @@ use Rattle.vfio_session.specs.declared.decision.Ask.{Ask}
 use Rattle.vfio_session.specs.declared.decision.Ask.TheVariants.{Read, Write, Map, Unmap, Reset, Arm, Disarm}
 use Rattle.vfio_session.specs.declared.owed.Owed.{Owed}
 use Rattle.vfio_session.specs.Received.{received}
-use Rattle.vfio_session.specs.Sessions.{Received}
+use Rattle.vfio_session.specs.Sessions.{Received, offering}
 use Rattle.card.proofs.Raised.{both_count, both_small, either_small, set_small}
 use Rattle.card.specs.Alike.{IsCard}
-use Rattle.card.specs.Card.{CardState, EndState, LeavesAlone, end_at, quiet}
-use Rattle.card.specs.Life.{Deed, Hears, Happens, Signals, Resets, Comes, Goes, Replaces, Admits, Dismisses, Notifies, IsDeed, after_coming, after_deed, after_notice, card_after, ends_after, over_world, whose, without_guest, world_of}
+use Rattle.card.specs.Card.{CardState, EndState, LeavesAlone, end_at, quiet, with_offer}
+use Rattle.card.specs.Life.{Deed, Hears, Happens, Signals, Resets, Comes, Goes, Replaces, Admits, Dismisses, Notifies, Offers, IsDeed, after_coming, after_deed, after_notice, card_after, ends_after, over_world, whose, without_guest, world_of}
 use Rattle.card.specs.Served.{with_busy}
 use Rattle.card.specs.Told.{after_read, after_reset, after_write, asked, joined, marked, told, told_by, told_with, turned, with_session}
 
@@ -242,6 +242,11 @@ session_does : (q : ℕ) (c : CardState) (r : Received) → IsCard c → Does q 
 session_does q c r is =
     plainly_does q c (slice_set c.ends q (record (end_at c q) { session = r.session })) c.raised is (set_apart q quiet (record (end_at c q) { session = r.session }) c.ends) (same_apart q 0 c.raised) is.sets
 
+offer_does : (q : ℕ) (c : CardState) → IsCard c → Does q c (with_offer c q)
+offer_does q c is =
+    let e : EndState = record (end_at c q) { session = offering (end_at c q).session } in
+    plainly_does q c (slice_set c.ends q e) c.raised is (set_apart q quiet e c.ends) (same_apart q 0 c.raised) is.sets
+
 told_does : (q : ℕ) (c : CardState) (message : List ℕ) (files : ℕ) → q < 64 → IsCard c → Does q c (told c q message files).card
 unfolding told
 told_does q c message files below is =
@@ -314,6 +319,7 @@ alone_does q c (Dismisses r) one at below is =
     subst (λ (k : ℕ). Does q c (after_deed c (Dismisses k))) (some_is (sym at))
     (turns_do q c (DismissesTurn q ∷ []) c.hosted.mailboxes c.ends c.raised below is (own_dismiss q) (same_apart q blank c.hosted.mailboxes) (same_apart q quiet c.ends) (same_apart q 0 c.raised) is.sets)
 alone_does q c (Notifies r) one at below is = subst (λ (k : ℕ). Does q c (after_deed c (Notifies k))) (some_is (sym at)) (notice_does q c (notice_in (mailbox_at c.hosted q)) is)
+alone_does q c (Offers r) one at below is = subst (λ (k : ℕ). Does q c (after_deed c (Offers k))) (some_is (sym at)) (offer_does q c is)
 
 -- ---- an event, and a policy
 
@@ -383,6 +389,7 @@ deed_stands c (Replaces p memory) deed is = (alone_does p c (Replaces p memory) 
 deed_stands c (Admits p policy) deed is = admit_stands c p policy deed is
 deed_stands c (Dismisses p) deed is = (alone_does p c (Dismisses p) tt refl deed is).stands
 deed_stands c (Notifies p) deed is = (alone_does p c (Notifies p) tt refl deed is).stands
+deed_stands c (Offers p) deed is = (alone_does p c (Offers p) tt refl deed is).stands
 
 -- ---- a life
 

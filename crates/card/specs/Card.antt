@@ -3,7 +3,7 @@ use Rattle.std.specs.Prelude.{◌≡◌, ◌≢◌, ℕ, Bool, false, List, repl
 use Rattle.irq_causes.specs.Messages.{no_messages}
 use Rattle.offload.specs.declared.offloads.Offloads.{Offloads}
 use Rattle.mailbox.specs.State.{HostState}
-use Rattle.vfio_session.specs.Sessions.{SessionState, fresh}
+use Rattle.vfio_session.specs.Sessions.{SessionState, fresh, offering}
 use Rattle.hosted.specs.Hosted.{HostedState, IsBegun, LeavesOthers}
 
 -- the session, and of each transmit queue whether it may have descriptors that were not taken yet
@@ -12,7 +12,7 @@ pub record EndState : Type 0 where
   pub busy_0 : Bool
   pub busy_1 : Bool
 
--- nothing was said, and no queue is busy
+-- nothing was said, nothing is offered, and no queue is busy
 abbrev pub quiet : EndState
 quiet = record { session = fresh; busy_0 = false; busy_1 = false }
 
@@ -27,6 +27,10 @@ end_at c p = slice_index_or c.ends p quiet
 
 abbrev pub with_end : CardState → ℕ → EndState → CardState
 with_end c p e = record c { ends = slice_set c.ends p e }
+
+-- in the session of pool p an area is offered to its client, and all else is as it was
+abbrev pub with_offer : CardState → ℕ → CardState
+with_offer c p = with_end c p (record (end_at c p) { session = offering (end_at c p).session })
 
 -- the end of pool p as a new one, with nothing raised
 abbrev pub cleared : CardState → ℕ → CardState

@@ -40,14 +40,14 @@ use Rattle.hosted.specs.Hosted.{mailbox_at, with_world}
 use Rattle.hosted.specs.Turns.{prompted_by, reset_turns, vectors_by, write_turns}
 use Rattle.card.specs.declared.step.Order.{Order}
 use Rattle.card.specs.Alike.{AreAlike, is_address_held}
-use Rattle.card.specs.Card.{CardState, EndState, cleared, end_at}
+use Rattle.card.specs.Card.{CardState, EndState, cleared, end_at, with_offer}
 use Rattle.card.specs.Served.{signalled, with_busy}
 use Rattle.card.specs.Told.{Told, after_reset, joined, told, turned}
 
 -- what one call does, or happens meanwhile: a whole message of a function's client is heard; the device has an event of frames or of memory, as
 -- a service, a frame from the wire, or a guest's own write; of the vectors of a function these are handed out; it is reset; a guest comes to it,
 -- with its memory; a guest goes from it; it gets another memory; it gets a policy; it loses its policy; the host leaves it a message, and raises
--- its cause "other" where the message stands
+-- its cause "other" where the message stands; its client is offered an area of its registers
 pub data Deed : Type 0 where
   Hears : (pool : ℕ) → (message : List ℕ) → (files : ℕ) → Deed
   Happens : (event : Event) → Deed
@@ -59,6 +59,7 @@ pub data Deed : Type 0 where
   Admits : (pool : ℕ) → (policy : Policy) → Deed
   Dismisses : (pool : ℕ) → Deed
   Notifies : (pool : ℕ) → Deed
+  Offers : (pool : ℕ) → Deed
 
 -- there are 64 pools, and the registers of the physical function are the host's alone to change
 abbrev pub IsDeed : Deed → Type 0
@@ -72,6 +73,7 @@ IsDeed (Replaces p memory) = p < 64
 IsDeed (Admits p policy) = p < 64
 IsDeed (Dismisses p) = p < 64
 IsDeed (Notifies p) = p < 64
+IsDeed (Offers p) = p < 64
 
 -- ---- what a deed does
 
@@ -122,6 +124,7 @@ after_deed c (Replaces p memory) = over_world c (stepped (world_of c) (DeviceRep
 after_deed c (Admits p policy) = record c { hosted = turned c.hosted (AdmitsTurn p policy ∷ []) c.hosted.mailboxes }
 after_deed c (Dismisses p) = record c { hosted = turned c.hosted (DismissesTurn p ∷ []) c.hosted.mailboxes }
 after_deed c (Notifies p) = after_notice c p (notice_in (mailbox_at c.hosted p))
+after_deed c (Offers p) = with_offer c p
 
 -- a life: one deed after another
 abbrev pub card_after : CardState → List Deed → CardState
@@ -153,6 +156,7 @@ shown_in p c (Replaces q memory) = option_map Seen (sight_in p (world_of c) (Dev
 shown_in p c (Admits q policy) = if q == p then Some (Judged (refusal c.hosted.host q policy)) else None
 shown_in p c (Dismisses q) = None
 shown_in p c (Notifies q) = if q == p then Some (Noticed (notice_in (mailbox_at c.hosted q))) else None
+shown_in p c (Offers q) = None
 
 abbrev pub shows : ℕ → CardState → List Deed → List Show
 shows p c [] = []
@@ -190,6 +194,7 @@ whose (Replaces p memory) = Some p
 whose (Admits p policy) = Some p
 whose (Dismisses p) = Some p
 whose (Notifies p) = Some p
+whose (Offers p) = Some p
 
 -- what its own deed tells it of the others: whether one holds the address that its driver asks for and may choose, or owns that of its policy
 abbrev pub is_told_of_others : ℕ → CardState → Deed → Bool

@@ -37,7 +37,7 @@ impl Model for End {
 }
 
 impl End {
-    // Nothing was said, and no queue is busy.
+    // Nothing was said, nothing is offered, and no queue is busy.
     pub(crate) fn quiet() -> End
         ensures { result ≡ quiet }
     {

@@ -7,8 +7,8 @@ ghost use Rattle.mailbox.specs.Mailbox.{blank};
 ghost use Rattle.mailbox_laws.specs.Turns.Turn.{Forgets};
 ghost use Rattle.vf_unit.specs.Guests.{IsFormer};
 ghost use Rattle.hosted.specs.Hosted.{HaveTaken, with_world};
-ghost use Rattle.card.specs.Card.{LeavesAlone, cleared};
-ghost use Rattle.card.specs.Life.{Comes, Goes, HasLived, Replaces};
+ghost use Rattle.card.specs.Card.{LeavesAlone, cleared, with_offer};
+ghost use Rattle.card.specs.Life.{Comes, Goes, HasLived, Offers, Replaces};
 
 use crate::card::{Card, End};
 use device::NotTaken;
@@ -18,8 +18,8 @@ use wire_frame::PoolId;
 
 impl<D: Dma<K>, K> Card<D, K> {
     /// A guest comes to a vacant function with its memory, as [`HostedDevice::attach`](hosted::HostedDevice::attach) says, and a client
-    /// that has said nothing: no queue is busy, no vector has a file, and none waits to be signalled. Where the guest is refused,
-    /// nothing changes.
+    /// that has said nothing and is offered nothing: no queue is busy, no vector has a file, and none waits to be signalled. Where the
+    /// guest is refused, nothing changes.
     ///
     /// [`Fault::NoSuchVf`](wire_frame::Fault::NoSuchVf), then [`Fault::AlreadyOpen`](wire_frame::Fault::AlreadyOpen) where the function
     /// isn't vacant, then [`Fault::BadMake`](wire_frame::Fault::BadMake) where the memory has no byte or more than 2^46.
@@ -109,6 +109,23 @@ impl<D: Dma<K>, K> Card<D, K> {
         ensures unchanged { OnErr result (self.new ≡ self.old) }
     {
         self.hosted.replace_memory(pool.get(), memory)
+    }
+
+    /// Offers a function's client to map the page of BAR 0 with the registers of the transmit queues, as
+    /// [`Session::offer_area`](vfio_session::Session::offer_area) says, so that its driver writes their tails without a message. It is for
+    /// a shell that keeps such a page, and reads it: it says so once a guest has come, before its client speaks. Beside the reply to
+    /// DEVICE_GET_REGION_INFO whose flags have MMAP (bit 2) a file of the region goes then. What is written into the page the card doesn't
+    /// know: the shell hands it on as the writes of registers that it stands for ([`Card::receive`]).
+    ///
+    /// The offer goes with the guest, and with the end of its client's connection. Another function's client is offered nothing.
+    #[tactic(auto, using(crate::proofs::Calls::offered_lives))]
+    pub fn offer_area(&mut self, pool: PoolId)
+        ensures card { self.new ≡ with_offer self.old pool }
+        ensures lived { HasLived (Offers pool ∷ []) self.old self.new }
+        ensures others { LeavesAlone pool self.old self.new }
+    {
+        let session = &mut self.ends[usize::from(pool.get())].session;
+        session.offer_area();
     }
 
     // Nothing of a function's client is left.

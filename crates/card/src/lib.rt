@@ -6,7 +6,8 @@
 //! function's own session reads it ([`vfio_session`](../vfio_session/index.html)), and the card reads and writes registers and resets the
 //! function; the driver's messages to its host, by the mailbox, are answered in the same call. What needs a file is left to the shell, as
 //! one of four orders ([`Order`]). Descriptors are taken by [`Card::more`] alone, so many at a time, for the queues whose tails were
-//! written; vectors that are raised wait until [`Card::signal`] names them, and hands them out for their own function.
+//! written; vectors that are raised wait until [`Card::signal`] names them, and hands them out for their own function. A client may be offered
+//! to map a page of its registers ([`Card::offer_area`]): then one reply has a file of the shell's beside it, and says so by its flags.
 //!
 //! A function's client reaches nothing of another function: after each of these calls for function p every other function is as it was, in
 //! the device, at the host, its mailbox, its session, its queues and its vectors. That is a clause of each call (`others`), whatever bytes

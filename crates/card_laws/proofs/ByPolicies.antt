@@ -30,7 +30,7 @@ use Rattle.vfio_session.specs.Received.{received}
 use Rattle.card.specs.Alike.{IsCard, Part, asked_address, asked_in, is_address_held, is_held, may_choose}
 use Rattle.mailbox.specs.State.{is_taken}
 use Rattle.card.specs.Card.{CardState, EndState, end_at}
-use Rattle.card.specs.Life.{Deed, Hears, Happens, Signals, Resets, Comes, Goes, Replaces, Admits, Dismisses, Notifies, IsDeed, IsLivedAlike, Seen, Show, after_deed, shown_in, world_of}
+use Rattle.card.specs.Life.{Deed, Hears, Happens, Signals, Resets, Comes, Goes, Replaces, Admits, Dismisses, Notifies, Offers, IsDeed, IsLivedAlike, Seen, Show, after_deed, shown_in, world_of}
 use Rattle.card_laws.specs.Erased.{AreAlikeOutside, BeforeEach, HasOwnVlans, LeavesNoInput, StaysApart, chooses, erase, input_in, inputs, is_groups, is_outside, is_service}
 use Rattle.card_laws.proofs.Addresses.{taken_same}
 use Rattle.card_laws.proofs.Steady.{Laws}
@@ -151,6 +151,7 @@ input_same laws group p c d (Replaces q memory) b none free = refl
 input_same laws group p c d (Admits q policy) b none free = refl
 input_same laws group p c d (Dismisses q) b none free = refl
 input_same laws group p c d (Notifies q) b none free = refl
+input_same laws group p c d (Offers q) b none free = refl
 
 -- ---- and so a life
 

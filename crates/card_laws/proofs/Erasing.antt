@@ -9,7 +9,7 @@ use Rattle.device.specs.Erased.{IsApart}
 use Rattle.mailbox.specs.Within.{KeepsPolicies}
 use Rattle.card.specs.Alike.{AreAlike, IsCard}
 use Rattle.card.specs.Card.{CardState}
-use Rattle.card.specs.Life.{Deed, Hears, Happens, Signals, Resets, Comes, Goes, Replaces, Admits, Dismisses, Notifies, IsDeed, HasLived, IsLivedAlike, Given, after_deed, card_after, given, world_of}
+use Rattle.card.specs.Life.{Deed, Hears, Happens, Signals, Resets, Comes, Goes, Replaces, Admits, Dismisses, Notifies, Offers, IsDeed, HasLived, IsLivedAlike, Given, after_deed, card_after, given, world_of}
 use Rattle.card_laws.specs.Erased.{AreAlikeOutside, StaysApart, erase, input_in, inputs, is_groups, is_service}
 use Rattle.card_laws.proofs.Addresses.{policies_admitted, policies_dismissed}
 use Rattle.card_laws.proofs.Steady.{IsPlain, LawOfCalls, Laws, as_many, deed_keeps, groups_plain}
@@ -36,6 +36,7 @@ policies_after group p c d (Admits q policy) b deed =
     policies_admitted c.hosted.host d.hosted.host q policy deed b.one.hosted.slots b.two.hosted.slots (alike_here group p c d b).ids b.alike.policies
 policies_after group p c d (Dismisses q) b deed = policies_dismissed c.hosted.host d.hosted.host q b.alike.policies
 policies_after group p c d (Notifies q) b deed = policies_plain c d (Notifies q) b.alike.policies tt
+policies_after group p c d (Offers q) b deed = policies_plain c d (Offers q) b.alike.policies tt
 
 -- the group's deed, of the first card alone
 pub groups_after : Laws → (group : ℕ → Bool) (p : ℕ) (c d : CardState) (x : Deed) → Pair group p c d → IsDeed x → is_groups group x ≡ true
@@ -126,6 +127,7 @@ input_shape group c d (Replaces q memory) = refl
 input_shape group c d (Admits q policy) = refl
 input_shape group c d (Dismisses q) = refl
 input_shape group c d (Notifies q) = refl
+input_shape group c d (Offers q) = refl
 
 -- ---- the whole life
 

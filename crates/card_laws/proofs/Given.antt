@@ -24,7 +24,7 @@ use Rattle.mailbox.proofs.Turns.{some_is}
 use Rattle.mailbox_laws.specs.Turns.{sets_registers}
 use Rattle.card.specs.Alike.{AreAlike, IsCard, Part, is_address_held}
 use Rattle.card.specs.Card.{CardState}
-use Rattle.card.specs.Life.{Deed, Hears, Happens, Signals, Resets, Comes, Goes, Replaces, Admits, Dismisses, Notifies, IsDeed, IsLivedAlike, Given, Own, Kept, Loses, given_by_others, given_in, is_told_of_others, loses_to, sent_in, whose, world_of}
+use Rattle.card.specs.Life.{Deed, Hears, Happens, Signals, Resets, Comes, Goes, Replaces, Admits, Dismisses, Notifies, Offers, IsDeed, IsLivedAlike, Given, Own, Kept, Loses, given_by_others, given_in, is_told_of_others, loses_to, sent_in, whose, world_of}
 use Rattle.card_laws.specs.Erased.{AreAlikeOutside, falls_outside, input_in, is_groups, is_outside, is_service}
 use Rattle.card_laws.proofs.Addresses.{holder_alike, owned_alike, refusal_alike}
 use Rattle.card_laws.proofs.Steady.{Laws}
@@ -98,6 +98,7 @@ groups_none group p c (Replaces q memory) card small outside is apart = others_g
 groups_none group p c (Admits q policy) card small outside is apart = absurd (true≢false (sym is))
 groups_none group p c (Dismisses q) card small outside is apart = absurd (true≢false (sym is))
 groups_none group p c (Notifies q) card small outside is apart = others_given p c (Notifies q) (differs group p (Some q) is outside)
+groups_none group p c (Offers q) card small outside is apart = others_given p c (Offers q) (differs group p (Some q) is outside)
 
 -- ---- frames, in both cards
 
@@ -231,6 +232,7 @@ others_same laws group p c d (Replaces q memory) b deed free same = refl
 others_same laws group p c d (Admits q policy) b deed free same = ap (λ (t : Bool). if t then Some (Loses (number_of policy.address)) else None) (loses_same group p q policy c d b)
 others_same laws group p c d (Dismisses q) b deed free same = refl
 others_same laws group p c d (Notifies q) b deed free same = refl
+others_same laws group p c d (Offers q) b deed free same = refl
 
 told_same : (group : ℕ → Bool) (p : ℕ) (c d : CardState) (x : Deed) → Pair group p c d → is_pool (whose x) p ≡ true → input_in group c x ≡ input_in group d x → is_told_of_others p c x ≡ is_told_of_others p d x
 told_same group p c d (Hears q message files) b own same = subst (λ (k : ℕ). is_address_held c k message files ≡ is_address_held d k message files) (eqb-true q p own) (some_is same)
@@ -243,6 +245,7 @@ told_same group p c d (Replaces q memory) b own same = refl
 told_same group p c d (Admits q policy) b own same = owned_alike c.hosted.host d.hosted.host p (number_of policy.address) b.alike.policies
 told_same group p c d (Dismisses q) b own same = refl
 told_same group p c d (Notifies q) b own same = refl
+told_same group p c d (Offers q) b own same = refl
 
 pub given_same : Laws → (group : ℕ → Bool) (p : ℕ) (c d : CardState) (x : Deed) → Pair group p c d → IsDeed x → is_groups group x ≡ false → input_in group c x ≡ input_in group d x
     → given_in p c x ≡ given_in p d x

@@ -30,7 +30,7 @@ use Rattle.vfio_session.specs.Received.{received}
 use Rattle.vfio_session.specs.Sessions.{Received}
 use Rattle.card.specs.Alike.{AreAlike, IsCard}
 use Rattle.card.specs.Card.{CardState, end_at}
-use Rattle.card.specs.Life.{Deed, Hears, Happens, Signals, Resets, Comes, Goes, Replaces, Admits, Dismisses, Notifies, IsDeed, HasLived, IsLivedAlike, after_coming, after_deed, card_after, events_heard, given, over_world, without_guest, world_of}
+use Rattle.card.specs.Life.{Deed, Hears, Happens, Signals, Resets, Comes, Goes, Replaces, Admits, Dismisses, Notifies, Offers, IsDeed, HasLived, IsLivedAlike, after_coming, after_deed, card_after, events_heard, given, over_world, without_guest, world_of}
 use Rattle.card.specs.Told.{asked, told, told_by, with_session}
 use Rattle.card_laws.specs.Erased.{is_groups}
 
@@ -82,6 +82,7 @@ as_many laws c (Replaces q memory) = replacing_many c q memory (replace_refusal 
 as_many laws c (Admits q policy) = as_many_after (world_of c) (events_of c.hosted.host (AdmitsTurn q policy ∷ []))
 as_many laws c (Dismisses q) = as_many_after (world_of c) (events_of c.hosted.host (DismissesTurn q ∷ []))
 as_many laws c (Notifies q) = (prompt_changes q (world_of c) (notice_in (mailbox_at c.hosted q))).many
+as_many laws c (Offers q) = refl
 
 -- ---- policies
 
@@ -149,6 +150,7 @@ deed_keeps c (Replaces q memory) plain = λ n. refl
 deed_keeps c (Admits q policy) plain = absurd plain
 deed_keeps c (Dismisses q) plain = absurd plain
 deed_keeps c (Notifies q) plain = λ n. refl
+deed_keeps c (Offers q) plain = λ n. refl
 
 -- so is each of the group's
 pub groups_plain : (group : ℕ → Bool) (x : Deed) → is_groups group x ≡ true → IsPlain x
@@ -162,3 +164,4 @@ groups_plain group (Replaces q memory) is = tt
 groups_plain group (Admits q policy) is = absurd (true≢false (sym is))
 groups_plain group (Dismisses q) is = absurd (true≢false (sym is))
 groups_plain group (Notifies q) is = tt
+groups_plain group (Offers q) is = tt

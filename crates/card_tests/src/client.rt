@@ -96,6 +96,10 @@ impl<'a> Clients<'a> {
         self.card.attach(pool, memory).is_ok()
     }
 
+    pub fn offer_area(&mut self, pool: PoolId) {
+        self.card.offer_area(pool);
+    }
+
     /// The guest's memory, where there was one; a vacancy that comes from here stands in its place.
     pub fn detach(&mut self, pool: PoolId, alloc: Global) -> Result<LiveMem<'a>, Fail> {
         match self.card.detach(pool, LiveMem::for_guest(alloc, 0)?) {

@@ -32,6 +32,11 @@ extern "C" {
 #define VFDEV_CARD_REGIONS 64u
 /* How many vectors a function has. */
 #define VFDEV_CARD_VECTORS 3u
+/* The page of BAR 0 that a client may be offered (vfdev_card_offer_area): its offset, and its bytes. */
+#define VFDEV_CARD_AREA 0x2000u
+#define VFDEV_CARD_AREA_SIZE 0x1000u
+/* The flag of a region by which a reply says that a file goes beside it (VFIO_REGION_INFO_FLAG_MMAP). */
+#define VFDEV_CARD_MMAP 4u
 /* No function, where one may be named. */
 #define VFDEV_CARD_NOBODY 255u
 
@@ -163,6 +168,15 @@ VFDEV_LOOK uint32_t vfdev_card_attach(vfdev_card *card, uint8_t function);
 /* A guest goes: nothing of it or of its client is left, and the blocks that were mapped are the caller's again.
  * VFDEV_NO_SUCH_VF, VFDEV_NOT_OPEN where it is vacant, VFDEV_CARD_NO_CARD. */
 VFDEV_LOOK uint32_t vfdev_card_detach(vfdev_card *card, uint8_t function);
+
+/* Offers the function's client to map the page of its registers with those of the transmit queues, offsets VFDEV_CARD_AREA to
+ * VFDEV_CARD_AREA + VFDEV_CARD_AREA_SIZE - 1 of BAR 0. It is for a shell that keeps such a page: it calls this once the guest has come, before
+ * its client speaks. From then on the reply to DEVICE_GET_REGION_INFO of BAR 0 (vfdev_card_receive) names the page, and a file of BAR 0 goes
+ * beside each such reply, and beside no other. The shell knows it by the reply: it has 48 bytes or more, its command, 2 bytes at offset 2, is
+ * 5, and its flags, 4 bytes at offset 20, have VFDEV_CARD_MMAP. What a guest writes into the page the card doesn't know: the shell hands it on.
+ * The offer goes with the guest, and with its client's connection. A reset leaves it.
+ * VFDEV_OK; VFDEV_NO_SUCH_VF where the number is none below 64; VFDEV_CARD_NO_CARD. */
+uint32_t vfdev_card_offer_area(vfdev_card *card, uint8_t function);
 
 /* The block is memory of the function's guest from the address on: the order VFDEV_STEP_MAP. It stays mapped until vfdev_card_unmap,
  * vfdev_card_detach or vfdev_card_free, and its guest may read and write it at any time. Writes to a read-only one are dropped.

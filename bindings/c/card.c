@@ -1,5 +1,6 @@
 /* The calls of vfdev_card.h, by numbers worked out by hand: makers and freeing, guests and their regions, messages of a client, frames,
- * policies, and what a driver leaves to a card. It writes nothing, and ends with 0, where all is as it should be. */
+ * policies, what a driver leaves to a card, and the page of registers that a client may map. It writes nothing, and ends with 0, where all is
+ * as it should be. */
 #include "client.h"
 #include "vfdev_regs.h"
 
@@ -256,6 +257,41 @@ static void offloads(void)
     vfdev_card_free(&card);
 }
 
+/* The flags of BAR 0, told to a client that asks with room for 64 bytes. The reply has `due` bytes. */
+static uint32_t asked(vfdev_card *card, uint8_t function, size_t due)
+{
+    const uint8_t ask[48] = {7, 0, 5, 0, 48, [16] = 64};
+    EQUAL(say(card, function, ask, 0).reply, due);
+    EQUAL(room[2], 5);
+    return room[20];
+}
+
+/* A client is offered the page of its registers by that call alone, no other function's is, and not the next guest's; a reset leaves it so. */
+static void areas(void)
+{
+    vfdev_card card = VFDEV_CARD_NONE;
+    EQUAL(vfdev_card_offer_area(&card, 0), VFDEV_CARD_NO_CARD);
+    EQUAL(vfdev_card_make(&card, 2, ids, 2, VFDEV_CARD_NOBODY, 1518, 0), VFDEV_OK);
+    EQUAL(vfdev_card_offer_area(&card, 64), VFDEV_NO_SUCH_VF);
+    for (uint8_t function = 0; function < 2; function++) {
+        EQUAL(vfdev_card_attach(&card, function), VFDEV_OK);
+    }
+    EQUAL(vfdev_card_offer_area(&card, 0), VFDEV_OK);
+    for (uint8_t function = 0; function < 2; function++) {
+        EQUAL(say(&card, function, version, 0).reply, 114);
+    }
+    EQUAL(asked(&card, 1, 48) & VFDEV_CARD_MMAP, 0);
+    EQUAL(vfdev_card_flr(&card, 0), VFDEV_OK);
+    EQUAL(asked(&card, 0, 80) & VFDEV_CARD_MMAP, VFDEV_CARD_MMAP);
+    EQUAL(room[65] << 8, VFDEV_CARD_AREA);
+    EQUAL(room[73] << 8, VFDEV_CARD_AREA_SIZE);
+    EQUAL(vfdev_card_detach(&card, 0), VFDEV_OK);
+    EQUAL(vfdev_card_attach(&card, 0), VFDEV_OK);
+    EQUAL(say(&card, 0, version, 0).reply, 114);
+    EQUAL(asked(&card, 0, 48) & VFDEV_CARD_MMAP, 0);
+    vfdev_card_free(&card);
+}
+
 int main(void)
 {
     vfdev_card card = VFDEV_CARD_NONE;
@@ -283,5 +319,6 @@ int main(void)
     EQUAL(vfdev_card_wire(&card, frame, 60).kind, VFDEV_NO_DEVICE);
     vfdev_card_free(&card);
     offloads();
+    areas();
     return 0;
 }

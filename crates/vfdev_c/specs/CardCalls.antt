@@ -38,7 +38,7 @@ use Rattle.vfio_session.specs.declared.decision.Breach.{Breach}
 use Rattle.vfio_session.specs.declared.decision.Breach.TheVariants.{NoHeader, WrongSize, NoVersion, OtherVersion, SecondVersion, StrayFiles}
 use Rattle.vfio_session.specs.declared.owed.Owed.{Owed}
 use Rattle.vfio_session.specs.declared.owed.Settled.TheVariants.{Finished}
-use Rattle.card.specs.Card.{LeavesAlone, cleared, end_at}
+use Rattle.card.specs.Card.{LeavesAlone, cleared, end_at, with_offer}
 use Rattle.card.specs.Served.{AreServed, is_busy, signalled}
 use Rattle.card.specs.Told.{Told, after_reset, joined, told}
 use Rattle.card.specs.declared.step.Order.{Order}
@@ -229,6 +229,10 @@ pub record Maps (p at count : ℕ) (c d : HeldCard) (answer : ℕ) : Type 0 wher
 pub record Unmaps (p : ℕ) (c d : HeldCard) (answer : ℕ) : Type 0 where
   pub answered : IsUnmapAnswer (no_guest c.card.hosted.device.world p) answer
   pub remaps : Remaps p c d
+
+-- a function's client is offered an area of its registers
+abbrev pub offers : ℕ → HeldCard → HeldCard
+offers p c = if nat_lt p 64 then record c { card = with_offer c.card p } else c
 
 -- ---- frames and interrupts
 

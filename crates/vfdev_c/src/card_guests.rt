@@ -1,7 +1,7 @@
 //! Guests of a card, and regions of their memories.
-ghost use Rattle.std.specs.Prelude.{◌≡◌, length};
+ghost use Rattle.std.specs.Prelude.{◌≡◌, length, nat_lt, if◌then◌else◌};
 ghost use Rattle.card.specs.Card.{LeavesAlone};
-ghost use Rattle.vfdev_c.specs.CardCalls.{Attaches, Detaches, Maps, OnCard, OthersStay, Unmaps, reason_number};
+ghost use Rattle.vfdev_c.specs.CardCalls.{Attaches, Detaches, Maps, OnCard, OthersStay, Unmaps, of_card, offers, on_card, reason_number};
 
 use crate::block::Block;
 use crate::card_held::CardHeld;
@@ -69,6 +69,16 @@ pub extern "C" fn vfdev_card_unmap(alloc: Global, handle: &mut Vfdev, function: 
     on_card!(handle, alloc, NO_CARD, held => held.unmap(function, at))
 }
 
+/// A function's client is offered an area of its registers.
+#[unsafe(no_mangle)]
+pub extern "C" fn vfdev_card_offer_area(alloc: Global, handle: &mut Vfdev, function: u8) -> u32
+    ensures card { handle.new.owner.held ≡ on_card handle.old.owner.held (offers function) }
+    ensures answer { result ≡ of_card handle.old.owner.held 32 (λ c. if nat_lt function 64 then 0 else 1) }
+    ensures others { OthersStay function handle.old.owner.held handle.new.owner.held }
+{
+    on_card!(handle, alloc, NO_CARD, held => held.offer_area(function))
+}
+
 impl CardHeld {
     // A guest comes.
     #[tactic(auto, using(crate::proofs::CardLemmas::none_past))]
@@ -133,6 +143,21 @@ impl CardHeld {
         match self.spares.unmap(&mut self.card, pool, at) {
             Ok(_) => DONE,
             Err(why) => number_of(why),
+        }
+    }
+
+    // An area is offered.
+    fn offer_area(&mut self, function: u8) -> u32
+        ensures card { self.new ≡ offers function self.old }
+        ensures answer { result ≡ (if nat_lt function 64 then 0 else 1) }
+        ensures others { LeavesAlone function self.old.card self.new.card }
+    {
+        match PoolId::new(function) {
+            Some(pool) => {
+                self.card.offer_area(pool);
+                DONE
+            }
+            None => u32::from(Fault::NoSuchVf.number()),
         }
     }
 }

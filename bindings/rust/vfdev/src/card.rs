@@ -45,6 +45,10 @@ pub const SPACE: u64 = 1 << 46;
 pub const MOST_REGIONS: usize = 64;
 /// How many vectors a function has.
 pub const VECTORS: u32 = 3;
+/// The page of BAR 0 that a client may be offered ([`Card::offer_area`]): how many bytes of BAR 0 stand in front of it.
+pub const AREA: u64 = 0x2000;
+/// How many bytes that page has.
+pub const AREA_SIZE: u64 = 0x1000;
 /// How many VLAN ids policies may name.
 pub const MOST_IDS: usize = 64;
 
@@ -462,6 +466,38 @@ impl Card {
     pub fn detach(&mut self, function: u8) -> Result<(), CardFault> {
         // SAFETY: the reference leads to one live value, which only this card holds.
         done(unsafe { raw::vfdev_card_detach(&mut self.handle, function) })
+    }
+
+    /// Offers the function's client to map the page of its registers with those of the transmit queues: [`AREA_SIZE`] bytes of BAR 0 from
+    /// [`AREA`] on. It is for a shell that keeps such a page: it calls this once the guest has come, before its client speaks. From then
+    /// on the reply to DEVICE_GET_REGION_INFO of BAR 0 names the page, and a file of BAR 0 goes beside each such reply, and beside no other.
+    /// The shell knows it by the reply: it has 48 bytes or more, its command, 2 bytes at offset 2, is 5, and its flags, 4 bytes at offset 20,
+    /// have MMAP (4). What the guest writes into the page the card doesn't know: the shell hands it on.
+    ///
+    /// The offer goes with the guest, and with its client's connection. A reset leaves it.
+    ///
+    /// # Errors
+    /// [`Fault::NoSuchVf`].
+    ///
+    /// ```
+    /// use vfdev::card::{Card, CardFault, Offloads, Step, ROOM};
+    /// let mut card = Card::new(1, &[0], None, 1518, Offloads::NONE)?;
+    /// card.attach(0)?;
+    /// card.offer_area(0)?;
+    /// let mut room = [0; ROOM];
+    /// // VERSION 0.0, and DEVICE_GET_REGION_INFO of BAR 0 with room for 64 bytes
+    /// let (mut version, mut query) = ([0; 20], [0; 48]);
+    /// version[..5].copy_from_slice(&[0, 0, 1, 0, 20]);
+    /// query[..5].copy_from_slice(&[0, 0, 5, 0, 48]);
+    /// query[16] = 64;
+    /// card.receive(0, &version, 0, &mut room)?;
+    /// assert_eq!(card.receive(0, &query, 0, &mut room)?, Step::Answered { reply: 80 });
+    /// assert_eq!(room[20..24], [15, 0, 0, 0]); // READ, WRITE, MMAP and CAPS
+    /// # Ok::<(), CardFault>(())
+    /// ```
+    pub fn offer_area(&mut self, function: u8) -> Result<(), CardFault> {
+        // SAFETY: the reference leads to one live value, which only this card holds.
+        done(unsafe { raw::vfdev_card_offer_area(&mut self.handle, function) })
     }
 
     /// The block is memory of the function's guest from the address `at` on. Its guest may read and write it at any time. Where it is

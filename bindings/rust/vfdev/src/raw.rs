@@ -172,6 +172,7 @@ extern "C" {
     pub fn vfdev_card_functions(c: &mut VfdevCard) -> u32;
     pub fn vfdev_card_attach(c: &mut VfdevCard, function: u8) -> u32;
     pub fn vfdev_card_detach(c: &mut VfdevCard, function: u8) -> u32;
+    pub fn vfdev_card_offer_area(c: &mut VfdevCard, function: u8) -> u32;
     pub fn vfdev_card_map(
         c: &mut VfdevCard,
         function: u8,

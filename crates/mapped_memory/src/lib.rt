@@ -39,4 +39,4 @@ mod region;
 mod scans;
 
 pub use live_mem::LiveMem;
-pub use map_error::{MapError, Refused};
+pub use map_error::{MapError, RefusedBytes};

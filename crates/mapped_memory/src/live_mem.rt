@@ -8,7 +8,7 @@ ghost use Rattle.mapped_memory.specs.Regions.{bytes_at, is_space, written, clear
 ghost use Rattle.mapped_memory.specs.Whole.{bytes_whole};
 ghost use Rattle.mapped_memory.specs.Mapping.{AreMapped, next_from, refusal, with_part, bytes_from, parts_without};
 
-use crate::map_error::{MapError, Refused};
+use crate::map_error::{MapError, RefusedBytes};
 use crate::region::Region;
 use crate::scans::{
     clear_all, home_of, is_any_met, next_from, place_behind, place_of, read_all, write_all,
@@ -171,7 +171,7 @@ impl<'a> LiveMem<'a> {
         at: u64,
         cells: &'a mut [u8],
         is_read_only: bool,
-    ) -> Result<(), Refused<'a>>
+    ) -> Result<(), RefusedBytes<'a>>
         ensures can { OnOk result (refusal self.old at (length cells.old) ≡ None) }
         ensures mapped { OnOk result (self.new
             ≡ with_part self.old (record { at = at; bytes = cells.old; is_read_only = is_read_only })) }
@@ -180,7 +180,7 @@ impl<'a> LiveMem<'a> {
         ensures unchanged { IfErr result (λ refused. self.new ≡ self.old) }
     {
         if let Err(why) = self.can_map(at, cells.len()) {
-            return Err(Refused { why, cells });
+            return Err(RefusedBytes { why, cells });
         }
         let place = place_behind(&self.regions, at as usize);
         let region = Region::new(at as usize, cells, is_read_only);

@@ -6,7 +6,7 @@ use Rattle.std.proofs.lemmas.List.Elements.{All-head, All-tail, All-weaker, All-
 use Rattle.wire_frame.specs.Frame.{IsFrame}
 use Rattle.device.specs.Events.{Event}
 use Rattle.device.specs.declared.event.Event.TheVariants.{MemWrite, Wire}
-use Rattle.script.specs.declared.store.Span.{Span}
+use Rattle.script.specs.declared.store.Stored.{Stored}
 use Rattle.script.specs.Bytes.{bytes_of}
 use Rattle.script.specs.Store.{Grows, Lies, bytes_at, or_none, part}
 use Rattle.script.specs.Records.{Record, Fits, event_at}
@@ -15,7 +15,7 @@ use Rattle.script.specs.Records.{Record, Fits, event_at}
 longer : {A : Type 0} (xs ys : List A) → take (length xs) ys ≡ xs → ys ≡ xs ++ drop (length xs) ys
 longer {A} xs ys front = sym (take-append-drop (length xs) ys) ∙ ap (λ (zs : List A). zs ++ drop (length xs) ys) front
 
-part_stays : (old new : List ℕ) (s : Span) → Grows old new → s.at + s.count ≤ length old → part new s ≡ part old s
+part_stays : (old new : List ℕ) (s : Stored) → Grows old new → s.at + s.count ≤ length old → part new s ≡ part old s
 part_stays old new s grown inside =
     let more : List ℕ = drop (length old) new in
     ap (λ (pool : List ℕ). take s.count (drop s.at pool)) (longer old new grown)
@@ -23,13 +23,13 @@ part_stays old new s grown inside =
     ∙ take-append-le s.count (drop s.at old) more (let l = length-drop s.at old in omega arith)
 
 -- what a span has of a pool is what its bytes go by
-abbrev bytes_by : Span → List ℕ → List ℕ
+abbrev bytes_by : Stored → List ℕ → List ℕ
 bytes_by s part = if s.is_word then or_none (bytes_of part) else part
 
-pub bytes_stay : (old new : List ℕ) (s : Span) → Grows old new → Lies old s → bytes_at new s ≡ bytes_at old s
+pub bytes_stay : (old new : List ℕ) (s : Stored) → Grows old new → Lies old s → bytes_at new s ≡ bytes_at old s
 bytes_stay old new s grown lies = ap (bytes_by s) (part_stays old new s grown lies.inside)
 
-lies_still : (old new : List ℕ) (s : Span) → Grows old new → Lies old s → Lies new s
+lies_still : (old new : List ℕ) (s : Stored) → Grows old new → Lies old s → Lies new s
 lies_still old new s grown lies =
     let inside = lies.inside in
     let more = ap (λ (xs : List ℕ). length xs) (longer old new grown) ∙ length-append old (drop (length old) new) in

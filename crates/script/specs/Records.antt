@@ -4,11 +4,11 @@ use Rattle.wire_frame.specs.Frame.{IsFrame}
 use Rattle.device.specs.declared.event.Event.{Event as EventOf}
 use Rattle.device.specs.declared.event.Event.TheVariants.{MemWrite, Wire}
 use Rattle.device.specs.Events.{Event, mapped}
-use Rattle.script.specs.declared.store.Span.{Span}
+use Rattle.script.specs.declared.store.Stored.{Stored}
 use Rattle.script.specs.Store.{Lies, bytes_at}
 
 abbrev pub Record : Type 0
-Record = EventOf Span Span
+Record = EventOf Stored Stored
 
 -- the event of a record
 abbrev pub event_at : List ℕ → Record → Event

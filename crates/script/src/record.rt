@@ -10,7 +10,7 @@ use crate::chunks::{MOST_BYTES, lay_word};
 use crate::fault::Refusal;
 use crate::kind::Kind;
 use crate::room::Room;
-use crate::store::{Span, Store};
+use crate::store::{Store, Stored};
 use crate::words::{Words, length, pool, queue, register};
 use device::Event;
 use wire_frame::{FrameLimit, is_frame};
@@ -19,7 +19,7 @@ use wire_frame::{FrameLimit, is_frame};
 const MOST_WRITTEN: u16 = 2048;
 
 /// An event of a script, whose bytes stand in the script's store.
-pub type Record = Event<Span, Span>;
+pub type Record = Event<Stored, Stored>;
 
 /// The event of a line of this kind, by the words after its name. Its bytes are kept in `store`; frames may be as long as
 /// the limit. The bytes are read in `room`.

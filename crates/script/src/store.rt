@@ -16,7 +16,7 @@ const MOST_TIMES: usize = 2;
 
 /// Where a word's bytes are in the pool, or the word.
 #[derive(Clone, Copy)]
-pub struct Span {
+pub struct Stored {
     at: u32,
     count: u16,
     is_word: bool,
@@ -47,7 +47,7 @@ impl Store {
     }
 
     /// Keeps the bytes that a word writes, at most 9018.
-    pub fn keep(&mut self, word: &[u8], bytes: &[u8]) -> Result<Span, Refusal>
+    pub fn keep(&mut self, word: &[u8], bytes: &[u8]) -> Result<Stored, Refusal>
         requires written { bytes_of word.now ≡ Some bytes.now }
         requires few { length bytes.now ≤ 9018 }
         ensures bytes { IfOk result (λ span. bytes_at self.new span ≡ bytes.now) }
@@ -63,7 +63,7 @@ impl Store {
 
     // Keeps bytes behind the others, which are a word or not. A pool of 4 GiB has no room for more; those of a script, of
     // at most 60,000 events, have less.
-    fn put(&mut self, bytes: &[u8], is_word: bool) -> Result<Span, Refusal>
+    fn put(&mut self, bytes: &[u8], is_word: bool) -> Result<Stored, Refusal>
         requires few { length bytes.now ≤ 9018 }
         ensures part { IfOk result (λ span. part self.new span ≡ bytes.now) }
         ensures inside { IfOk result (λ span. span.at + span.count ≤ length self.new) }
@@ -75,7 +75,7 @@ impl Store {
             return Err(Refusal::NoMemory);
         };
         self.pool.extend_from_slice(bytes)?;
-        Ok(Span {
+        Ok(Stored {
             at,
             count: bytes.len() as u16,
             is_word,
@@ -84,7 +84,7 @@ impl Store {
 
     /// The bytes of a span. Those that are kept as they are are lent where they stand, and others are laid out in `room`.
     #[inline]
-    pub fn bytes<'a>(&'a self, span: Span, room: &'a mut [u8; MOST_BYTES]) -> &'a [u8]
+    pub fn bytes<'a>(&'a self, span: Stored, room: &'a mut [u8; MOST_BYTES]) -> &'a [u8]
         requires lies { Lies self.now span }
         requires few { length (bytes_at self.now span) ≤ 9018 }
         ensures { result.now ≡ bytes_at self.now span }

@@ -143,6 +143,12 @@ typedef struct vfdev_card_more_result {
     uint32_t goes_on; /* 1: a queue may have more, also where there was no room for more frames; the next call goes on with it */
 } vfdev_card_more_result;
 
+/* What came of frames from the wire that came in one call. */
+typedef struct vfdev_card_wire_result {
+    size_t taken;   /* how many frames the card took */
+    size_t refused; /* how many it refused: those that are longer than its limit, and what is no frame */
+} vfdev_card_wire_result;
+
 /* ---- makers */
 
 /* Makes a card of so many vacant functions, 1 to 64. Policies may name the VLAN ids by their places, at most 64 ids of 0 to 4095. Frames that
@@ -217,6 +223,11 @@ uint32_t vfdev_card_shortfalls(vfdev_card *card, uint8_t function);
 
 /* A frame comes from the wire. VFDEV_DONE; VFDEV_REFUSED with VFDEV_BAD_FRAME; VFDEV_NO_DEVICE where the handle is empty. */
 vfdev_reply vfdev_card_wire(vfdev_card *card, const uint8_t *frame, size_t len);
+
+/* Frames come from the wire, `count` of them one after another: what as many calls of vfdev_card_wire do, in one. They lie behind one another
+ * in `bytes`: the first begins at 0, each other where the one before it ends, and ends[i] says where frame i ends. What vfdev_card_wire would
+ * refuse is passed over, and so is one whose end is before its beginning or past the bytes. Both numbers are 0 where the handle is empty. */
+vfdev_card_wire_result vfdev_card_wire_burst(vfdev_card *card, const uint8_t *bytes, size_t len, const size_t *ends, size_t count);
 
 /* The functions that have vectors which were raised and not handed out: bit p for function p. */
 uint64_t vfdev_card_raised(vfdev_card *card);

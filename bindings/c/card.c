@@ -168,6 +168,63 @@ static void frames(vfdev_card *card)
     EQUAL(memory[0x100C], 60);
 }
 
+/* A card whose one guest receives into two buffers, and gets vector 1 for it. */
+static void begin_receiving(vfdev_card *card, uint8_t *bytes, size_t size)
+{
+    const uint8_t arm[36] = {7, 0, 8, 0, 36, [16] = 20, [20] = 0x24, [24] = 2, [32] = 2};
+    const uint32_t driver[][2] = {{0x200, 1},    {0x2FC, 4},          {0x2FC, 1},          {0x120, 0x81}, {0x108, 2}, {0x1000, 0x1000},
+                                  {0x1008, 128}, {0x1014, 0x2000002}, {0x1028, 0x2000000}, {0x1018, 2}};
+    const vfdev_card_policy first = policy(1);
+    EQUAL(vfdev_card_make(card, 1, ids, 2, VFDEV_CARD_NOBODY, 1518, 0), VFDEV_OK);
+    EQUAL(vfdev_card_admit(card, 0, &first).refusal, VFDEV_ADMITTED);
+    EQUAL(vfdev_card_attach(card, 0), VFDEV_OK);
+    EQUAL(vfdev_card_map(card, 0, 0, (vfdev_block){bytes, size}, false), VFDEV_OK);
+    say(card, 0, version, 0);
+    EQUAL(say(card, 0, arm, 2).kind, VFDEV_STEP_ARM);
+    memset(bytes, 0, size);
+    bytes[0x1001] = 0x20;
+    bytes[0x1011] = 0x28;
+    for (size_t at = 0; at < sizeof driver / sizeof *driver; at++) {
+        write_register(card, 0, driver[at][0], driver[at][1]);
+    }
+}
+
+/* Three broadcasts, of which the second is too long, come to one card in one call and to another one by one: the same to their guests. */
+static void bursts(void)
+{
+    static uint8_t bytes[60 + 1519 + 60];
+    const size_t ends[] = {60, 60 + 1519, sizeof bytes}, none[] = {60, 20, sizeof bytes + 1, 14};
+    const uint32_t kinds[] = {VFDEV_DONE, VFDEV_REFUSED, VFDEV_DONE};
+    vfdev_card burst = VFDEV_CARD_NONE, single = VFDEV_CARD_NONE;
+    vfdev_card_wire_result came = vfdev_card_wire_burst(&burst, bytes, sizeof bytes, ends, 3);
+    EQUAL(came.taken + came.refused, 0);
+    begin_receiving(&burst, memory, sizeof memory);
+    begin_receiving(&single, other, sizeof other);
+    memset(bytes, 0xFF, sizeof bytes);
+    bytes[59] = 1;
+    bytes[sizeof bytes - 1] = 3;
+    came = vfdev_card_wire_burst(&burst, bytes, sizeof bytes, ends, 3);
+    EQUAL(came.taken, 2);
+    EQUAL(came.refused, 1);
+    for (size_t number = 0, start = 0; number < 3; start = ends[number++]) {
+        EQUAL(vfdev_card_wire(&single, bytes + start, ends[number] - start).kind, kinds[number]);
+    }
+    EQUAL(memcmp(memory, other, sizeof memory), 0);
+    EQUAL(memory[0x203B], 1);
+    EQUAL(memory[0x283B], 3);
+    EQUAL(read_register(&burst, 0, VFDEV_RDH(0)), 2);
+    EQUAL(read_register(&single, 0, VFDEV_RDH(0)), 2);
+    EQUAL(vfdev_card_raised(&burst), vfdev_card_raised(&single));
+    EQUAL(vfdev_card_signal(&burst, 0), 2);
+    EQUAL(vfdev_card_signal(&single, 0), 2);
+    /* an end before its beginning, or past the bytes, is that of no frame */
+    came = vfdev_card_wire_burst(&burst, bytes, sizeof bytes, none, 4);
+    EQUAL(came.taken, 1);
+    EQUAL(came.refused, 3);
+    vfdev_card_free(&burst);
+    vfdev_card_free(&single);
+}
+
 /* The sum of words of two bytes in ones' complement, and of a number before: all ones where a sum among them is right. */
 static uint32_t sum(const uint8_t *bytes, size_t size, uint32_t before)
 {
@@ -318,6 +375,7 @@ int main(void)
     EQUAL(vfdev_card_flr(&card, 0), VFDEV_CARD_NO_CARD);
     EQUAL(vfdev_card_wire(&card, frame, 60).kind, VFDEV_NO_DEVICE);
     vfdev_card_free(&card);
+    bursts();
     offloads();
     areas();
     return 0;

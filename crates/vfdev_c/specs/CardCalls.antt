@@ -39,7 +39,7 @@ use Rattle.vfio_session.specs.declared.decision.Breach.TheVariants.{NoHeader, Wr
 use Rattle.vfio_session.specs.declared.owed.Owed.{Owed}
 use Rattle.vfio_session.specs.declared.owed.Settled.TheVariants.{Finished}
 use Rattle.card.specs.Card.{LeavesAlone, cleared, end_at, with_offer}
-use Rattle.card.specs.Served.{AreServed, is_busy, signalled}
+use Rattle.card.specs.Served.{AreServed, AreWired, is_busy, signalled}
 use Rattle.card.specs.Told.{Told, after_reset, joined, told}
 use Rattle.card.specs.declared.step.Order.{Order}
 use Rattle.card.specs.declared.step.Order.TheVariants.{Map, Unmap, Arm, Disarm}
@@ -53,6 +53,7 @@ use Rattle.spare_memory.specs.declared.regions.NotMapped.TheVariants.{NoSuchVf, 
 use Rattle.vfdev_c.specs.Cards.{HeldCard}
 use Rattle.vfdev_c.specs.Handle.{Held, refused_as, shown}
 use Rattle.vfdev_c.specs.declared.card_frames.VfdevCardMore.{VfdevCardMore}
+use Rattle.vfdev_c.specs.declared.card_frames.VfdevCardWired.{VfdevCardWired}
 use Rattle.vfdev_c.specs.declared.card_policies.VfdevCardAdmission.{VfdevCardAdmission}
 use Rattle.vfdev_c.specs.declared.card_policies.VfdevCardPolicy.{VfdevCardPolicy}
 use Rattle.vfdev_c.specs.declared.card_step.VfdevCardStep.{VfdevCardStep}
@@ -296,6 +297,15 @@ pub record IsWired (frame : List ℕ) (c d : HeldCard) (reply : VfdevReply) : Ty
 pub record Wires (frame : List ℕ) (c d : HeldCard) (reply : VfdevReply) : Type 0 where
   pub taken : is_frame 9018 frame ≡ true → IsWired frame c d reply
   pub no_frame : is_frame 9018 frame ≡ false → (d.card ≡ c.card) × (reply ≡ refused_as BadFrame)
+  pub spares : d.spares ≡ c.spares
+  pub frames : d.frames ≡ c.frames
+
+abbrev pub none_wired : VfdevCardWired
+none_wired = record { taken = 0; refused = 0 }
+
+-- frames came one after another, by where they lie and end
+pub record WiresAll (ends_at bytes : List ℕ) (c d : HeldCard) (wired : VfdevCardWired) : Type 0 where
+  pub came : AreWired true ends_at bytes c.card d.card (record { taken = wired.taken; refused = wired.refused })
   pub spares : d.spares ≡ c.spares
   pub frames : d.frames ≡ c.frames
 

@@ -1,7 +1,7 @@
 //! Frames and interrupts of a card.
 ghost use Rattle.std.specs.Prelude.{◌≡◌, false};
 ghost use Rattle.card.specs.Card.{LeavesAlone};
-ghost use Rattle.vfdev_c.specs.CardCalls.{AreRaised, OnCard, OthersStay, Serves, Signals, SignalsSome, Wires, busy_at, shortfalls_at, frame_at, interval_at, none_more, of_card, vector_numbered};
+ghost use Rattle.vfdev_c.specs.CardCalls.{AreRaised, OnCard, OthersStay, Serves, Signals, SignalsSome, Wires, WiresAll, busy_at, shortfalls_at, frame_at, interval_at, none_more, none_wired, of_card, vector_numbered};
 ghost use Rattle.vfdev_c.specs.Handle.{frame_in, length_in, no_device};
 
 use crate::card_held::CardHeld;
@@ -22,6 +22,16 @@ pub struct VfdevCardMore {
     pub frames: usize,
     /// 1 where a queue may have more.
     pub goes_on: u32,
+}
+
+/// What came of frames from the wire, as C sees it.
+#[repr(C)]
+#[derive(Clone, Copy, Debug, PartialEq, Eq)]
+pub struct VfdevCardWired {
+    /// How many frames the card took.
+    pub taken: usize,
+    /// How many were refused.
+    pub refused: usize,
 }
 
 /// Takes descriptors of a function's busy transmit queues.
@@ -71,6 +81,20 @@ pub extern "C" fn vfdev_card_wire(alloc: Global, handle: &mut Vfdev, frame: &[u8
     ensures called { OnCard no_device (Wires frame.now) handle.old.owner.held handle.new.owner.held result }
 {
     on_card!(handle, alloc, VfdevReply::no_device(), held => held.wire(frame))
+}
+
+/// Frames come from the wire, one after another. They lie behind one another in the bytes: the first begins at 0, each other where the one
+/// before it ends. What the card refuses is passed over.
+#[unsafe(no_mangle)]
+pub extern "C" fn vfdev_card_wire_burst(
+    alloc: Global,
+    handle: &mut Vfdev,
+    bytes: &[u8],
+    ends: &[usize],
+) -> VfdevCardWired
+    ensures called { OnCard none_wired (WiresAll ends.now bytes.now) handle.old.owner.held handle.new.owner.held result }
+{
+    on_card!(handle, alloc, VfdevCardWired::none(), held => held.wire_burst(bytes, ends))
 }
 
 /// The functions that have vectors which were raised and not handed out.
@@ -126,6 +150,17 @@ impl VfdevCardMore {
         VfdevCardMore {
             goes_on: 0,
             frames: 0,
+        }
+    }
+}
+
+impl VfdevCardWired {
+    fn none() -> VfdevCardWired
+        ensures { result ≡ none_wired }
+    {
+        VfdevCardWired {
+            taken: 0,
+            refused: 0,
         }
     }
 }
@@ -191,6 +226,17 @@ impl CardHeld {
         match self.card.wire(&self.frame) {
             Ok(()) => VfdevReply::done(),
             Err(fault) => VfdevReply::refused(fault),
+        }
+    }
+
+    // Frames from the wire.
+    fn wire_burst(&mut self, bytes: &[u8], ends: &[usize]) -> VfdevCardWired
+        ensures { WiresAll ends.now bytes.now self.old self.new result }
+    {
+        let came = self.card.wire_burst(bytes, ends, &mut self.frame);
+        VfdevCardWired {
+            taken: came.taken,
+            refused: came.refused,
         }
     }
 

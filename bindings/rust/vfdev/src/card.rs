@@ -379,6 +379,15 @@ pub struct More {
     pub frames: u32,
 }
 
+/// What came of frames from the wire that came in one call.
+#[derive(Clone, Copy, Debug, PartialEq, Eq)]
+pub struct WireCount {
+    /// How many frames the card took.
+    pub taken: usize,
+    /// How many it refused: those that are longer than its limit, and what is no frame.
+    pub refused: usize,
+}
+
 /// A card. Calls take `&mut self`, so that one is made at a time. A function is named by a number from 0 on; one that the card does not have
 /// is refused. No call takes memory but [`Card::new`], and none blocks.
 #[derive(Debug)]
@@ -626,6 +635,30 @@ impl Card {
         match reply.kind {
             0 => Ok(()),
             _ => Err(CardFault::of(reply.value)),
+        }
+    }
+
+    /// Frames come from the wire one after another: what as many calls of [`Card::wire`] do, in one. They lie behind one another in `bytes`:
+    /// the first begins at 0, each other where the one before it ends, and `ends` says where each ends. What [`Card::wire`] would refuse is
+    /// passed over, and so is one whose end is before its beginning or past the bytes.
+    ///
+    /// ```
+    /// use vfdev::card::{Card, CardFault, Offloads, WireCount};
+    /// let mut card = Card::new(1, &[0], None, 1518, Offloads::NONE)?;
+    /// let bytes = [0xFF; 60 + 1519 + 60];
+    /// let count = card.wire_burst(&bytes, &[60, 60 + 1519, 60 + 1519 + 60]);
+    /// assert_eq!(count, WireCount { taken: 2, refused: 1 });
+    /// # Ok::<(), CardFault>(())
+    /// ```
+    pub fn wire_burst(&mut self, bytes: &[u8], ends: &[usize]) -> WireCount {
+        let (at, len) = (bytes.as_ptr(), bytes.len());
+        let (ends_at, count) = (ends.as_ptr(), ends.len());
+        // SAFETY: each pointer and length are those of one live slice, and the handle is this card's alone.
+        let wired =
+            unsafe { raw::vfdev_card_wire_burst(&mut self.handle, at, len, ends_at, count) };
+        WireCount {
+            taken: wired.taken,
+            refused: wired.refused,
         }
     }
 

@@ -91,6 +91,14 @@ pub struct CardMore {
     pub goes_on: u32,
 }
 
+/// What came of frames from the wire.
+#[repr(C)]
+#[derive(Clone, Copy)]
+pub struct CardWired {
+    pub taken: usize,
+    pub refused: usize,
+}
+
 /// The version of the interface that is declared here.
 pub const VERSION: u32 = 2;
 
@@ -195,6 +203,13 @@ extern "C" {
     pub fn vfdev_card_is_busy(c: &mut VfdevCard, function: u8) -> bool;
     pub fn vfdev_card_shortfalls(c: &mut VfdevCard, function: u8) -> u32;
     pub fn vfdev_card_wire(c: &mut VfdevCard, frame: *const u8, len: usize) -> Reply;
+    pub fn vfdev_card_wire_burst(
+        c: &mut VfdevCard,
+        bytes: *const u8,
+        len: usize,
+        ends: *const usize,
+        count: usize,
+    ) -> CardWired;
     pub fn vfdev_card_raised(c: &mut VfdevCard) -> u64;
     pub fn vfdev_card_signal(c: &mut VfdevCard, function: u8) -> u32;
     pub fn vfdev_card_signal_some(c: &mut VfdevCard, function: u8, vectors: u32) -> u32;

@@ -15,7 +15,7 @@ use crate::os::{Alarm, Interest, MappedCard, Patience, Poller};
 use crate::polling::Polling;
 use crate::signals::{drain, Signals};
 use crate::source::Source;
-use crate::wire::{NoWire, Wire};
+use crate::wire::{Arrived, NoWire, Wire};
 use std::fmt;
 use std::io::{self, Write};
 use std::os::fd::{AsFd, OwnedFd};
@@ -109,8 +109,9 @@ pub struct Server {
     due: Option<Instant>,
     // the function that comes first in this turn
     first: usize,
-    // room for a frame that is one byte too long, so that it is seen to be
-    frame: Box<[u8; MOST_FRAME + 1]>,
+    // room for a frame that leaves
+    frame: Box<[u8; MOST_FRAME]>,
+    arrived: Arrived,
     totals: Totals,
 }
 
@@ -159,7 +160,8 @@ impl Server {
             busy: 0,
             due: None,
             first: 0,
-            frame: Box::new([0; MOST_FRAME + 1]),
+            frame: Box::new([0; MOST_FRAME]),
+            arrived: Arrived::new(MOST_WIRE_FRAMES),
             totals: Totals::default(),
         };
         server.watch_all()?;
@@ -459,24 +461,17 @@ impl Server {
     }
 
     fn take_from_wire(&mut self) -> io::Result<()> {
-        for _ in 0..MOST_WIRE_FRAMES {
-            let Some(wire) = self.wire.as_mut() else {
-                break;
-            };
-            match wire.receive(&mut self.frame[..]) {
-                Ok(Some(length)) => {
-                    self.totals.received_frames += 1;
-                    if self.card.wire(&self.frame[..length]).is_err() {
-                        self.totals.refused_frames += 1;
-                    }
-                }
-                Ok(None) => break,
-                Err(error) => {
-                    error!(%error, "the wire can't be read any more, until a restart");
-                    self.poller.forget(wire)?;
-                    break;
-                }
-            }
+        let Some(wire) = self.wire.as_mut() else {
+            return Ok(());
+        };
+        let taken = self.arrived.take(wire);
+        let (bytes, ends) = self.arrived.frames();
+        let count = self.card.wire_burst(bytes, ends);
+        self.totals.received_frames += ends.len() as u64;
+        self.totals.refused_frames += count.refused as u64;
+        if let Err(error) = taken {
+            error!(%error, "the wire can't be read any more, until a restart");
+            self.poller.forget(wire)?;
         }
         Ok(())
     }

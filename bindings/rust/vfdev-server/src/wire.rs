@@ -9,6 +9,7 @@ use std::io::{self, Read, Write};
 use std::os::fd::{AsFd, BorrowedFd};
 use std::os::unix::net::UnixDatagram;
 use std::path::PathBuf;
+use vfdev::MOST_FRAME;
 
 /// A wire.
 #[derive(Debug)]
@@ -101,6 +102,49 @@ impl Wire {
                 _ => Err(error),
             },
         }
+    }
+}
+
+/// Frames that came from a wire, behind one another.
+#[derive(Debug)]
+pub struct Arrived {
+    // room for as many frames as there may be, each one byte too long, so that it is seen to be
+    bytes: Box<[u8]>,
+    ends: Vec<usize>,
+    most: usize,
+}
+
+impl Arrived {
+    /// Room for so many frames.
+    pub fn new(most: usize) -> Arrived {
+        Arrived {
+            bytes: vec![0; most * (MOST_FRAME + 1)].into(),
+            ends: Vec::with_capacity(most),
+            most,
+        }
+    }
+
+    /// Takes the frames that are there now in place of the former ones, until the room is full.
+    ///
+    /// # Errors
+    /// Where the wire can't be read any more. The frames before that are there.
+    pub fn take(&mut self, wire: &mut Wire) -> io::Result<()> {
+        self.ends.clear();
+        let mut used = 0;
+        for _ in 0..self.most {
+            match wire.receive(&mut self.bytes[used..][..MOST_FRAME + 1])? {
+                Some(length) => used += length,
+                None => break,
+            }
+            self.ends.push(used);
+        }
+        Ok(())
+    }
+
+    /// Their bytes, and where each ends.
+    pub fn frames(&self) -> (&[u8], &[usize]) {
+        let used = self.ends.last().map_or(0, |end| *end);
+        (&self.bytes[..used], &self.ends)
     }
 }
 

@@ -9,7 +9,9 @@ use std::io;
 use std::os::fd::{AsFd, OwnedFd};
 use std::os::unix::fs::MetadataExt;
 use std::time::Duration;
-use vfdev::card::{Access, Card, CardFault, More, NotAdmitted, Offloads, Policy, Step, ROOM};
+use vfdev::card::{
+    Access, Card, CardFault, More, NotAdmitted, Offloads, Policy, Step, WireCount, ROOM,
+};
 
 /// A card, and for each of its functions the files that are mapped as memory of its guest. The two stand together, so that no range of a file
 /// is unmapped that the card may still reach.
@@ -312,12 +314,9 @@ impl MappedCard {
         self.card.shortfalls(function)
     }
 
-    /// As [`Card::wire`].
-    ///
-    /// # Errors
-    /// As [`Card::wire`].
-    pub fn wire(&mut self, frame: &[u8]) -> Result<(), CardFault> {
-        self.card.wire(frame)
+    /// As [`Card::wire_burst`].
+    pub fn wire_burst(&mut self, bytes: &[u8], ends: &[usize]) -> WireCount {
+        self.card.wire_burst(bytes, ends)
     }
 
     /// As [`Card::raised`].

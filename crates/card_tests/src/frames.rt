@@ -130,11 +130,11 @@ fn receive_three(
     let (taken, refused) = if in_one_call {
         clients.wire_burst(&bytes, &ENDS)
     } else {
-        let (mut taken, mut refused) = (0, 0);
+        let (mut taken, mut refused) = (0usize, 0usize);
         for of_one in [&bytes[..60], &bytes[60..1579], &bytes[1579..]] {
             match clients.wire(&FrameBuf::from_bytes(of_one)?) {
-                Ok(()) => taken += 1,
-                Err(_) => refused += 1,
+                Ok(()) => taken = taken.wrapping_add(1),
+                Err(_) => refused = refused.wrapping_add(1),
             }
         }
         (taken, refused)

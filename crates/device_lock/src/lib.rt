@@ -12,4 +12,4 @@
 mod locked;
 
 pub use locked::LockedDevice;
-pub use recorder::{CALLERS, Caller, Full, Recorded, Share, Shares, Tally};
+pub use recorder::{CALLERS, Caller, Full, Recorded, Share, Shares, Tally, answer_of};

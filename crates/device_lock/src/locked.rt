@@ -97,6 +97,7 @@ impl<M: GuestMem, L: Ledger> LockedDevice<M, L> {
             ≡ (step w (event_of request.entry)).answer)
             × (option_copied taken.sent ≡ sent_by w (event_of request.entry))
             × (option_copied taken.left ≡ left_by w (event_of request.entry))) }
+        ensures told { IfSome result (λ taken. bytes_told taken.outcome ≤ length read.new) }
         ensures rest { IfSome result
             (λ taken. drop (bytes_told taken.outcome) read.new
             ≡ drop (bytes_told taken.outcome) read.old) }
@@ -106,6 +107,41 @@ impl<M: GuestMem, L: Ledger> LockedDevice<M, L> {
         ensures unchanged { IfNone result ((share.new ≡ share.old) × (read.new ≡ read.old)) }
     {
         self.enter(rt).record_read(share, request, frame, read)
+    }
+
+    /// The same, and where no more calls can be kept, those that are kept are folded away first, as [`Recorded::make_room`]
+    /// does. Both are done while nobody else is inside, so nobody fills the room in between. None where they can't be folded
+    /// away. The share has just the one call, and the answer is the one that was kept.
+    #[inline]
+    pub fn act_folding<'f, R: Wait>(
+        &self,
+        rt: &R,
+        share: &mut Share<L>,
+        request: Request<'_>,
+        frame: &'f mut FrameBuf,
+        read: &mut [u8],
+    ) -> Option<Response<'f>>
+        requires may { may share.old.caller (event_of request) ≡ true }
+        requires room { bytes_asked (event_of request) ≤ length read.old }
+        ensures answer { IfSome result (λ taken. (w : World)
+            × (answer_with (take (bytes_told taken.outcome) read.new) taken
+            ≡ (step w (event_of request.entry)).answer)
+            × (option_copied taken.sent ≡ sent_by w (event_of request.entry))
+            × (option_copied taken.left ≡ left_by w (event_of request.entry))) }
+        ensures told { IfSome result (λ taken. bytes_told taken.outcome ≤ length read.new) }
+        ensures rest { IfSome result
+            (λ taken. drop (bytes_told taken.outcome) read.new
+            ≡ drop (bytes_told taken.outcome) read.old) }
+        ensures counted { IfSome result (λ taken.
+            share.new ≡ having_asked (event_of request.entry)
+            (answer_with (take (bytes_told taken.outcome) read.new) taken) share.old) }
+        ensures unchanged { IfNone result ((share.new ≡ share.old) × (read.new ≡ read.old)) }
+    {
+        let mut inner = self.enter(rt);
+        if !inner.make_room() {
+            return None;
+        }
+        inner.record_read(share, request, frame, read)
     }
 
     /// One [`Recorded::gather`] under the lock.

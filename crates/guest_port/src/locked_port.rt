@@ -1,5 +1,5 @@
 //! A port with the device behind it.
-ghost use Rattle.std.specs.Prelude.{◌≡◌, ℕ, List, [], ◌<◌, ◌≤◌, true, false, Err, IfSome, IfNone, OnErr, MatchOption, length, take, drop};
+ghost use Rattle.std.specs.Prelude.{◌≡◌, ℕ, List, [], ◌<◌, ◌≤◌, true, false, Err, IfOk, IfErr, IfSome, IfNone, OnErr, MatchOption, length, take, drop};
 ghost use Rattle.wire_frame.specs.declared.fault.Fault.{Fault};
 ghost use Rattle.device.specs.declared.event.Event.{Event};
 ghost use Rattle.device.specs.declared.span.Span.{Span};
@@ -298,6 +298,47 @@ impl<M: GuestMem, L: Ledger, P: GuestPort> LockedPort<M, L, P> {
         let tokens = self.inner.close();
         let share = self.share.take();
         Some((share?, tokens?))
+    }
+
+    /// Makes the call that an event of the port's own pool asks for, as the calls by name do, and where the device can keep no
+    /// more, the calls that it keeps are folded away first, as [`LockedDevice::act_folding`] does. Bytes that are read stand at the
+    /// front of `read`.
+    ///
+    /// [`Fault::NotOpen`] once the port has ended; then [`Fault::HistoryFull`] where no calls can be folded away. What the call
+    /// itself was refused for is the outcome.
+    #[tactic(auto, using(crate::proofs::Called::still_since))]
+    pub fn ask_folding<R: Wait>(
+        &mut self,
+        rt: &R,
+        request: Request<'_>,
+        read: &mut [u8],
+    ) -> Result<Outcome, Fault>
+        requires may { may (Port self.old.port.pool) (event_of request) ≡ true }
+        requires room { bytes_asked (event_of request) ≤ length read.old }
+        ensures ended { self.old.port.is_open ≡ false → result ≡ Err Fault.NotOpen }
+        ensures full { self.old.port.is_open ≡ true
+            → IfErr result (λ e. e ≡ Fault.HistoryFull) }
+        ensures kept { IfOk result (λ outcome. HasCalled (event_of request.entry)
+            (reply_by (λ span. take (bytes_told outcome) read.new) outcome) self.old self.new) }
+        ensures rest { IfOk result
+            (λ outcome. drop (bytes_told outcome) read.new ≡ drop (bytes_told outcome) read.old) }
+        ensures unchanged { OnErr result ((self.new ≡ self.old) × (read.new ≡ read.old)) }
+        ensures read { length read.new ≡ length read.old }
+    {
+        if !self.inner.is_open() {
+            return Err(Fault::NotOpen);
+        }
+        let Some(share) = &mut self.share else {
+            unreachable!();
+        };
+        let taken = self
+            .device
+            .act_folding(rt, share, request, &mut self.room, read);
+        self.last = Shadow::of(share);
+        let Some(taken) = taken else {
+            return Err(Fault::HistoryFull);
+        };
+        Ok(taken.outcome)
     }
 
     // What comes of an event that the port may make; None where the device can keep no more. Bytes that are read stand at the

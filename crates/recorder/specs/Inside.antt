@@ -21,6 +21,7 @@ pub record IsHeld {M : Type 0} (s : Inside M) : Type 0 where
   pub allowed : AreAllowed s.recording.kept
   -- until calls are folded away, the base is a device as it is made
   pub first : s.folded ≡ 0 → s.recording.base ≡ made_like s.recording.live
+  pub some : 1 ≤ s.recording.cap
   pub few : s.recording.cap ≤ 65536
   pub folded : s.folded ≡ sum s.tallies
   pub few_folded : s.folded ≤ 2 ^ 62

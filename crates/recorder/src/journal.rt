@@ -1,5 +1,5 @@
 //! A device, the line that its messages go to, and the calls that it took since a base.
-ghost use Rattle.std.specs.Prelude.{◌≡◌, ℕ, ◌+◌, ◌<◌, ◌≤◌, ◌^◌, [], ◌∷◌, ◌++◌, true, false, IfSome, IfNone, is_some, length, replicate, slice_index, sum, ◌⊎◌};
+ghost use Rattle.std.specs.Prelude.{◌≡◌, ℕ, ◌+◌, ◌<◌, ◌≤◌, ◌^◌, [], ◌∷◌, ◌++◌, true, false, IsTrue, ◌↔◌, IfSome, IfNone, is_some, length, replicate, slice_index, sum, ◌⊎◌};
 ghost use Rattle.std.specs.Int.{bit_at};
 ghost use Rattle.device.specs.World.{fresh, sizes_of};
 ghost use Rattle.device.specs.Lone.{keep, lone_of, lone_seen, lone_after, seen_by};
@@ -58,6 +58,7 @@ impl<M: GuestMem> Journal<M> {
         requires twin { IfSome twin (λ t. t.value.world ≡ live.value.world) }
         requires line { line.raises ≡ [] }
         requires empty { history.entries ≡ [] }
+        requires some { 1 ≤ history.cap }
         requires few { history.cap ≤ 65536 }
         ensures begun { result ≡ begun live.value.world history.cap (is_some twin) line }
     {
@@ -84,7 +85,7 @@ impl<M: GuestMem> Journal<M> {
         ensures full { IfNone result (length self.old.kept ≡ self.old.cap) }
         ensures unchanged { IfNone result (self.new ≡ self.old) }
     {
-        if self.recording.history().is_full() {
+        if self.is_full() {
             return None;
         }
         let taken = self.recording.record(caller, request, frame);
@@ -106,6 +107,16 @@ impl<M: GuestMem> Journal<M> {
         ensures { result.now ≡ bytes_replied (last_of self.now.kept).answer.reply }
     {
         self.recording.last_read()
+    }
+
+    /// Whether no more calls can be kept.
+    #[inline]
+    pub fn is_full(&self) -> bool
+        ensures full { IsTrue result ↔ (length self.now.kept ≡ self.now.cap) }
+        ensures most { length self.now.kept ≤ self.now.cap }
+        ensures some { 1 ≤ self.now.cap }
+    {
+        self.recording.history().is_full()
     }
 
     /// The device with its calls.

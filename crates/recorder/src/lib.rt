@@ -25,6 +25,6 @@ mod share;
 mod shares;
 
 pub use history::Caller;
-pub use recorded::{Full, Recorded, Tally};
+pub use recorded::{Full, Recorded, Tally, answer_of};
 pub use share::{CALLERS, Share};
 pub use shares::Shares;

@@ -164,6 +164,7 @@ impl<M: GuestMem, L: Ledger> Recorded<M, L> {
         ensures answer { IfSome result (λ taken.
             answer_with (take (bytes_told taken.outcome) read.new) taken
             ≡ (step self.old.live (event_of request.entry)).answer) }
+        ensures told { IfSome result (λ taken. bytes_told taken.outcome ≤ length read.new) }
         ensures rest { IfSome result
             (λ taken. drop (bytes_told taken.outcome) read.new
             ≡ drop (bytes_told taken.outcome) read.old) }
@@ -231,6 +232,21 @@ impl<M: GuestMem, L: Ledger> Recorded<M, L> {
         ensures unchanged { IfNone result (self.new ≡ self.old) }
     {
         self.journal.rebase()
+    }
+
+    /// Sees that there is room for one more call: where no more can be kept, those that are kept are folded away, as
+    /// [`Recorded::rebase`] does. False where they can't be, and then nothing changes.
+    pub fn make_room(&mut self) -> bool
+        ensures room { result ≡ true → length self.new.kept < self.new.cap }
+        ensures had_room { length self.old.kept < self.old.cap
+            → (result ≡ true) × (self.new ≡ self.old) }
+        ensures folded { length self.old.kept ≡ self.old.cap → result ≡ true
+            → Rebased self.old self.new }
+        ensures cannot { result ≡ false →
+            (self.old.has_twin ≡ false) ⊎ (2 ^ 62 < folded self.old + length self.old.kept) }
+        ensures unchanged { result ≡ false → self.new ≡ self.old }
+    {
+        !self.journal.is_full() || self.journal.rebase().is_some()
     }
 
     /// How many calls each caller made, where the shares are all 67. None where they are not. The shares are spent.
@@ -332,6 +348,25 @@ impl<M: GuestMem, L: Ledger> Recorded<M, L> {
             ≡ lone_after (lone_of p self.now.base) (keep p self.now.base (events self.now.kept)) }
     {
         self.journal.agrees();
+    }
+}
+
+/// The answer that a response stands for, where the bytes that it read stand at the front of `read`.
+pub fn answer_of(taken: &Response<'_>, read: &[u8]) -> Answer
+    requires { bytes_told taken.now.outcome ≤ length read.now }
+    ensures { result ≡ answer_with (take (bytes_told taken.now.outcome) read.now) taken.now }
+{
+    answer_with(&read[..told(taken.outcome)], taken)
+}
+
+// How many bytes were read.
+#[inline]
+fn told(outcome: Outcome) -> usize
+    ensures { result ≡ bytes_told outcome }
+{
+    match outcome {
+        Outcome::Bytes(span) => span.count(),
+        _ => 0,
     }
 }
 

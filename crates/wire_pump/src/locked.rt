@@ -1,12 +1,15 @@
 //! The door to a device that threads share.
-ghost use Rattle.std.specs.Prelude.{◌≡◌, true, Some, None};
-ghost use Rattle.wire_pump.specs.Doors.{event_shown};
-ghost use Rattle.wire_pump.specs.Ends.{is_wire};
+ghost use Rattle.std.specs.Prelude.{◌≡◌, [], Some, None, IfSome, IfNone};
+ghost use Rattle.device.specs.declared.event.Event.TheVariants.{Wire};
+ghost use Rattle.device.specs.Outcome.{bytes_told};
+ghost use Rattle.recorder.specs.Held.{having_asked};
+ghost use Rattle.recorder.specs.Read.{answer_with};
+ghost use Rattle.device_lock.specs.Answers.{MayAnswer};
 ghost use Rattle.history.specs.declared.caller.Caller.TheVariants.{Pump};
 
 use crate::pumping::Door;
-use device::{Answer, Event, Request};
-use device_lock::{Full, LockedDevice, Share};
+use device::{Answer, Event, Request, Response};
+use device_lock::{Full, LockedDevice, Share, answer_of};
 use guest_memory::GuestMem;
 use shadow::Shadow;
 use std::marker::Model;
@@ -19,6 +22,8 @@ use wire_frame::FrameBuf;
 #[derive(Drop)]
 pub struct LockedDoor<M: GuestMem, L: Ledger> {
     device: Arc<LockedDevice<M, L>>,
+    // whether kept calls are folded away where no more can be kept
+    folds: bool,
     share: Share<L>,
     // for the frames that the device sends, of which an event from the wire has none
     room: FrameBuf,
@@ -51,9 +56,22 @@ impl<M: GuestMem, L: Ledger> LockedDoor<M, L> {
     {
         LockedDoor {
             device,
+            folds: false,
             share,
             room: FrameBuf::blank(),
             refused: None,
+        }
+    }
+
+    /// The same, and where the device can keep no more calls, those that it keeps are folded away first, as
+    /// [`LockedDevice::act_folding`] does: an event comes back only where they can't be.
+    pub fn folding(device: Arc<LockedDevice<M, L>>, share: Share<L>) -> LockedDoor<M, L>
+        requires pump { share.caller ≡ Pump }
+        ensures { result ≡ record { share = share; refused = None } }
+    {
+        LockedDoor {
+            folds: true,
+            ..LockedDoor::new(device, share)
         }
     }
 
@@ -98,14 +116,24 @@ impl<M: GuestMem, L: Ledger> Door for LockedDoor<M, L> {
         ensures refused { OnErr result (self.new.refused ≡ Some event) }
         ensures same { OnErr result (self.new ≡ record self.old { refused = Some event }) }
     {
-        match self.device.act(rt, &mut self.share, event) {
-            Ok(answer) => {
+        let Event::Wire(frame) = &event else {
+            unreachable!();
+        };
+        match give(
+            rt,
+            &self.device,
+            self.folds,
+            &mut self.share,
+            frame,
+            &mut self.room,
+        ) {
+            Some(taken) => {
                 self.refused = None;
-                Ok(answer)
+                Ok(answer_of(&taken, &[]))
             }
-            Err(full) => {
-                self.refused = shown(&full.0);
-                Err(full)
+            None => {
+                self.refused = Some(Shadow::of(frame));
+                Err(Full(event))
             }
         }
     }
@@ -124,23 +152,41 @@ impl<M: GuestMem, L: Ledger> Door for LockedDoor<M, L> {
         ensures same { result ≡ false
             → self.new ≡ record self.old { refused = Some (Wire frame.now) } }
     {
-        let request = Request::Wire(frame);
-        let taken = self
-            .device
-            .act_request(rt, &mut self.share, request, &mut self.room, &mut [])
-            .is_some();
+        let taken = give(
+            rt,
+            &self.device,
+            self.folds,
+            &mut self.share,
+            frame,
+            &mut self.room,
+        )
+        .is_some();
         self.refused = if taken { None } else { Some(Shadow::of(frame)) };
         taken
     }
 }
 
-// The frame of an event from the wire.
-fn shown(event: &Event) -> Option<Shadow<FrameBuf>>
-    requires { is_wire event.now ≡ true }
-    ensures { event_shown result ≡ Some event.now }
+// Gives the device the event of a frame, as a call of a share; where it `folds`, kept calls are folded away first where no more can
+// be kept.
+fn give<'f, M: GuestMem, L: Ledger, R: Wait>(
+    rt: &R,
+    device: &LockedDevice<M, L>,
+    folds: bool,
+    share: &mut Share<L>,
+    frame: &FrameBuf,
+    room: &'f mut FrameBuf,
+) -> Option<Response<'f>>
+    requires pump { share.old.caller ≡ Pump }
+    ensures answer { IfSome result (λ taken. MayAnswer (Wire frame.now) (answer_with [] taken)) }
+    ensures unread { IfSome result (λ taken. bytes_told taken.outcome ≡ 0) }
+    ensures counted { IfSome result
+        (λ taken. share.new ≡ having_asked (Wire frame.now) (answer_with [] taken) share.old) }
+    ensures unchanged { IfNone result (share.new ≡ share.old) }
 {
-    match event {
-        Event::Wire(frame) => Some(Shadow::of(frame)),
-        _ => unreachable!(),
+    let request = Request::Wire(frame);
+    if folds {
+        device.act_folding(rt, share, request, room, &mut [])
+    } else {
+        device.act_request(rt, share, request, room, &mut [])
     }
 }

@@ -37,13 +37,8 @@ pub fn ask<M: GuestMem, L: Ledger, R: Wait>(
     ensures full { IfErr result (λ e. e ≡ Fault.HistoryFull) }
     ensures read { length read.new ≡ length read.old }
 {
-    for _ in rt.forever() {
-        if let Some(taken) = device.act_request(rt, share, request, frame, read) {
-            return Ok(taken.outcome);
-        }
-        if device.fold(rt).is_none() {
-            return Err(Fault::HistoryFull);
-        }
+    match device.act_folding(rt, share, request, frame, read) {
+        Some(taken) => Ok(taken.outcome),
+        None => Err(Fault::HistoryFull),
     }
-    unreachable!()
 }

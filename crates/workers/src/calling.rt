@@ -1,94 +1,71 @@
 //! One event by a guest's port.
-ghost use Rattle.std.specs.Prelude.{◌≡◌, true, false, not, IfErr, OnOk, OnErr};
+ghost use Rattle.std.specs.Prelude.{◌≡◌, ◌≤◌, true, IfErr, OnOk, OnErr, length};
 ghost use Rattle.wire_frame.specs.declared.fault.Fault.{Fault};
-ghost use Rattle.device.specs.declared.event.Event.{Event};
+ghost use Rattle.device.specs.Outcome.{bytes_asked};
 ghost use Rattle.device.specs.Request.{event_of};
-ghost use Rattle.guest_port.specs.Calls.{is_full};
+ghost use Rattle.history.specs.declared.caller.Caller.TheVariants.{Port};
+ghost use Rattle.recorder.specs.Callers.{may};
 ghost use Rattle.workers.specs.Calls.{HasDone, HasMade, IsPortEvent};
 
 use device::Request;
 use device::bytes::MOST_BYTES;
-use device_lock::LockedDevice;
 use guest_memory::GuestMem;
 use guest_port::{GuestPort, LockedPort};
 use std::sync::Wait;
 use std::sync::ledger::Ledger;
 use wire_frame::Fault;
 
-/// Does what an event asks of a port: a call, or its end. Where the history is full it is folded, and the call is made
-/// again until it is taken. [`Fault::HistoryFull`] where it can't be folded: nothing was done.
+/// Does what an event asks of a port: a call, or its end. Where the history is full it is folded first.
+/// [`Fault::HistoryFull`] where it can't be folded: nothing was done.
 ///
 /// `read` is lent for what a call reads.
+#[tactic(auto, using(crate::proofs::Turns::room_for))]
 pub fn call<M: GuestMem, L: Ledger, P: GuestPort, R: Wait>(
     rt: &R,
-    device: &LockedDevice<M, L>,
     port: &mut LockedPort<M, L, P>,
     request: Request<'_>,
     read: &mut [u8; MOST_BYTES],
 ) -> Result<(), Fault>
-    requires { IsPortEvent port.old.port.pool (event_of request) }
+    requires event { IsPortEvent port.old.port.pool (event_of request) }
+    requires read { length read.old ≡ 2048 }
     ensures done { OnOk result (HasDone (event_of request.entry) port.old port.new) }
     ensures undone { OnErr result (port.new ≡ port.old) }
     ensures full { IfErr result (λ e. e ≡ Fault.HistoryFull) }
-{
-    for _ in rt.forever() {
-        if call_once(rt, port, request, read) {
-            return Ok(());
-        }
-        if device.fold(rt).is_none() {
-            return Err(Fault::HistoryFull);
-        }
-    }
-    unreachable!()
-}
-
-// The same once: whether it was done. It was not where the history is full.
-fn call_once<M: GuestMem, L: Ledger, P: GuestPort, R: Wait>(
-    rt: &R,
-    port: &mut LockedPort<M, L, P>,
-    request: Request<'_>,
-    read: &mut [u8; MOST_BYTES],
-) -> bool
-    requires { IsPortEvent port.old.port.pool (event_of request) }
-    ensures done { result ≡ true → HasDone (event_of request.entry) port.old port.new }
-    ensures undone { result ≡ false → port.new ≡ port.old }
+    ensures read { length read.new ≡ 2048 }
 {
     match request {
-        Request::VfRead(_, offset) => is_taken(port.reg_read(rt, offset)),
-        Request::VfWrite(_, offset, value) => is_taken(port.reg_write(rt, offset, value)),
-        Request::MemRead(_, at, count) => read_memory(rt, port, at, count, read),
-        Request::MemWrite(_, at, bytes) => is_taken(port.mem_write(rt, at, bytes.bytes())),
-        Request::Flr(_) => is_taken(port.flr(rt)),
         Request::End(_) => {
             port.end();
-            true
+            Ok(())
         }
+        Request::VfRead(_, _) => make(rt, port, request, read),
+        Request::VfWrite(_, _, _) => make(rt, port, request, read),
+        Request::MemRead(_, _, _) => make(rt, port, request, read),
+        Request::MemWrite(_, _, _) => make(rt, port, request, read),
+        Request::Flr(_) => make(rt, port, request, read),
         _ => unreachable!(),
     }
 }
 
-// Reads so many bytes of the guest's memory, and tells whether the call was made.
-fn read_memory<M: GuestMem, L: Ledger, P: GuestPort, R: Wait>(
+// Makes a call, which is kept until the port has ended.
+fn make<M: GuestMem, L: Ledger, P: GuestPort, R: Wait>(
     rt: &R,
     port: &mut LockedPort<M, L, P>,
-    at: u64,
-    count: u16,
-    read: &mut [u8; MOST_BYTES],
-) -> bool
-    ensures done { result ≡ true
-        → HasMade (Event.MemRead port.old.port.pool at count) port.old port.new }
-    ensures undone { result ≡ false → port.new ≡ port.old }
+    request: Request<'_>,
+    read: &mut [u8],
+) -> Result<(), Fault>
+    requires may { may (Port port.old.port.pool) (event_of request) ≡ true }
+    requires room { bytes_asked (event_of request) ≤ length read.old }
+    ensures made { OnOk result (HasMade (event_of request.entry) port.old port.new) }
+    ensures undone { OnErr result (port.new ≡ port.old) }
+    ensures full { IfErr result (λ e. e ≡ Fault.HistoryFull) }
+    ensures read { length read.new ≡ length read.old }
 {
-    match read.get_mut(..usize::from(count)) {
-        Some(read) => is_taken(port.mem_read_into(rt, at, read)),
-        // more than one access may read, which is a call too
-        None => is_taken(port.mem_read(rt, at, count)),
+    if !port.is_open() {
+        return Ok(());
     }
-}
-
-// Whether a call was made, or refused for another reason than a full history.
-fn is_taken<T: Drop>(answer: Result<T, Fault>) -> bool
-    ensures { result ≡ not (is_full answer) }
-{
-    !matches!(&answer, Err(Fault::HistoryFull))
+    match port.ask_folding(rt, request, read) {
+        Ok(_) => Ok(()),
+        Err(fault) => Err(fault),
+    }
 }

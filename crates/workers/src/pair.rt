@@ -148,12 +148,12 @@ fn start_pump<
     ensures share { IfOk result (λ thread. thread.promise.share.value ≡ share) }
     ensures receiver { IfOk result (λ thread. thread.promise.receiver.value ≡ receiver) }
 {
-    let (mine, other) = (common.another()?, common.another()?);
+    let mine = common.another()?;
     let work = Pumping {
         share: Shadow::of(&share),
         receiver: Shadow::of(&receiver),
     };
-    let door = GatedDoor::new(LockedDoor::new(other.device, share), mine.device, mine.gate);
+    let door = GatedDoor::new(LockedDoor::folding(mine.device, share), mine.gate);
     match thread::spawn_with(&rt, work, move || do_pump(rt, receiver, door)) {
         Ok(thread) => Ok(thread),
         Err(_) => Err(AllocError),

@@ -9,13 +9,14 @@ ghost use Rattle.workers.specs.Duties.{HaveDone};
 ghost use Rattle.workers.specs.Ends.{HaveEnded, pool_of};
 ghost use Rattle.workers.specs.Run.{HaveRun, duties_of, plan_of, shares_back, with_ports};
 
+use crate::asking::ask;
 use crate::crew::{Crew, Ended};
 use crate::gate::Gate;
 use crate::pair::start_pair;
 use crate::plan::{Plan, Ports};
 use crate::starting::{WorkerContext, start_driver, start_guests};
 use crate::worker::Worker;
-use device::Event;
+use device::Request;
 use device_lock::{CALLERS, Caller, LockedDevice, Share, Shares};
 use guest_memory::GuestMem;
 use guest_port::{EndNote, GuestPort, LockedPort};
@@ -25,7 +26,7 @@ use std::alloc::{AllocError, Global};
 use std::sync::ledger::Ledger;
 use std::sync::{Arc, Wait};
 use std::thread::Threads;
-use wire_frame::Fault;
+use wire_frame::{Fault, FrameBuf};
 use wire_pump::channel;
 
 /// Does the events of a script after `go`, each worker its own in the order of the script, in a thread of its own: each port
@@ -261,32 +262,9 @@ fn record_ends<M: GuestMem, L: Ledger, R: Wait>(
     ensures full { IfErr result (λ e. e ≡ Fault.HistoryFull) }
     ensures ends { OnOk result (HasAsked (map End pools.now) share.old share.new) }
 {
+    let mut frame = FrameBuf::blank();
     for pool in pools {
-        record_end(rt, device, *pool, share)?;
+        ask(rt, device, share, Request::End(*pool), &mut frame, &mut [])?;
     }
     Ok(())
-}
-
-// Records the end of a pool's port. Where the history is full it is folded first.
-#[tactic(auto, using(crate::proofs::Asks::has_asked))]
-fn record_end<M: GuestMem, L: Ledger, R: Wait>(
-    rt: &R,
-    device: &LockedDevice<M, L>,
-    pool: u8,
-    share: &mut Share<L>,
-) -> Result<(), Fault>
-    requires { share.old.caller ≡ Service }
-    ensures full { IfErr result (λ e. e ≡ Fault.HistoryFull) }
-    ensures asked { OnOk result (HasAsked (End pool ∷ []) share.old share.new) }
-    ensures caller { share.new.caller ≡ share.old.caller }
-{
-    for _ in rt.forever() {
-        if device.act(rt, share, Event::End(pool)).is_ok() {
-            return Ok(());
-        }
-        if device.fold(rt).is_none() {
-            return Err(Fault::HistoryFull);
-        }
-    }
-    unreachable!()
 }

@@ -114,7 +114,7 @@ fn do_port<M: GuestMem, L: Ledger, P: GuestPort, G: Gate + Drop, R: Wait + Copy>
 ) -> WorkerResult<L>
     ensures { result.was_full ≡ false → IsDone (OfPort (arc_value mine.plan) port) result.share }
 {
-    guest(&rt, &mine.plan, &mine.device, &mut port, &*mine.gate)
+    guest(&rt, &mine.plan, &mut port, &*mine.gate)
 }
 
 /// Starts the worker of a caller that is no port, the physical function's driver or the service, with its share.

@@ -91,7 +91,6 @@ pub struct Pumped<L: Ledger> {
 pub fn guest<M: GuestMem, L: Ledger, P: GuestPort, G: Gate, R: Wait>(
     rt: &R,
     plan: &Plan,
-    device: &LockedDevice<M, L>,
     port: &mut LockedPort<M, L, P>,
     gate: &G,
 ) -> WorkerResult<L>
@@ -105,7 +104,7 @@ pub fn guest<M: GuestMem, L: Ledger, P: GuestPort, G: Gate, R: Wait>(
     ensures asked { IfSome result.share
         (λ share. share ≡ having_calls port.new.calls port.new.made) }
 {
-    let was_full = !calls(rt, plan, device, port, gate);
+    let was_full = !calls(rt, plan, port, gate);
     let share = match port.close() {
         Some((share, tokens)) => {
             drop(tokens);
@@ -121,7 +120,6 @@ pub fn guest<M: GuestMem, L: Ledger, P: GuestPort, G: Gate, R: Wait>(
 fn calls<M: GuestMem, L: Ledger, P: GuestPort, G: Gate, R: Wait>(
     rt: &R,
     plan: &Plan,
-    device: &LockedDevice<M, L>,
     port: &mut LockedPort<M, L, P>,
     gate: &G,
 ) -> bool
@@ -140,7 +138,7 @@ fn calls<M: GuestMem, L: Ledger, P: GuestPort, G: Gate, R: Wait>(
     for turn in 0..plan.turns(port.caller()) {
         n = n.wrapping_add(1);
         gate.before(number, n);
-        let done = call_turn(rt, plan, device, port, turn, &mut room, &mut read);
+        let done = call_turn(rt, plan, port, turn, &mut room, &mut read);
         gate.after(number, n);
         if !done {
             return false;
@@ -154,19 +152,20 @@ fn calls<M: GuestMem, L: Ledger, P: GuestPort, G: Gate, R: Wait>(
 fn call_turn<M: GuestMem, L: Ledger, P: GuestPort, R: Wait>(
     rt: &R,
     plan: &Plan,
-    device: &LockedDevice<M, L>,
     port: &mut LockedPort<M, L, P>,
     turn: usize,
     room: &mut Room,
     read: &mut [u8; MOST_BYTES],
 ) -> bool
-    requires { turn < length (own_events plan.now (Port port.old.port.pool)) }
+    requires turn { turn < length (own_events plan.now (Port port.old.port.pool)) }
+    requires read { length read.old ≡ 2048 }
     ensures done { result ≡ true
         → HasDone (slice_index_or (own_events plan.now (Port port.old.port.pool)) turn PfReset) port.old port.new }
     ensures undone { result ≡ false → port.new ≡ port.old }
+    ensures read { length read.new ≡ 2048 }
 {
     let request = plan.request(port.caller(), turn, room);
-    match call(rt, device, port, request, read) {
+    match call(rt, port, request, read) {
         Ok(()) => true,
         Err(_) => false,
     }

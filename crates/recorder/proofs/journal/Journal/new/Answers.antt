@@ -15,6 +15,7 @@ invariant_of-result g c =
     record {
       allowed = subst (λ (r : Logged). AreAllowed r.kept) made allowed_none;
       first = λ none. subst (λ (r : Logged). r.base ≡ made_like r.live) made (fresh_again c.args.live.value.world _ _ c.requires.fresh.2);
+      some = subst (λ (r : Logged). 1 ≤ r.cap) made c.requires.some;
       few = subst (λ (r : Logged). r.cap ≤ 65536) made c.requires.few;
       folded = sym c.no_calls.ensures.all;
       few_folded = omega arith;

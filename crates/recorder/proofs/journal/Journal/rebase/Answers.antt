@@ -21,6 +21,7 @@ invariant_of-self-2 g c =
       allowed = subst (λ (r : Logged). AreAllowed r.kept) there allowed_none;
       first = λ none. subst (λ (r : Logged). r.base ≡ made_like r.live) there
           (nothing_kept before.kept before.base live (made_like live) (omega arith) c.agrees.ensures.leads.world (old.first (omega arith)));
+      some = subst (λ (r : Logged). 1 ≤ r.cap) there old.some;
       few = subst (λ (r : Logged). r.cap ≤ 65536) there old.few;
       folded = omega (arith, old.folded, count, all);
       few_folded = let f = old.few_folded in let k = c.if-count-self.false in omega arith;

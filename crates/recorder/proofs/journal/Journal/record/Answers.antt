@@ -43,6 +43,7 @@ invariant_of-self g c =
       allowed = subst (λ (r : Logged). AreAllowed r.kept) (sym kept)
           (allowed_more c.self.inside.recording.kept c.args.caller (event_of c.args.request) (call g c).answer old.allowed c.requires.may);
       first = λ none. ap (λ (r : Logged). r.base) kept ∙ old.first none ∙ sym (same_make g c);
+      some = rw kept old.some;
       few = rw kept old.few;
       folded = old.folded;
       few_folded = old.few_folded;

@@ -15,7 +15,7 @@ use crate::making::{drop_boxed, make_device};
 use crate::of_script::is_of_script;
 use crate::report::write_report;
 use device::Device;
-use device_lock::{LockedDevice, Recorded, Shares};
+use device_lock::{CALLERS, LockedDevice, Recorded, Shares};
 use guest_memory::{FlatMem, GuestMem};
 use guest_port::{EndNote, GuestPort, IrqPort, LockedPort};
 use irq_line::{DeviceSeat, make};
@@ -258,10 +258,15 @@ fn run_all<
     let ports = seat_all(alloc, locked, &mut shares, ports, &pools)?;
     let gate = Arc::new(alloc, OpenGate)?;
     let device = Arc::try_clone(locked)?;
-    match run_workers(rt, &Discard, alloc, script, device, shares, ports, gate) {
-        Ok(ended) => Ok(ended),
-        Err(fault) => Err(of_workers(fault)),
+    let ended = match run_workers(rt, &Discard, alloc, script, device, shares, ports, gate) {
+        Ok(ended) => ended,
+        Err(fault) => return Err(of_workers(fault)),
+    };
+    // no share was handed out but to a port that is there, so this can't be
+    if ended.shares.len() != CALLERS {
+        return Err(Fault::NoMemory);
     }
+    Ok(ended)
 }
 
 // Takes the recorded device out of its lock, and writes what was kept of it. [`Fault::NoMemory`] where somebody else has it too: once

@@ -15,6 +15,7 @@ mod makers;
 mod pumping;
 mod recording;
 mod sheet;
+mod working;
 
 use crate::ending::Ending;
 use crate::pumping::Pumping;
@@ -27,6 +28,7 @@ use std::io::Write;
 use std::marker::Brand;
 use std::sync::Wait;
 use std::sync::ledger::{Blank, Ledger};
+use std::thread::Threads;
 
 /// So many bytes are asked for before all memory is refused.
 const MARK: usize = 98_765_432;
@@ -40,7 +42,7 @@ fn mark(alloc: Global) -> Came {
 }
 
 // Calls each maker.
-fn make_all<R: Wait>(rt: &R, alloc: Global, sheet: &mut Sheet) {
+fn make_all<R: Threads + Wait + Copy + Send + 'static>(rt: &R, alloc: Global, sheet: &mut Sheet) {
     sheet.tell("FlatMem::new", makers::flat_mem(alloc));
     sheet.tell("LiveMem::new", makers::live_mem(alloc));
     sheet.tell("Card::for_guests", makers::card(alloc));
@@ -59,6 +61,8 @@ fn make_all<R: Wait>(rt: &R, alloc: Global, sheet: &mut Sheet) {
     let locked = makers::locked_new::<Brand, R>(rt, alloc, Blank::new(67));
     sheet.tell("LockedDevice::new", locked);
     sheet.tell("channel", makers::frames(rt, alloc));
+    let worked = working::workers::<Brand, R>(*rt, alloc, Blank::new(67));
+    sheet.tell("run_workers", worked);
     sheet.tell("drive, run", makers::script(alloc, Mode::Run));
     sheet.tell("drive, keep 0", makers::script(alloc, Mode::Keep(0)));
     sheet.tell("drive, lone 0", makers::script(alloc, Mode::Lone(0)));

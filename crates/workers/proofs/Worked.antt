@@ -1,7 +1,7 @@
 -- What many workers did, one by one, and whose the shares are that they leave.
-use Rattle.std.proofs.Common.{◌≡◌, ◌≢◌, ℕ, suc, ◌+◌, ◌<◌, false, not, cond, List, [], ◌∷◌, ◌++◌, filter, length, map, refl, sym, ap, ◌∙◌, get_or, set, subst, take, append_assoc, arith, true, Bool}
+use Rattle.std.proofs.Common.{◌≡◌, ℕ, suc, ◌+◌, ◌<◌, ◌≤◌, false, not, cond, List, [], ◌∷◌, ◌++◌, filter, length, map, refl, sym, ap, ◌∙◌, get_or, set, subst, take, append_assoc, arith, true, Bool}
 use Rattle.std.specs.Prelude.{IfSome, MatchOption, None, Option, Some, slice_index_or, slice_set}
-use Rattle.std.proofs.lemmas.List.{append-nil, length-append, map-append, take_more}
+use Rattle.std.proofs.lemmas.List.{append-nil, length-append, length-set, map-append, take_more}
 use Rattle.std.proofs.Math.Seq.{get_or-append_seam, set-append_seam}
 use Rattle.device.specs.Events.{Event}
 use Rattle.device.specs.declared.event.Event.TheVariants.{End}
@@ -150,31 +150,31 @@ is_run plan ports shares now done =
           ∙ sym (append_assoc (left_of shares.ports.items) (left_of s.left) (three.pf_left ∷ three.pump_left ∷ three.service_left ∷ [])) ∙ last_apart (left_of shares.ports.items) (left_of s.left) three.pf_left three.pump_left three.service_left;
     }
 
-front_length : (front now : List CallerLog) (last : CallerLog) → now ≡ front ++ last ∷ [] → length now ≡ 67 → 66 ≡ length front
-front_length front now last is many = let l = ap length is in let n = length-append front (last ∷ []) in omega (arith, l, n, many)
+front_length : (at : ℕ) (front now : List CallerLog) (last : CallerLog) → now ≡ front ++ last ∷ [] → at + 1 ≡ length now → at ≡ length front
+front_length at front now last is many = let l = ap length is in let n = length-append front (last ∷ []) in omega (arith, l, n, many)
 
-last_is : (front now : List CallerLog) (last d : CallerLog) → now ≡ front ++ last ∷ [] → length now ≡ 67 → get_or now 66 d ≡ last
-last_is front now last d is many =
-    ap (λ (ms : List CallerLog). get_or ms 66 d) is ∙ (ap (λ (k : ℕ). get_or (front ++ last ∷ []) k d) (front_length front now last is many) ∙ get_or-append_seam front last [] d)
+last_is : (at : ℕ) (front now : List CallerLog) (last d : CallerLog) → now ≡ front ++ last ∷ [] → at + 1 ≡ length now → get_or now at d ≡ last
+last_is at front now last d is many =
+    ap (λ (ms : List CallerLog). get_or ms at d) is ∙ (ap (λ (k : ℕ). get_or (front ++ last ∷ []) k d) (front_length at front now last is many) ∙ get_or-append_seam front last [] d)
 
-last_set : (front now : List CallerLog) (last new : CallerLog) → now ≡ front ++ last ∷ [] → length now ≡ 67 → set now 66 new ≡ front ++ new ∷ []
-last_set front now last new is many =
-    ap (λ (ms : List CallerLog). set ms 66 new) is ∙ (ap (λ (k : ℕ). set (front ++ last ∷ []) k new) (front_length front now last is many) ∙ set-append_seam front last [] new)
+last_set : (at : ℕ) (front now : List CallerLog) (last new : CallerLog) → now ≡ front ++ last ∷ [] → at + 1 ≡ length now → set now at new ≡ front ++ new ∷ []
+last_set at front now last new is many =
+    ap (λ (ms : List CallerLog). set ms at new) is ∙ (ap (λ (k : ℕ). set (front ++ last ∷ []) k new) (front_length at front now last is many) ∙ set-append_seam front last [] new)
 
-pub last_caller : {L : Type 0} (plan : Planned) (ports : List (CallingPort × Known)) (shares : Shares L) (now : List CallerLog) (share : CallerLog) → shares.service.caller ≡ Service → HaveDone (duties_of plan ports shares) (left_of shares.ports.items) now
-    → length now ≡ 67 → share ≡ get_or now 66 share → share.caller ≡ Service
-last_caller plan ports shares now share own done many is =
+pub last_caller : {L : Type 0} (plan : Planned) (ports : List (CallingPort × Known)) (shares : Shares L) (now : List CallerLog) (at : ℕ) (share : CallerLog) → shares.service.caller ≡ Service → HaveDone (duties_of plan ports shares) (left_of shares.ports.items) now
+    → at + 1 ≡ length now → share ≡ get_or now at share → share.caller ≡ Service
+last_caller plan ports shares now at share own done many is =
     let r = is_run plan ports shares now done in
-    ap (λ (m : CallerLog). m.caller) (is ∙ last_is (left_of shares.ports.items ++ left_of r.left ++ r.others.pf_left ∷ r.others.pump_left ∷ []) now r.others.service_left share r.all many)
+    ap (λ (m : CallerLog). m.caller) (is ∙ last_is at (left_of shares.ports.items ++ left_of r.left ++ r.others.pf_left ∷ r.others.pump_left ∷ []) now r.others.service_left share r.all many)
     ∙ same_caller (own_events plan shares.service.caller) shares.service r.others.service_left r.others.service_asked ∙ own
 
-pub have_run : {L : Type 0} (plan : Planned) (ports : List (CallingPort × Known)) (pools : List ℕ) (shares : Shares L) (now : List CallerLog) (before share : CallerLog) → shares.pf.caller ≡ Driver → shares.pump.caller ≡ Pump → shares.service.caller ≡ Service
-    → HaveDone (duties_of plan ports shares) (left_of shares.ports.items) now → length now ≡ 67 → before ≡ get_or now 66 before → pools ≡ map pool_of ports → HasAsked (map End pools) before share
-    → HaveRun plan ports shares (set now 66 share)
-have_run plan ports pools shares now before share own_pf own_pump own_service done many is noted asked =
+pub have_run : {L : Type 0} (plan : Planned) (ports : List (CallingPort × Known)) (pools : List ℕ) (shares : Shares L) (now : List CallerLog) (at : ℕ) (before share : CallerLog) → shares.pf.caller ≡ Driver → shares.pump.caller ≡ Pump → shares.service.caller ≡ Service
+    → HaveDone (duties_of plan ports shares) (left_of shares.ports.items) now → at + 1 ≡ length now → before ≡ get_or now at before → pools ≡ map pool_of ports → HasAsked (map End pools) before share
+    → HaveRun plan ports shares (set now at share)
+have_run plan ports pools shares now at before share own_pf own_pump own_service done many is noted asked =
     let r = is_run plan ports shares now done in
     let front : List CallerLog = left_of shares.ports.items ++ left_of r.left ++ r.others.pf_left ∷ r.others.pump_left ∷ [] in
-    let same : before ≡ r.others.service_left = is ∙ last_is front now r.others.service_left before r.all many in
+    let same : before ≡ r.others.service_left = is ∙ last_is at front now r.others.service_left before r.all many in
     let ends : HasAsked (map port_end ports) r.others.service_left share =
     subst (λ (es : List Event). HasAsked es r.others.service_left share) (ap (map End) noted ∙ ends_of_ports ports) (subst (λ (m : CallerLog). HasAsked (map End pools) m share) same asked) in
     record {
@@ -188,7 +188,7 @@ have_run plan ports pools shares now before share own_pf own_pump own_service do
       service_asked =
           asked_behind (own_events plan Service) (map port_end ports) shares.service r.others.service_left share
           (subst (λ (c : Caller). HasAsked (own_events plan c) shares.service r.others.service_left) own_service r.others.service_asked) ends;
-      all = last_set front now r.others.service_left share r.all many ∙ sym (last_apart (left_of shares.ports.items) (left_of r.left) r.others.pf_left r.others.pump_left share);
+      all = last_set at front now r.others.service_left share r.all many ∙ sym (last_apart (left_of shares.ports.items) (left_of r.left) r.others.pf_left r.others.pump_left share);
     }
 
 -- ---- how many shares come back
@@ -214,10 +214,14 @@ all_back plan ports shares now done =
     let c = length-append (left_of shares.ports.items) l in
     omega (arith, whole, a, b, c, there)
 
--- others than 67 came back, so there were others to bring back
-pub others_back : {L : Type 0} (plan : Planned) (ports : List (CallingPort × Known)) (shares : Shares L) (now : List CallerLog) → HaveDone (duties_of plan ports shares) (left_of shares.ports.items) now → length now ≢ 67
-    → shares_back shares ports ≢ 67
-others_back plan ports shares now done others same = others (all_back plan ports shares now done ∙ same)
+-- as many where one of them has asked more
+pub all_set : {L : Type 0} (plan : Planned) (ports : List (CallingPort × Known)) (shares : Shares L) (now : List CallerLog) (at : ℕ) (share : CallerLog) → HaveDone (duties_of plan ports shares) (left_of shares.ports.items) now
+    → length (set now at share) ≡ shares_back shares ports
+all_set plan ports shares now at share done = length-set now at share ∙ all_back plan ports shares now done
+
+-- the service's is there
+pub some_back : {L : Type 0} (plan : Planned) (ports : List (CallingPort × Known)) (shares : Shares L) (now : List CallerLog) → HaveDone (duties_of plan ports shares) (left_of shares.ports.items) now → 1 ≤ length now
+some_back plan ports shares now done = let l = all_back plan ports shares now done in omega (arith, l)
 
 -- ---- which pools have a port
 

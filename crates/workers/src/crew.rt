@@ -1,5 +1,6 @@
 //! The workers that run.
-ghost use Rattle.std.specs.Prelude.{◌≡◌, ◌++◌, [], ◌∷◌, true, false, IfOk};
+ghost use Rattle.std.specs.Prelude.{◌≡◌, ◌⊎◌, ◌++◌, [], ◌∷◌, true, false, Some, None, IfOk, IfSome};
+ghost use Rattle.wire_frame.specs.declared.fault.Fault.{Fault};
 ghost use Rattle.workers.specs.Crew.{duty_in};
 ghost use Rattle.workers.specs.Duties.{HaveDone};
 ghost use Rattle.workers.specs.Work.{duty_of};
@@ -15,11 +16,12 @@ use std::alloc::{AllocError, Global};
 use std::marker::Model;
 use std::sync::ledger::Ledger;
 use std::thread::{PromisedHandle, Threads};
+use wire_frame::Fault;
 
 /// The shares of all callers, once the workers have ended.
 #[derive(Drop)]
 pub struct Ended<L: Ledger> {
-    /// The shares, 67 of them.
+    /// The shares, 67 of them where none was missing before.
     pub shares: Vec<Share<L>>,
 }
 
@@ -62,6 +64,26 @@ pub struct CrewEnds {
     pub was_refused: bool,
     /// A worker ended since the history was full.
     pub was_full: bool,
+}
+
+impl CrewEnds {
+    /// Why not all was done, if it was not. A start that was refused is told also where the history was full.
+    pub fn fault(self) -> Option<Fault>
+        ensures refused { self.was_refused ≡ true → result ≡ Some Fault.NoMemory }
+        ensures full { self.was_refused ≡ false → self.was_full ≡ true
+            → result ≡ Some Fault.HistoryFull }
+        ensures none { result ≡ None
+            → (self.was_refused ≡ false) × (self.was_full ≡ false) }
+        ensures some { IfSome result (λ e. (e ≡ Fault.NoMemory) ⊎ (e ≡ Fault.HistoryFull)) }
+    {
+        if self.was_refused {
+            Some(Fault::NoMemory)
+        } else if self.was_full {
+            Some(Fault::HistoryFull)
+        } else {
+            None
+        }
+    }
 }
 
 impl<M: GuestMem, L: Ledger + Send + 'static, P: GuestPort> Crew<M, L, P> {

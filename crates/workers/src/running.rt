@@ -1,5 +1,5 @@
 //! The workers, from their starts to their ends.
-ghost use Rattle.std.specs.Prelude.{◌≡◌, ◌≢◌, ◌⊎◌, [], ◌∷◌, false, length, map, replicate, IfOk, IfErr, OnOk};
+ghost use Rattle.std.specs.Prelude.{◌≡◌, ◌+◌, ◌≤◌, ◌⊎◌, [], false, length, map, replicate, IfOk, IfErr, OnOk};
 ghost use Rattle.std.specs.Arc.{arc_value};
 ghost use Rattle.device.specs.declared.event.Event.TheVariants.{End};
 ghost use Rattle.history.specs.declared.caller.Caller.TheVariants.{Driver, Pump, Service};
@@ -36,13 +36,12 @@ use wire_pump::channel;
 /// start and end at debug level.
 ///
 /// The shares come back: those that no worker had, those of the ports in order, the driver's, the pump's and the service's, each
-/// with what its worker asked.
+/// with what its worker asked. They are those of all 67 callers, unless one was handed out before that no port brings back.
 ///
-/// [`Fault::NoMemory`] where the host refused a thread or the room for one, after the workers that run have ended. Else
-/// [`Fault::HistoryFull`] where the history was full and can't be folded, after all have ended: the worker that met it ended there.
-/// Else [`Fault::BadMake`] where the shares that come back are not 67, one for each caller: one was handed out that no port brings
-/// back. The shares are spent then.
-#[tactic(auto, using(crate::proofs::Closing::have_ended, crate::proofs::Worked::last_caller, crate::proofs::Worked::have_run, crate::proofs::Worked::others_back))]
+/// [`Fault::NoMemory`] where the host refused a thread or the room for one, after the workers that run have ended, also where the
+/// history was full then. Else [`Fault::HistoryFull`] where the history was full and can't be folded, after all have ended: the
+/// worker that met it ended there. After a fault the shares are spent.
+#[tactic(auto, using(crate::proofs::Closing::have_ended, crate::proofs::Worked::last_caller, crate::proofs::Worked::have_run, crate::proofs::Worked::all_set, crate::proofs::Worked::some_back))]
 pub fn run_workers<
     M: GuestMem + Send + 'static,
     L: Ledger + Send + Sync + 'static,
@@ -63,41 +62,41 @@ pub fn run_workers<
     requires pf { shares.pf.caller ≡ Driver }
     requires pump { shares.pump.caller ≡ Pump }
     requires service { shares.service.caller ≡ Service }
-    ensures all { IfOk result (λ ended. length ended.shares.items ≡ 67) }
+    ensures all { IfOk result
+        (λ ended. length ended.shares.items ≡ shares_back shares ports.items) }
     ensures ends { IfOk result (λ ended. HaveEnded ports.items ended.shares.items) }
     ensures run { IfOk result
         (λ ended. HaveRun (plan_of (arc_value script) ports.items) ports.items shares ended.shares.items) }
-    ensures why { IfErr result (λ e. (e ≡ Fault.NoMemory) ⊎ ((e ≡ Fault.HistoryFull)
-        ⊎ ((e ≡ Fault.BadMake) × (shares_back shares ports.items ≢ 67)))) }
+    ensures why { IfErr result (λ e. (e ≡ Fault.NoMemory) ⊎ (e ≡ Fault.HistoryFull)) }
 {
-    let Ok(ran) = run(rt, log, alloc, script, &device, shares, ports, gate) else {
-        return Err(Fault::NoMemory);
+    let RunOfWorkers { mut shares, pools } = match run(
+        rt, log, alloc, script, &device, shares, ports, gate,
+    ) {
+        Ok(ran) => ran,
+        Err(fault) => return Err(fault),
     };
-    if ran.was_full {
-        return Err(Fault::HistoryFull);
-    }
-    let RunOfWorkers {
-        mut shares,
-        pools,
-        ..
-    } = ran;
-    if shares.len() != CALLERS {
-        return Err(Fault::BadMake);
-    }
-    record_ends(&rt, &device, &pools, &mut shares[CALLERS - 1])?;
+    let last = last_of(&shares);
+    record_ends(&rt, &device, &pools, &mut shares[last])?;
     Ok(Ended { shares })
 }
 
-// What the workers leave: their shares, with those that no worker had, the pools of the ports, in order, and whether one of the
-// workers ended since the history was full.
+// The place of the last of the shares, which is the service's.
+fn last_of<L: Ledger>(shares: &[Share<L>]) -> usize
+    requires { 1 ≤ length shares.now }
+    ensures { result + 1 ≡ length shares.now }
+{
+    shares.len() - 1
+}
+
+// What the workers leave: their shares, with those that no worker had, and the pools of the ports, in order.
 #[derive(Drop)]
 struct RunOfWorkers<L: Ledger> {
     shares: Vec<Share<L>>,
     pools: Vec<u8>,
-    was_full: bool,
 }
 
-// Starts the workers, and waits for all. All that they need is made before the first starts.
+// Starts the workers, and waits for all. All that they need is made before the first starts. Where a start was refused and the history
+// was full too, [`Fault::NoMemory`] comes.
 fn run<
     M: GuestMem + Send + 'static,
     L: Ledger + Send + Sync + 'static,
@@ -114,18 +113,19 @@ fn run<
     shares: Shares<L>,
     ports: Vec<(LockedPort<M, L, P>, EndNote)>,
     gate: Arc<G>,
-) -> Result<RunOfWorkers<L>, AllocError>
+) -> Result<RunOfWorkers<L>, Fault>
     requires pf { shares.pf.caller ≡ Driver }
     requires pump { shares.pump.caller ≡ Pump }
     requires service { shares.service.caller ≡ Service }
     ensures pools { IfOk result (λ ran. ran.pools.items ≡ map pool_of ports.items) }
-    ensures done { IfOk result (λ ran. ran.was_full ≡ false
-        → HaveDone (duties_of (plan_of (arc_value script) ports.items) ports.items shares)
+    ensures done { IfOk result (λ ran.
+        HaveDone (duties_of (plan_of (arc_value script) ports.items) ports.items shares)
         (left_of shares.ports.items) ran.shares.items) }
+    ensures why { IfErr result (λ e. (e ≡ Fault.NoMemory) ⊎ (e ≡ Fault.HistoryFull)) }
 {
     let common = common_of(alloc, script, device, gate, &ports)?;
     let Ok((sender, receiver)) = channel(alloc) else {
-        return Err(AllocError);
+        return Err(Fault::NoMemory);
     };
     let pools = pools_in_order(alloc, &ports)?;
     let mut crew = Crew::new(alloc, ports.len())?;
@@ -156,13 +156,12 @@ fn run<
         &mut crew,
     );
     let ends = crew.join(&rt, log, &mut back);
-    if ends.was_refused {
-        return Err(AllocError);
+    if let Some(fault) = ends.fault() {
+        return Err(fault);
     }
     Ok(RunOfWorkers {
         shares: back,
         pools,
-        was_full: ends.was_full,
     })
 }
 

@@ -9,3 +9,6 @@ ghosts-with_twin g a = record { name = a.blank.name; parts = a.blank.parts }
 
 abbrev pub ghosts-locked_new : goal.ghosts-locked_new
 ghosts-locked_new g a = record { name = a.blank.name; parts = a.blank.parts }
+
+abbrev pub ghosts-workers : goal.ghosts-workers
+ghosts-workers g a = record { name = a.blank.name; parts = a.blank.parts }

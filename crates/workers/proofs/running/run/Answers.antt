@@ -8,8 +8,8 @@ use Rattle.workers.proofs.running.run.Goals as goal
 
 pub returns-clause-done : goal.returns-clause-done
 returns-clause-done g c =
-    λ whole.
-    let ready : c.join-ends.result.was_refused ≡ false = search rules in
+    let none = c.fault.ensures.none (search rules) in
+    let ready = none.0 in
     let with_service = c.join-ends.ensures.refused ready in
     let with_pump = c.start_driver-2.ensures.stays with_service in
     let with_pf = c.start_pair.ensures.stays with_pump in
@@ -19,4 +19,4 @@ returns-clause-done g c =
     let duties = all_duties now c.args.ports.items c.args.shares c.in_ok-pf.field-0.pf c.in_ok-pf.field-0.pump c.in_ok-pf.field-0.service c.in_ok-crew.crew.duties c.start_guests.new.crew.duties c.start_driver.new.crew.duties c.start_pair.new.crew.duties
     c.start_driver-2.new.crew.duties (search rules) (search rules) (search rules) (search rules) (c.start_guests.ensures.duties guests) (c.start_driver.ensures.duty with_pf) (c.start_pair.ensures.duty with_pump)
     (c.start_driver-2.ensures.duty with_service) in
-    done_with (plan_of (arc_value c.args.script) c.args.ports.items) now c.args.ports.items c.args.shares c.start_driver-2.new.crew.duties c.in_ok-pf.field-0.others.items c.join-ends.new.shares.items is duties (search rules) (c.join-ends.ensures.done ready whole)
+    done_with (plan_of (arc_value c.args.script) c.args.ports.items) now c.args.ports.items c.args.shares c.start_driver-2.new.crew.duties c.in_ok-pf.field-0.others.items c.join-ends.new.shares.items is duties (search rules) (c.join-ends.ensures.done ready none.1)

@@ -1,5 +1,5 @@
 //! A recorded device that threads share.
-ghost use Rattle.std.specs.Prelude.{◌≡◌, ◌≢◌, ℕ, ◌≤◌, ◌^◌, List, true, IsTrue, ◌↔◌, IfOk, IfErr, OnOk, OnErr, IfSome, IfNone, length, take, drop, sum, option_copied};
+ghost use Rattle.std.specs.Prelude.{◌≡◌, ◌≢◌, ℕ, ◌+◌, ◌≤◌, ◌^◌, List, true, IsTrue, ◌↔◌, IfOk, IfErr, OnOk, OnErr, IfSome, IfNone, length, take, drop, sum, option_copied};
 ghost use Rattle.std.specs.List.{sum_by};
 ghost use Rattle.device.specs.Request.{event_of};
 ghost use Rattle.device.specs.World.{World, step, sent_by, world_after, answers};
@@ -165,6 +165,15 @@ impl<M: GuestMem, L: Ledger> LockedDevice<M, L> {
         ensures few { result ≤ 2 ^ 62 }
     {
         self.enter(rt).folded()
+    }
+
+    /// One [`Recorded::kept_and_folded`] under the lock: a caller that hands in its share knows that all its calls are counted.
+    pub fn kept_and_folded<R: Wait>(&self, rt: &R, share: &mut Share<L>) -> (usize, usize)
+        ensures made { count_of share.old ≤ result.0 + result.1 }
+        ensures few { (result.0 ≤ 65536) × (result.1 ≤ 2 ^ 62) }
+        ensures unchanged { share.new ≡ share.old }
+    {
+        self.enter(rt).kept_and_folded(share)
     }
 
     /// One [`Recorded::rebase`] under the lock.

@@ -61,12 +61,12 @@ fn sets_while_opening<
 }
 
 // How many events of the driver, the service and then the frame's are answered, the guest's take, the counts of the driver's and the
-// service's calls, how many calls are kept and whether they can be folded, and whether another device gives their answers.
+// service's calls, how many calls are kept, were folded, and whether they can be folded, and whether another device gives their answers.
 type Seen = (
     (u32, u32, u32),
     u8,
     (u64, u64),
-    (usize, Option<usize>),
+    (usize, usize, Option<usize>),
     bool,
 );
 
@@ -88,7 +88,8 @@ fn in_threads<R: Threads + Wait + Copy + Send + Sync + 'static, L: Ledger + Send
     let (set, opened, pf) = sets_while_opening(rt, alloc, device, pf, &mut service)?;
     let arrived = act_all(&rt, &**device, &mut service, arrival, 14);
     let taken = guest.take();
-    let left = (device.kept(&rt), device.fold(&rt));
+    let (kept, folded) = device.kept_and_folded(&rt, &mut service);
+    let left = (kept, folded, device.fold(&rt));
     Ok((
         (set, opened, arrived),
         taken,
@@ -118,7 +119,7 @@ fn two_threads<R: Threads + Wait + Copy + Send + Sync + 'static, L: Ledger + Sen
 #[test]
 fn a_driver_sets_while_the_service_opens(rt: HostRuntime) -> Result<(), Fail> {
     let seen = two_threads::<HostRuntime, Brand>(rt, rt.alloc(), Blank::new(67))?;
-    assert_eq!(rt; seen, ((5, 9, 4), 1, (5, 13), (18, None), true));
+    assert_eq!(rt; seen, ((5, 9, 4), 1, (5, 13), (18, 0, None), true));
     Ok(())
 }
 

@@ -325,6 +325,20 @@ impl<M: GuestMem, L: Ledger> Recorded<M, L> {
         self.journal.folded()
     }
 
+    /// How many calls are kept, and how many were folded away. Together they are no fewer than those of a caller's share, which stays
+    /// as it is.
+    pub fn kept_and_folded(&mut self, share: &mut Share<L>) -> (usize, usize)
+        ensures kept { result.0 ≡ length self.old.kept }
+        ensures folded { result.1 ≡ folded self.old }
+        ensures few { (result.0 ≤ 65536) × (result.1 ≤ 2 ^ 62) }
+        ensures made { count_of share.old ≤ result.0 + result.1 }
+        ensures unchanged { (self.new ≡ self.old) × (share.new ≡ share.old) }
+    {
+        let Recorded { journal, book } = self;
+        book.audit(&mut share.part);
+        (journal.kept(), journal.folded())
+    }
+
     /// A law: the base, the kept calls, the live device and the line agree, and to each function the kept calls are as if it
     /// were alone. The call does nothing.
     pub fn agrees(&self)

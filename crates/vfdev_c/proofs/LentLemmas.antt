@@ -1,21 +1,28 @@
 -- Blocks that are lent, and the device over them.
 use Rattle.std.proofs.Common.{rules, arith, ◌≡◌, ◌≤◌, ℕ, suc, Bool, true, false, true≢false, nat_le, List, [], ◌∷◌, ◌++◌, length, map, drop, refl, sym, ap, subst, ◌∙◌}
-use Rattle.std.specs.Prelude.{if◌then◌else◌}
+use Rattle.std.specs.Prelude.{Some, Ok, if◌then◌else◌}
 use Rattle.std.proofs.lemmas.List.{take_all}
 use Rattle.live_memory.specs.Trace.{Access}
 use Rattle.mapped_memory.specs.Regions.{Regions}
 use Rattle.device.specs.Events.{Event}
+use Rattle.device.specs.declared.event.Answer.{Answer}
+use Rattle.device.specs.declared.response.Response.{Response}
+use Rattle.device.specs.declared.span.Span.{Span as Stretch}
 use Rattle.device.specs.declared.event.Event.TheVariants.{Open, End, VfRead, VfWrite, MemRead, MemWrite, Serve, Flr, PfRead, PfWrite, PfReset, Wire}
 use Rattle.device.specs.declared.event.Reply.TheVariants.{Done, Value, Bytes, Idle, More, Sent, Dropped, Faulted, Refused}
 use Rattle.device.specs.Accesses.{accesses_by, accesses_but_read}
-use Rattle.device.specs.Live.{TracedWorld, trace_of, AreListed, AreMet}
-use Rattle.device.specs.Outcome.{Outcome, HasCount, HoldsIn, bytes_told, reply_in}
+use Rattle.device.specs.Live.{TracedWorld, trace_of, AreListed, AreMet, TakesLive}
+use Rattle.device.specs.Outcome.{Outcome, HasCount, answer_in, reply_by, HoldsIn, bytes_told, reply_in}
 use Rattle.device.specs.World.{World, Stepped, step}
 use Rattle.device.proofs.LiveLemmas.{length_told, told_world_none, untouched, none_listed}
 use Rattle.device.proofs.Written.{write_reads_none, still}
 use Rattle.vfdev_c.specs.declared.lending.Span.{Span}
 use Rattle.vfdev_c.specs.Spans.{span, lent, one_more, block_of, blocks_of, IsBlock, AreBlocks, no_access}
-use Rattle.vfdev_c.specs.Handle.{IsolatedStep, TakesLent, bytes_shown, is_mem_read, shown}
+use Rattle.vfdev_c.specs.declared.handle_state.HandleState.TheVariants.{Lent}
+use Rattle.vfdev_c.specs.Handle.{Gives, IsolatedStep, Shows, bytes_shown, is_mem_read, shown}
+use Rattle.vfdev_c.specs.Recorded.{kept_as}
+use Rattle.vfdev_c.proofs.HandleLemmas.{shows_of}
+use Rattle.vfdev_c.proofs.RecordedLemmas.{step_alike, listed_alike}
 use Rattle.vfdev_c.specs.LentWorld.{met_by, AreOnce, AreAllListed}
 use Rattle.vfdev_c.specs.declared.reply.VfdevReply.{VfdevReply}
 
@@ -64,58 +71,83 @@ isolated_met : (old new : TracedWorld) (e : Event) → new.world ≡ (step (met_
 isolated_met old new e is law =
     subst (λ v. IsolatedStep (met_by old new).world e v) (sym is) (law (met_by old new).world e (length_told old.accesses new.accesses old.world.functions))
 
--- an event, whose accesses are listed
-pub takes_met : (old new : TracedWorld) (e : Event) (reply : VfdevReply) (raised : List ℕ) → new.world ≡ (step (met_by old new).world e).world
-    → reply ≡ shown (step (met_by old new).world e).answer.reply → raised ≡ (step (met_by old new).world e).answer.raised → AreOnce old new → AreAllListed old e new
-    → Isolates old.world → TakesLent old e new reply raised
-takes_met old new e reply raised world replied raises once listed law = record {
-  taken = ap (λ (v : World). record { world = v; accesses = new.accesses }) world;
-  replied = replied;
-  raises = raises;
-  isolated = isolated_met old new e world law;
-  once = once;
-  listed = listed;
-}
+-- an event, whose accesses are listed, does what the one that it stands for does
+pub lent_gives : (seen old new : TracedWorld) (d e : Event) (a : Answer) (reply : VfdevReply) (raised : List ℕ) → seen ≡ old → Shows a reply raised
+    → a ≡ (step (met_by seen new).world d).answer → new.world ≡ (step (met_by seen new).world d).world → d ≡ kept_as e → AreOnce seen new → AreAllListed seen d new
+    → Isolates seen.world → Gives (Some (Lent old)) (Ok e) (Some (Lent new)) reply raised
+lent_gives seen old new d e a reply raised is shows answers world alike once listed law =
+    let met = met_by seen new in
+    let same : step met.world d ≡ step met.world e = ap (step met.world) alike ∙ step_alike met.world e in
+    let there : new.world ≡ (step met.world e).world = world ∙ ap (λ (s : Stepped). s.world) same in
+    subst (λ old. Gives (Some (Lent old)) (Ok e) (Some (Lent new)) reply raised) is record {
+      called = record {
+        held = ap (λ (v : World). Some (Lent (record { world = v; accesses = new.accesses }))) there;
+        replied = shows.replied ∙ ap (λ (a : Answer). shown a.reply) answers ∙ ap (λ (s : Stepped). shown s.answer.reply) same;
+        isolated = isolated_met seen new e there law;
+        once = once;
+        listed = subst (λ own. AreListed own seen.accesses new.accesses) (ap (accesses_by met.world) alike ∙ listed_alike met.world e) listed;
+      };
+      raises = shows.raises ∙ ap (λ (a : Answer). a.raised) answers ∙ ap (λ (s : Stepped). s.answer.raised) same;
+    }
+
+-- the same, where a response tells of it
+pub live_gives : (seen old new : TracedWorld) (d e : Event) (taken : Response) (reply : VfdevReply) → seen ≡ old → d ≡ kept_as e
+    → ((bytes : Stretch → List ℕ) → reply ≡ shown (reply_by bytes taken.outcome)) → TakesLive true seen.accesses new.accesses seen.world d new.world taken
+    → AreAllListed seen d new → Isolates seen.world → Gives (Some (Lent old)) (Ok e) (Some (Lent new)) reply taken.messages
+live_gives seen old new d e taken reply is alike told takes listed law =
+    lent_gives seen old new d e (answer_in new.world taken) reply taken.messages is (shows_of new.world taken reply told) takes.takes.answer takes.takes.world alike takes.met listed law
+
+-- an event but a read accesses the memories where its bytes are looked at elsewhere, and is kept as it is
+pub unread_by : (w : World) (e : Event) → is_mem_read e ≡ false → (accesses_but_read w e ≡ accesses_by w e) × (e ≡ kept_as e)
+unread_by w (Open p) not = (refl, refl)
+unread_by w (End p) not = (refl, refl)
+unread_by w (VfRead p offset) not = (refl, refl)
+unread_by w (VfWrite p offset x) not = (refl, refl)
+unread_by w (MemRead p at count) not = absurd (true≢false not)
+unread_by w (MemWrite p at bytes) not = (refl, refl)
+unread_by w (Serve p q) not = (refl, refl)
+unread_by w (Flr p) not = (refl, refl)
+unread_by w (PfRead offset) not = (refl, refl)
+unread_by w (PfWrite offset x) not = (refl, refl)
+unread_by w PfReset not = (refl, refl)
+unread_by w (Wire frame) not = (refl, refl)
+
+-- the same, of such an event
+pub unread_gives : (seen old new : TracedWorld) (e : Event) (taken : Response) (reply : VfdevReply) → seen ≡ old → is_mem_read e ≡ false
+    → ((bytes : Stretch → List ℕ) → reply ≡ shown (reply_by bytes taken.outcome)) → TakesLive true seen.accesses new.accesses seen.world e new.world taken
+    → AreListed (accesses_but_read (met_by seen new).world e) seen.accesses new.accesses → Isolates seen.world → Gives (Some (Lent old)) (Ok e) (Some (Lent new)) reply taken.messages
+unread_gives seen old new e taken reply is not told takes listed law =
+    let same = unread_by (met_by seen new).world e not in
+    live_gives seen old new e e taken reply is same.1 told takes (subst (λ own. AreListed own seen.accesses new.accesses) same.0 listed) law
 
 -- an event that meets the world that was there
-pub takes_there : (old new : TracedWorld) (e : Event) (reply : VfdevReply) (raised : List ℕ) → (met_by old new).world ≡ old.world → new.world ≡ (step old.world e).world
-    → reply ≡ shown (step old.world e).answer.reply → raised ≡ (step old.world e).answer.raised → AreOnce old new → AreListed (accesses_by old.world e) old.accesses new.accesses
-    → Isolates old.world → TakesLent old e new reply raised
-takes_there old new e reply raised there world replied raises once listed law =
-    let stepped : step old.world e ≡ step (met_by old new).world e = ap (λ (v : World). step v e) (sym there) in
-    takes_met old new e reply raised (world ∙ ap (λ (s : Stepped). s.world) stepped) (replied ∙ ap (λ (s : Stepped). shown s.answer.reply) stepped)
-    (raises ∙ ap (λ (s : Stepped). s.answer.raised) stepped) once (subst (λ (v : World). AreListed (accesses_by v e) old.accesses new.accesses) (sym there) listed) law
+gives_there : (seen old new : TracedWorld) (e : Event) (a : Answer) (reply : VfdevReply) (raised : List ℕ) → seen ≡ old → e ≡ kept_as e → (met_by seen new).world ≡ seen.world
+    → Shows a reply raised → a ≡ (step seen.world e).answer → new.world ≡ (step seen.world e).world → AreOnce seen new → AreListed (accesses_by seen.world e) seen.accesses new.accesses
+    → Isolates seen.world → Gives (Some (Lent old)) (Ok e) (Some (Lent new)) reply raised
+gives_there seen old new e a reply raised is alike there shows answers world once listed law =
+    let stepped : step seen.world e ≡ step (met_by seen new).world e = ap (λ (v : World). step v e) (sym there) in
+    lent_gives seen old new e e a reply raised is shows (answers ∙ ap (λ (s : Stepped). s.answer) stepped) (world ∙ ap (λ (s : Stepped). s.world) stepped) alike once
+    (subst (λ (v : World). AreListed (accesses_by v e) seen.accesses new.accesses) (sym there) listed) law
 
 -- an event that accesses no memory
-pub takes_quietly : (old new : TracedWorld) (e : Event) (reply : VfdevReply) (raised : List ℕ) → new.accesses ≡ old.accesses → ((p : ℕ) → accesses_by old.world e p ≡ [])
-    → new.world ≡ (step old.world e).world → reply ≡ shown (step old.world e).answer.reply → raised ≡ (step old.world e).answer.raised → Isolates old.world → TakesLent old e new reply raised
-takes_quietly old new e reply raised same none world replied raises law =
-    takes_there old new e reply raised
-    (told_world_none old.accesses new.accesses old.world (λ r. ap (λ (t : List (List Access)). trace_of t r) same)) world replied raises
-    (subst (λ (t : List (List Access)). AreMet true old.accesses t old.world) (sym same) (untouched true old.accesses old.world))
-    (none_listed old.accesses new.accesses (accesses_by old.world e) same none) law
+pub quiet_gives : (seen old new : TracedWorld) (d e : Event) (a : Answer) (reply : VfdevReply) (raised : List ℕ) → seen ≡ old → d ≡ e → d ≡ kept_as d
+    → ((p : ℕ) → accesses_by seen.world d p ≡ []) → Shows a reply raised → a ≡ (step seen.world d).answer → new.world ≡ (step seen.world d).world
+    → new.accesses ≡ seen.accesses → Isolates seen.world → Gives (Some (Lent old)) (Ok e) (Some (Lent new)) reply raised
+quiet_gives seen old new d e a reply raised is one alike none shows answers world same law =
+    subst (λ e. Gives (Some (Lent old)) (Ok e) (Some (Lent new)) reply raised) one (gives_there seen old new d a reply raised is alike
+    (told_world_none seen.accesses new.accesses seen.world (λ r. ap (λ (t : List (List Access)). trace_of t r) same)) shows answers world
+    (subst (λ (t : List (List Access)). AreMet true seen.accesses t seen.world) (sym same) (untouched true seen.accesses seen.world))
+    (none_listed seen.accesses new.accesses (accesses_by seen.world d) same none) law)
 
 -- a write of a guest's memory
-pub takes_write : (old new : TracedWorld) (p at : ℕ) (bytes : List ℕ) (reply : VfdevReply) (raised : List ℕ) → new.world ≡ (step old.world (MemWrite p at bytes)).world
-    → reply ≡ shown (step old.world (MemWrite p at bytes)).answer.reply → raised ≡ (step old.world (MemWrite p at bytes)).answer.raised → AreOnce old new
-    → AreListed (accesses_by old.world (MemWrite p at bytes)) old.accesses new.accesses → Isolates old.world → TakesLent old (MemWrite p at bytes) new reply raised
-takes_write old new p at bytes reply raised world replied raises once listed law =
-    takes_there old new (MemWrite p at bytes) reply raised (still old.accesses new.accesses old.world (MemWrite p at bytes) (write_reads_none old.world p at bytes) listed) world replied raises once listed law
-
--- but for a read, an event accesses the memories where its bytes are looked at elsewhere
-pub unread_by : (w : World) (e : Event) → is_mem_read e ≡ false → accesses_but_read w e ≡ accesses_by w e
-unread_by w (Open p) not = refl
-unread_by w (End p) not = refl
-unread_by w (VfRead p offset) not = refl
-unread_by w (VfWrite p offset x) not = refl
-unread_by w (MemRead p at count) not = absurd (true≢false not)
-unread_by w (MemWrite p at bytes) not = refl
-unread_by w (Serve p q) not = refl
-unread_by w (Flr p) not = refl
-unread_by w (PfRead offset) not = refl
-unread_by w (PfWrite offset x) not = refl
-unread_by w PfReset not = refl
-unread_by w (Wire frame) not = refl
+pub write_gives : (seen old new : TracedWorld) (p at : ℕ) (bytes : List ℕ) (e : Event) (a : Answer) (reply : VfdevReply) (raised : List ℕ) → seen ≡ old
+    → MemWrite p at bytes ≡ e → Shows a reply raised
+    → a ≡ (step seen.world (MemWrite p at bytes)).answer → new.world ≡ (step seen.world (MemWrite p at bytes)).world → AreOnce seen new
+    → AreListed (accesses_by seen.world (MemWrite p at bytes)) seen.accesses new.accesses → Isolates seen.world
+    → Gives (Some (Lent old)) (Ok e) (Some (Lent new)) reply raised
+write_gives seen old new p at bytes e a reply raised is same shows answers world once listed law =
+    subst (λ e. Gives (Some (Lent old)) (Ok e) (Some (Lent new)) reply raised) same (gives_there seen old new (MemWrite p at bytes) a reply raised is refl
+    (still seen.accesses new.accesses seen.world (MemWrite p at bytes) (write_reads_none seen.world p at bytes) listed) shows answers world once listed law)
 
 -- ---- bytes that were read
 

@@ -1,19 +1,29 @@
 -- One more kept call, and reads of more bytes than an entry names.
-use Rattle.std.proofs.Common.{◌≡◌, ℕ, Bool, true, false, true≢false, ◌≢◌, nat_le, nat_lt, [], ◌∷◌, ◌++◌, length, refl, sym, ap, ◌∙◌, arith}
-use Rattle.std.specs.Prelude.{IsTrue, nat_eq, if◌then◌else◌}
+use Rattle.std.proofs.Common.{◌≡◌, ℕ, Bool, true, false, true≢false, ◌≢◌, nat_le, nat_lt, List, [], ◌∷◌, ◌++◌, length, refl, sym, ap, subst, ◌∙◌, arith}
+use Rattle.std.specs.Prelude.{Some, Ok, IsTrue, nat_eq, if◌then◌else◌}
 use mathlib.Core.Logic.{◌↔◌}
 use Rattle.std.proofs.lemmas.Bool.Decides.{nat_tests}
 use Rattle.wire_frame.specs.declared.fault.Fault.TheVariants.{NoSuchVf}
 use Rattle.vf_unit.specs.Unit.{Function, is_open}
 use Rattle.device.specs.Events.{Event}
+use Rattle.device.specs.declared.event.Answer.{Answer}
+use Rattle.device.specs.declared.response.Response.{Response}
+use Rattle.device.specs.declared.span.Span.{Span}
+use Rattle.device.specs.Outcome.{answer_in, reply_by}
+use Rattle.device.specs.Takes.{Takes}
 use Rattle.device.specs.declared.event.Event.TheVariants.{Open, End, VfRead, VfWrite, MemRead, MemWrite, Serve, Flr, PfRead, PfWrite, PfReset, Wire}
 use Rattle.device.specs.Accesses.{accesses_by}
 use Rattle.device.specs.Act.{act, refusal}
 use Rattle.device.specs.World.{World, Stepped, step, function_of, acted, refused}
 use Rattle.history.specs.declared.caller.Caller.TheVariants.{Driver}
 use Rattle.history.specs.Entries.{entry}
-use Rattle.history.specs.Recording.{Logged, keeping}
-use Rattle.vfdev_c.specs.Recorded.{recorded, recorded_of, is_full, kept_as, taking}
+use Rattle.history.specs.Recording.{Logged, keeping as keep_call}
+use Rattle.irq_causes.specs.Messages.{no_messages}
+use Rattle.vfdev_c.proofs.HandleLemmas.{isolated_at, shows_of}
+use Rattle.vfdev_c.specs.declared.handle_state.HandleState.TheVariants.{Kept}
+use Rattle.vfdev_c.specs.declared.reply.VfdevReply.{VfdevReply}
+use Rattle.vfdev_c.specs.Handle.{Gives, IsolatedStep, Shows, history_full, raised_on, shown}
+use Rattle.vfdev_c.specs.Recorded.{Recorded, recorded, recorded_of, is_full, keeping, kept_as}
 
 -- ---- reads of more bytes than an entry names
 
@@ -68,13 +78,53 @@ listed_alike w (Wire frame) = refl
 
 -- ---- what is kept
 
--- there is room for one more where the history says so
-pub has_room : (full : Bool) (n m : ℕ) → IsTrue full ↔ (n ≡ m) → full ≡ false → nat_eq n m ≡ false
-has_room true n m is off = absurd (true≢false off)
-has_room false n m is off = let other : n ≢ m = λ same. true≢false (sym (is.1 same)) in grind (arith, nat_tests)
+-- ---- what a call gives
 
--- what is kept of a call by that event
-pub kept_on : (old new : Logged) (e : Event) → is_full (recorded_of old) ≡ false → new ≡ keeping old Driver (kept_as e)
-    → recorded_of new ≡ taking (recorded_of old) e
-kept_on old new e room more =
-    rw room (ap recorded_of more ∙ ap (λ (s : Stepped). recorded s.world (old.kept ++ entry Driver (kept_as e) s.answer ∷ []) old.cap) (step_alike old.live e))
+-- where no more calls can be kept
+pub full_gives : (r new : Recorded) (e : Event) (reply : VfdevReply) (raised : List ℕ) → is_full r ≡ true → new ≡ r → reply ≡ history_full → raised ≡ no_messages
+    → Gives (Some (Kept r)) (Ok e) (Some (Kept new)) reply raised
+full_gives r new e reply raised full same replied raises = record {
+  called = record {
+    held = rw full (ap (λ r. Some (Kept r)) same);
+    replied = rw full replied;
+    isolated = λ not. absurd (true≢false (sym full ∙ not));
+    once = tt;
+    listed = tt;
+  };
+  raises = rw (full, raised_on) raises;
+}
+
+-- where one more can: the device takes the event that the call is kept as, and does the same
+pub kept_gives : (old new : Logged) (w : World) (r : Recorded) (d e : Event) (a : Answer) (reply : VfdevReply) (raised : List ℕ) → recorded_of old ≡ r → is_full r ≡ false
+    → new ≡ keep_call old Driver d → d ≡ kept_as e → Shows a reply raised → a ≡ (step old.live d).answer → w ≡ old.live
+    → ((e : Event) → IsolatedStep w e (step w e).world) → Gives (Some (Kept r)) (Ok e) (Some (Kept (recorded_of new))) reply raised
+kept_gives old new w r d e a reply raised seen room kept alike shows answers there law =
+    let same : step old.live d ≡ step old.live e = ap (step old.live) alike ∙ step_alike old.live e in
+    let more : recorded_of new ≡ keeping (recorded_of old) e =
+    ap recorded_of kept ∙ (λ i. recorded (same i).world (old.kept ++ entry Driver (alike i) (same i).answer ∷ []) old.cap) in
+    let law : (e : Event) → IsolatedStep old.live e (step old.live e).world = subst (λ v. (e : Event) → IsolatedStep v e (step v e).world) there law in
+    subst (λ r. Gives (Some (Kept r)) (Ok e) (Some (Kept (recorded_of new))) reply raised) seen
+    (known (recorded_of old) (recorded_of new) e reply raised (ap is_full seen ∙ room) more
+    (shows.replied ∙ ap (λ (a : Answer). shown a.reply) answers ∙ ap (λ (s : Stepped). shown s.answer.reply) same)
+    (shows.raises ∙ ap (λ (a : Answer). a.raised) answers ∙ ap (λ (s : Stepped). s.answer.raised) same) law)
+  where
+    known : (r new : Recorded) (e : Event) (reply : VfdevReply) (raised : List ℕ) → is_full r ≡ false → new ≡ keeping r e
+        → reply ≡ shown (step r.live e).answer.reply → raised ≡ (step r.live e).answer.raised
+        → ((e : Event) → IsolatedStep r.live e (step r.live e).world) → Gives (Some (Kept r)) (Ok e) (Some (Kept new)) reply raised
+    known r new e reply raised room more replied raises law = record {
+      called = record {
+        held = rw room (ap (λ r. Some (Kept r)) more);
+        replied = rw room replied;
+        isolated = λ _. isolated_at r.live new.live e (ap (λ (r : Recorded). r.live) more) law;
+        once = tt;
+        listed = tt;
+      };
+      raises = rw (room, raised_on) raises;
+    }
+
+-- the same, where a response tells of it
+pub kept_takes : (old new : Logged) (w : World) (r : Recorded) (d e : Event) (taken : Response) (reply : VfdevReply) → recorded_of old ≡ r → is_full r ≡ false
+    → d ≡ kept_as e → ((bytes : Span → List ℕ) → reply ≡ shown (reply_by bytes taken.outcome)) → Takes old.live d new.live taken → new ≡ keep_call old Driver d
+    → w ≡ old.live → ((e : Event) → IsolatedStep w e (step w e).world) → Gives (Some (Kept r)) (Ok e) (Some (Kept (recorded_of new))) reply taken.messages
+kept_takes old new w r d e taken reply seen room alike told takes kept there law =
+    kept_gives old new w r d e (answer_in new.live taken) reply taken.messages seen room kept alike (shows_of new.live taken reply told) takes.answer there law

@@ -9,6 +9,7 @@ use Rattle.irq_causes.specs.Messages.{no_messages}
 use Rattle.vf_unit.specs.declared.registers.Queue.{Queue}
 use Rattle.vf_unit.specs.declared.registers.Queue.TheVariants.{Q0, Q1}
 use Rattle.device.specs.Events.{Event}
+use Rattle.device.specs.declared.event.Answer.{Answer}
 use Rattle.device.specs.declared.event.Event.TheVariants.{VfWrite, MemRead, MemWrite, Serve, Wire}
 use Rattle.device.specs.Replies.{Reply}
 use Rattle.device.specs.declared.event.Reply.TheVariants.{Done, Value, Bytes, Idle, More, Sent, Dropped, Faulted, Refused}
@@ -22,7 +23,7 @@ use Rattle.vfdev_c.specs.declared.reply.VfdevReply.{VfdevReply}
 use Rattle.vfdev_c.specs.declared.handle_state.HandleState.{HandleState}
 use Rattle.vfdev_c.specs.declared.handle_state.HandleState.TheVariants.{Lending, Made, Kept, Lent, Card}
 use Rattle.vfdev_c.specs.LentWorld.{untouched, met_by, taken_by, AreOnce, AreAllListed}
-use Rattle.vfdev_c.specs.Recorded.{is_full, taking}
+use Rattle.vfdev_c.specs.Recorded.{is_full, keeping}
 use Rattle.vfdev_c.specs.Spans.{Lent as Blocks, none_lent, no_access, span, overlaps_one}
 
 -- what a handle leads to: nothing, blocks that were lent for a device, a device over memories of its own, one whose calls are kept, a
@@ -46,6 +47,11 @@ shown Sent = numbered 5 0
 shown Dropped = numbered 6 0
 shown Faulted = numbered 7 0
 shown (Refused number) = numbered 8 number
+
+-- a reply and messages, as C sees them, are those of a device's answer
+pub record Shows (answer : Answer) (reply : VfdevReply) (raised : List ℕ) : Type 0 where
+  pub replied : reply ≡ shown answer.reply
+  pub raises : raised ≡ answer.raised
 
 -- the replies of a call that asked no device
 abbrev pub no_device : VfdevReply
@@ -102,40 +108,47 @@ abbrev pub met : Held → Requested → Held → Held
 met (Some (Lent old)) (Ok e) (Some (Lent new)) = Some (Lent (met_by old new))
 met held asked new = held
 
--- what the handle leads to after it: an event is given to the device, where there is one, and the call is kept
--- where calls are
-abbrev pub after : Held → Requested → Held
-after (Some (Made w)) (Ok e) = Some (Made (step w e).world)
-after (Some (Kept r)) (Ok e) = Some (Kept (taking r e))
-after (Some (Lent l)) (Ok e) = Some (Lent (taken_by l e))
-after held asked = held
+-- what a call leaves and answers: what the handle leads to, the reply, the messages that it issued for each pool, the frame that left
+-- for the wire, and what then stands where bytes were asked for, by what stood there
+pub record Given : Type 0 where
+  pub held : Held
+  pub reply : VfdevReply
+  pub raised : List ℕ
+  pub left : Option (List ℕ)
+  pub bytes : List ℕ → List ℕ
 
-abbrev pub reply_to : Held → Requested → VfdevReply
-reply_to held (Err reply) = reply
-reply_to (Some (Made w)) (Ok e) = shown (step w e).answer.reply
-reply_to (Some (Kept r)) (Ok e) = if is_full r then history_full else shown (step r.live e).answer.reply
-reply_to (Some (Lent l)) (Ok e) = shown (step l.world e).answer.reply
-reply_to held (Ok e) = no_device
+-- no device is asked
+abbrev pub unasked : Held → VfdevReply → Given
+unasked held reply = record { held = held; reply = reply; raised = no_messages; left = None; bytes = λ out. out }
 
--- the messages that it issued, for each pool
-abbrev pub raised_by : Held → Requested → List ℕ
-raised_by (Some (Made w)) (Ok e) = (step w e).answer.raised
-raised_by (Some (Kept r)) (Ok e) = if is_full r then no_messages else (step r.live e).answer.raised
-raised_by (Some (Lent l)) (Ok e) = (step l.world e).answer.raised
-raised_by held asked = no_messages
+-- the bytes that were read, where they were, and else what was there
+abbrev pub bytes_shown : Reply → List ℕ → List ℕ
+bytes_shown (Bytes bytes) out = bytes
+bytes_shown reply out = out
+
+-- a device in that world takes the event, and the handle leads to that after it
+abbrev pub taken : Held → World → Event → Given
+taken held w e = record {
+  held = held;
+  reply = shown (step w e).answer.reply;
+  raised = (step w e).answer.raised;
+  left = left_by w e;
+  bytes = bytes_shown (step w e).answer.reply;
+}
+
+-- an event is given to the device, where there is one, and the call is kept where calls are, while there is room for one more
+abbrev pub given_by : Held → Requested → Given
+given_by held (Err reply) = unasked held reply
+given_by (Some (Made w)) (Ok e) = taken (Some (Made (step w e).world)) w e
+given_by (Some (Kept r)) (Ok e) = if is_full r then unasked (Some (Kept r)) history_full else taken (Some (Kept (keeping r e))) r.live e
+given_by (Some (Lent l)) (Ok e) = taken (Some (Lent (taken_by l e))) l.world e
+given_by held (Ok e) = unasked held no_device
 
 -- the messages stand in the first 64 bytes, where there is room; no other byte changes
 abbrev pub messages_in : List ℕ → List ℕ → List ℕ
 messages_in raised old = if has_room old then raised ++ drop 64 old else old
 
--- the frame that left for the wire
-abbrev pub left_of : Held → Requested → Option (List ℕ)
-left_of (Some (Made w)) (Ok e) = left_by w e
-left_of (Some (Kept r)) (Ok e) = if is_full r then None else left_by r.live e
-left_of (Some (Lent l)) (Ok e) = left_by l.world e
-left_of held asked = None
-
--- it stands in the first bytes, and no other byte changes
+-- a frame that left stands in the first bytes, and no other byte changes
 abbrev pub frame_in : Option (List ℕ) → List ℕ → List ℕ
 frame_in (Some frame) out = frame ++ drop (length frame) out
 frame_in None out = out
@@ -143,17 +156,6 @@ frame_in None out = out
 abbrev pub length_in : Option (List ℕ) → ℕ
 length_in (Some frame) = length frame
 length_in None = 0
-
--- the bytes that were read, where they were, and else what was there
-abbrev pub bytes_shown : Reply → List ℕ → List ℕ
-bytes_shown (Bytes bytes) out = bytes
-bytes_shown reply out = out
-
-abbrev pub bytes_in : Held → Event → List ℕ → List ℕ
-bytes_in (Some (Made w)) e out = bytes_shown (step w e).answer.reply out
-bytes_in (Some (Kept r)) e out = if is_full r then out else bytes_shown (step r.live e).answer.reply out
-bytes_in (Some (Lent l)) e out = bytes_shown (step l.world e).answer.reply out
-bytes_in held e out = out
 
 -- it issues no messages, whatever the device is
 abbrev pub is_silent : Event → Bool
@@ -175,16 +177,6 @@ IsolatedStep w e new = (p : ℕ) → p < length w.functions →
     (seen_by p (e ∷ []) ((step w e).answer ∷ []) ≡ lone_seen (lone_of p w) (keep p w (e ∷ [])))
     × (lone_of p new ≡ lone_after (lone_of p w) (keep p w (e ∷ [])))
 
--- a device over lent blocks took an event: what it is left as, what is replied and raised, of what it met, and what it read and
--- wrote of the guests' memories
-pub record TakesLent (old : TracedWorld) (e : Event) (new : TracedWorld) (reply : VfdevReply) (raised : List ℕ) : Type 0 where
-  pub taken : new ≡ taken_by (met_by old new) e
-  pub replied : reply ≡ shown (step (met_by old new).world e).answer.reply
-  pub raises : raised ≡ (step (met_by old new).world e).answer.raised
-  pub isolated : IsolatedStep (met_by old new).world e new.world
-  pub once : AreOnce old new
-  pub listed : AreAllListed old e new
-
 abbrev pub Isolated : Held → Requested → Held → Type 0
 Isolated (Some (Made w)) (Ok e) (Some (Made new)) = IsolatedStep w e new
 Isolated (Some (Kept r)) (Ok e) (Some (Kept new)) = is_full r ≡ false → IsolatedStep r.live e new.live
@@ -204,26 +196,35 @@ AccessesListed old asked new = Unit
 
 -- ---- a call
 
+-- what a call gives, of what it met
+abbrev pub given_on : Held → Requested → Held → Given
+given_on old asked new = given_by (met old asked new) asked
+
 -- what a handle leads to after a call, and what is replied, of what the call met; to each function the call is as if it were alone;
 -- and what the call read and wrote of memories that guests write too
 pub record Calls (old : Held) (asked : Requested) (new : Held) (reply : VfdevReply) : Type 0 where
-  pub held : new ≡ after (met old asked new) asked
-  pub replied : reply ≡ reply_to (met old asked new) asked
+  pub held : new ≡ (given_on old asked new).held
+  pub replied : reply ≡ (given_on old asked new).reply
   pub isolated : Isolated (met old asked new) asked new
   pub once : ReadsOnce old asked new
   pub listed : AccessesListed old asked new
 
 -- the messages of a call
 abbrev pub raised_on : Held → Requested → Held → List ℕ
-raised_on old asked new = raised_by (met old asked new) asked
+raised_on old asked new = (given_on old asked new).raised
+
+-- a call with its messages
+pub record Gives (old : Held) (asked : Requested) (new : Held) (reply : VfdevReply) (raised : List ℕ) : Type 0 where
+  pub called : Calls old asked new reply
+  pub raises : raised ≡ raised_on old asked new
 
 -- the frame that left in a call
 abbrev pub left_on : Held → Requested → Held → Option (List ℕ)
-left_on old asked new = left_of (met old asked new) asked
+left_on old asked new = (given_on old asked new).left
 
 -- the bytes that were read in a call, and else what was there
 abbrev pub bytes_on : Held → Event → Held → List ℕ → List ℕ
-bytes_on old e new out = bytes_in (met old (Ok e) new) e out
+bytes_on old e new = (given_on old (Ok e) new).bytes
 
 -- ---- makers
 

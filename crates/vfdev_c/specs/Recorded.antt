@@ -34,7 +34,3 @@ kept_as e = e
 abbrev pub keeping : Recorded → Event → Recorded
 keeping r e =
     recorded (step r.live e).world (r.calls ++ entry Driver (kept_as e) (step r.live e).answer ∷ []) r.cap
-
--- where one more call can be kept; else the device is not asked
-abbrev pub taking : Recorded → Event → Recorded
-taking r e = if is_full r then r else keeping r e

@@ -3,8 +3,10 @@ ghost use Rattle.std.specs.Prelude.{◌≡◌, length, Ok};
 ghost use Rattle.device.specs.declared.event.Event.{Event};
 ghost use Rattle.vfdev_c.specs.Handle.{Calls, raised_on, messages_in, bytes_on, where_room, wire_asked, write_asked};
 
+use crate::device_kind::DeviceKind;
 use crate::handle::Vfdev;
 use crate::handle_state::MOST_FRAME;
+use crate::on_device::on_device;
 use crate::reply::VfdevReply;
 use device::{MemSlice, Request};
 use irq_causes::Messages;
@@ -19,7 +21,7 @@ pub const POOLS: usize = 64;
 pub extern "C" fn vfdev_open(alloc: Global, handle: &mut Vfdev, function: u8) -> VfdevReply
     ensures { Calls handle.old.owner.held (Ok (Event.Open function)) handle.new.owner.held result }
 {
-    handle.give(alloc, Request::Open(function)).0
+    on_device!(handle, alloc, device => device.take(Request::Open(function))).0
 }
 
 /// Closes a virtual function.
@@ -27,7 +29,7 @@ pub extern "C" fn vfdev_open(alloc: Global, handle: &mut Vfdev, function: u8) ->
 pub extern "C" fn vfdev_end(alloc: Global, handle: &mut Vfdev, function: u8) -> VfdevReply
     ensures { Calls handle.old.owner.held (Ok (Event.End function)) handle.new.owner.held result }
 {
-    handle.give(alloc, Request::End(function)).0
+    on_device!(handle, alloc, device => device.take(Request::End(function))).0
 }
 
 /// Resets a virtual function (SR-IOV 1.1, function-level reset).
@@ -35,7 +37,7 @@ pub extern "C" fn vfdev_end(alloc: Global, handle: &mut Vfdev, function: u8) -> 
 pub extern "C" fn vfdev_flr(alloc: Global, handle: &mut Vfdev, function: u8) -> VfdevReply
     ensures { Calls handle.old.owner.held (Ok (Event.Flr function)) handle.new.owner.held result }
 {
-    handle.give(alloc, Request::Flr(function)).0
+    on_device!(handle, alloc, device => device.take(Request::Flr(function))).0
 }
 
 /// Reads the register of a virtual function at an offset in bytes.
@@ -48,7 +50,7 @@ pub extern "C" fn vfdev_vf_read(
 ) -> VfdevReply
     ensures { Calls handle.old.owner.held (Ok (Event.VfRead function offset)) handle.new.owner.held result }
 {
-    handle.give(alloc, Request::VfRead(function, offset)).0
+    on_device!(handle, alloc, device => device.take(Request::VfRead(function, offset))).0
 }
 
 /// Writes the register of a virtual function at an offset in bytes. The messages that this issues stand in the first 64
@@ -69,7 +71,8 @@ pub extern "C" fn vfdev_vf_write(
     if messages.len() < POOLS {
         return VfdevReply::no_room();
     }
-    let (reply, raised) = handle.give(alloc, Request::VfWrite(function, offset, value));
+    let (reply, raised) =
+        on_device!(handle, alloc, device => device.take(Request::VfWrite(function, offset, value)));
     put_messages(raised, messages);
     reply
 }
@@ -86,7 +89,7 @@ pub extern "C" fn vfdev_mem_read(
     ensures called { Calls handle.old.owner.held (Ok (Event.MemRead function at (length out.old))) handle.new.owner.held result }
     ensures bytes { out.new ≡ bytes_on handle.old.owner.held (Event.MemRead function at (length out.old)) handle.new.owner.held out.old }
 {
-    handle.mem_read(alloc, function, at, out)
+    on_device!(handle, alloc, device => device.mem_read(function, at, out)).0
 }
 
 /// Writes bytes of a guest's memory from an address on. More than 2048 are refused as too long before the device is asked.
@@ -101,9 +104,9 @@ pub extern "C" fn vfdev_mem_write(
     ensures { Calls handle.old.owner.held (write_asked function at bytes.now) handle.new.owner.held result }
 {
     match MemSlice::new(bytes) {
-        Ok(written) => handle
-            .give(alloc, Request::MemWrite(function, at, written))
-            .0,
+        Ok(written) => {
+            on_device!(handle, alloc, device => device.take(Request::MemWrite(function, at, written))).0
+        }
         Err(fault) => VfdevReply::refused(fault),
     }
 }
@@ -113,7 +116,7 @@ pub extern "C" fn vfdev_mem_write(
 pub extern "C" fn vfdev_pf_read(alloc: Global, handle: &mut Vfdev, offset: u32) -> VfdevReply
     ensures { Calls handle.old.owner.held (Ok (Event.PfRead offset)) handle.new.owner.held result }
 {
-    handle.give(alloc, Request::PfRead(offset)).0
+    on_device!(handle, alloc, device => device.take(Request::PfRead(offset))).0
 }
 
 /// Writes the register of the physical function at an offset in bytes.
@@ -126,7 +129,7 @@ pub extern "C" fn vfdev_pf_write(
 ) -> VfdevReply
     ensures { Calls handle.old.owner.held (Ok (Event.PfWrite offset value)) handle.new.owner.held result }
 {
-    handle.give(alloc, Request::PfWrite(offset, value)).0
+    on_device!(handle, alloc, device => device.take(Request::PfWrite(offset, value))).0
 }
 
 /// Resets the device: every virtual function is closed and every setting initial.
@@ -134,7 +137,7 @@ pub extern "C" fn vfdev_pf_write(
 pub extern "C" fn vfdev_pf_reset(alloc: Global, handle: &mut Vfdev) -> VfdevReply
     ensures { Calls handle.old.owner.held (Ok Event.PfReset) handle.new.owner.held result }
 {
-    handle.give(alloc, Request::PfReset).0
+    on_device!(handle, alloc, device => device.take(Request::PfReset)).0
 }
 
 /// A frame comes from the wire. The messages that this issues stand in the first 64 bytes of `messages`. Bytes that are no
@@ -157,7 +160,7 @@ pub extern "C" fn vfdev_wire(
         put_messages(Messages::none(), messages);
         return VfdevReply::refused(Fault::BadFrame);
     }
-    let (reply, raised) = handle.wire(alloc, bytes);
+    let (reply, raised) = on_device!(handle, alloc, device => device.wire(bytes));
     put_messages(raised, messages);
     reply
 }

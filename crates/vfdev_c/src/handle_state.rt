@@ -1,16 +1,15 @@
 //! What a handle leads to.
-ghost use Rattle.std.specs.Prelude.{◌≡◌, ◌≤◌, ◌↔◌, IsTrue, true, length, option_copied};
-ghost use Rattle.irq_causes.specs.Messages.{no_messages};
+ghost use Rattle.std.specs.Prelude.{◌≡◌, ◌≤◌, ◌↔◌, IsTrue, true, length, option_copied, Some, Ok, ℕ, List};
 ghost use Rattle.wire_frame.specs.Frame.{is_frame};
-ghost use Rattle.device.specs.declared.event.Event.TheVariants.{MemRead, Serve, Wire};
 ghost use Rattle.device.specs.Events.{Event};
-ghost use Rattle.device.specs.World.{step, answers, world_after};
+ghost use Rattle.device.specs.World.{step, answers, silently, world_after};
 ghost use Rattle.device.specs.Request.{event_of};
-ghost use Rattle.device.specs.Outcome.{left_by, done_or_refused, value_or_refused, messages_or_refused};
+ghost use Rattle.device.specs.Outcome.{bytes_or_refused, done_or_refused, value_or_refused, messages_or_refused};
 ghost use Rattle.history.specs.Entries.{events, given};
-ghost use Rattle.vfdev_c.specs.Handle.{shown, bytes_shown, frame_in, length_in, IsolatedStep};
+ghost use Rattle.vfdev_c.specs.Handle.{Gives, Shows, frame_in, length_in, IsolatedStep};
 
 use crate::card_held::CardHeld;
+use crate::device_kind::DeviceKind;
 use crate::lending::LentBlocks;
 use crate::lent_device::LentDevice;
 use crate::recorder::Recorder;
@@ -76,15 +75,25 @@ impl Running {
         history.gives_all(&mut self.device)
     }
 
-    /// Gives it the event that a request stands for.
-    #[inline(always)]
-    #[tactic(auto, using(crate::proofs::HandleLemmas::isolated_at))]
-    pub fn take(&mut self, request: Request<'_>) -> (VfdevReply, Messages)
-        ensures world { self.new ≡ (step self.old (event_of request.entry)).world }
-        ensures reply { result.0 ≡ shown (step self.old (event_of request.entry)).answer.reply }
-        ensures messages { result.1 ≡ (step self.old (event_of request.entry)).answer.raised }
-        ensures isolated { IsolatedStep self.old (event_of request.entry) self.new }
+    // Gives it the event that any request stands for.
+    #[tactic(auto, using(crate::proofs::HandleLemmas::made_takes))]
+    fn take_any(&mut self, request: Request<'_>) -> (VfdevReply, Messages)
+        ensures { Gives (Some (HandleState.Made self.old)) (Ok (event_of request.entry)) (Some (HandleState.Made self.new))
+            result.0 result.1 }
     {
+        isolates(&self.device);
+        let taken = self.device.take(request, &mut self.frame);
+        (VfdevReply::of(taken.outcome), taken.messages)
+    }
+}
+
+impl DeviceKind for Running {
+    ghost use Rattle.vfdev_c.specs.declared.handle_state.HandleState.TheVariants.{Made};
+
+    ghost held = { λ w. Some (Made w) };
+
+    #[inline(always)]
+    fn take(&mut self, request: Request<'_>) -> (VfdevReply, Messages) {
         isolates(&self.device);
         // By name: what a request is, is known where this is inlined, and a register is read with no more than the read.
         match request {
@@ -106,71 +115,27 @@ impl Running {
         }
     }
 
-    // The same, of any request.
-    fn take_any(&mut self, request: Request<'_>) -> (VfdevReply, Messages)
-        ensures world { self.new ≡ (step self.old (event_of request.entry)).world }
-        ensures reply { result.0 ≡ shown (step self.old (event_of request.entry)).answer.reply }
-        ensures messages { result.1 ≡ (step self.old (event_of request.entry)).answer.raised }
-    {
-        let taken = self.device.take(request, &mut self.frame);
-        (VfdevReply::of(taken.outcome), taken.messages)
-    }
-
-    /// Gives it a frame from the wire.
     #[inline]
-    #[tactic(auto, using(crate::proofs::HandleLemmas::isolated_at))]
-    pub fn wire(&mut self, bytes: &[u8]) -> (VfdevReply, Messages)
-        requires { is_frame 9018 bytes.now ≡ true }
-        ensures world { self.new ≡ (step self.old (Wire bytes.now)).world }
-        ensures reply { result.0 ≡ shown (step self.old (Wire bytes.now)).answer.reply }
-        ensures messages { result.1 ≡ (step self.old (Wire bytes.now)).answer.raised }
-        ensures isolated { IsolatedStep self.old (Wire bytes.now) self.new }
-    {
+    fn wire(&mut self, bytes: &[u8]) -> (VfdevReply, Messages) {
         isolates(&self.device);
         lay(&mut self.frame, bytes);
         issued(self.device.wire(&self.frame))
     }
 
-    /// Fills `out` with the bytes of a guest's memory from an address on; where it is refused, `out` stays.
     #[inline]
-    #[tactic(auto, using(crate::proofs::HandleLemmas::isolated_at))]
-    pub fn mem_read(&self, function: u8, at: u64, out: &mut [u8]) -> VfdevReply
-        ensures world { self.now
-            ≡ (step self.now (MemRead function at (length out.old))).world }
-        ensures reply { result
-            ≡ shown (step self.now (MemRead function at (length out.old))).answer.reply }
-        ensures bytes { out.new
-            ≡ bytes_shown
-            (step self.now (MemRead function at (length out.old))).answer.reply out.old }
-        ensures isolated { IsolatedStep self.now
-            (MemRead function at (length out.old)) self.now }
-    {
+    fn mem_read(&mut self, function: u8, at: u64, out: &mut [u8]) -> (VfdevReply, Messages) {
         isolates(&self.device);
-        match self.device.mem_read(function, at, out) {
-            Ok(()) => VfdevReply::bytes(),
-            Err(fault) => VfdevReply::refused(fault),
-        }
+        bytes_or_refused(self.device.mem_read(function, at, out))
     }
 
-    /// Takes the next descriptor of a transmit queue. A frame that leaves for the wire is laid into the first bytes of
-    /// `out`, and `left` is its length, and else 0.
     #[inline]
-    #[tactic(auto, using(crate::proofs::HandleLemmas::isolated_at))]
-    pub fn serve(
+    fn serve(
         &mut self,
         function: u8,
         queue: Queue,
         out: &mut [u8],
         left: &mut usize,
-    ) -> (VfdevReply, Messages)
-        requires { 9018 ≤ length out.old }
-        ensures world { self.new ≡ (step self.old (Serve function queue)).world }
-        ensures reply { result.0 ≡ shown (step self.old (Serve function queue)).answer.reply }
-        ensures messages { result.1 ≡ (step self.old (Serve function queue)).answer.raised }
-        ensures frame { out.new ≡ frame_in (left_by self.old (Serve function queue)) out.old }
-        ensures left { left.new ≡ length_in (left_by self.old (Serve function queue)) }
-        ensures isolated { IsolatedStep self.old (Serve function queue) self.new }
-    {
+    ) -> (VfdevReply, Messages) {
         isolates(&self.device);
         let taken = self.device.serve(function, queue, &mut self.frame);
         *left = put_frame(taken.left, out);
@@ -192,8 +157,7 @@ pub(crate) fn isolates(device: &Device<FlatMem>)
 // What was done, or refused.
 #[inline]
 pub(crate) fn done_or_refused(done: Result<(), Fault>) -> (VfdevReply, Messages)
-    ensures reply { result.0 ≡ shown (done_or_refused done) }
-    ensures messages { result.1 ≡ no_messages }
+    ensures { Shows (silently (done_or_refused done)) result.0 result.1 }
 {
     match done {
         Ok(()) => (VfdevReply::done(), Messages::none()),
@@ -204,8 +168,7 @@ pub(crate) fn done_or_refused(done: Result<(), Fault>) -> (VfdevReply, Messages)
 // A value, or a refusal.
 #[inline]
 pub(crate) fn value_or_refused(value: Result<u32, Fault>) -> (VfdevReply, Messages)
-    ensures reply { result.0 ≡ shown (value_or_refused value) }
-    ensures messages { result.1 ≡ no_messages }
+    ensures { Shows (silently (value_or_refused value)) result.0 result.1 }
 {
     match value {
         Ok(value) => (VfdevReply::value(value), Messages::none()),
@@ -213,11 +176,21 @@ pub(crate) fn value_or_refused(value: Result<u32, Fault>) -> (VfdevReply, Messag
     }
 }
 
+// Bytes that were read, or a refusal.
+#[inline]
+fn bytes_or_refused(read: Result<(), Fault>) -> (VfdevReply, Messages)
+    ensures { (bytes : List ℕ) → Shows (silently (bytes_or_refused read bytes)) result.0 result.1 }
+{
+    match read {
+        Ok(()) => (VfdevReply::bytes(), Messages::none()),
+        Err(fault) => (VfdevReply::refused(fault), Messages::none()),
+    }
+}
+
 // What was done with these messages, or refused.
 #[inline]
 pub(crate) fn issued(messages: Result<Messages, Fault>) -> (VfdevReply, Messages)
-    ensures reply { result.0 ≡ shown (messages_or_refused messages).reply }
-    ensures messages { result.1 ≡ (messages_or_refused messages).raised }
+    ensures { Shows (messages_or_refused messages) result.0 result.1 }
 {
     match messages {
         Ok(messages) => (VfdevReply::done(), messages),

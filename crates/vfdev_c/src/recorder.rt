@@ -1,17 +1,12 @@
 //! A device whose calls are kept.
-ghost use Rattle.std.specs.Prelude.{◌≡◌, ◌<◌, ◌≤◌, ◌↔◌, ◌++◌, ◌∷◌, IsTrue, true, false, nat_le, [], length, option_copied, IfOk, IfErr, None, if◌then◌else◌};
-ghost use Rattle.irq_causes.specs.Messages.{no_messages};
-ghost use Rattle.wire_frame.specs.Frame.{is_frame};
-ghost use Rattle.device.specs.declared.event.Event.{Event};
-ghost use Rattle.device.specs.World.{step, answers, world_after};
-ghost use Rattle.device.specs.Request.{event_of};
-ghost use Rattle.device.specs.Outcome.{left_by};
+ghost use Rattle.std.specs.Prelude.{◌≡◌, ◌<◌, ◌↔◌, IsTrue, true, false, nat_le, [], length, Some, IfOk, IfErr, if◌then◌else◌};
+ghost use Rattle.device.specs.World.{answers, world_after};
 ghost use Rattle.history.specs.Entries.{events, given, is_cap};
-ghost use Rattle.vfdev_c.specs.Handle.{shown, history_full, bytes_shown, frame_in, length_in, IsolatedStep};
-ghost use Rattle.vfdev_c.specs.Recorded.{recorded, is_full, taking, kept_as};
 ghost use Rattle.history.specs.Recording.{made_like};
+ghost use Rattle.vfdev_c.specs.Recorded.{is_full, recorded};
 
-use crate::handle_state::{Running, isolates, issued, lay, put_frame};
+use crate::device_kind::DeviceKind;
+use crate::handle_state::{HandleState, Running, isolates, issued, lay, put_frame};
 use crate::reply::VfdevReply;
 use device::{Device, Queue, Request};
 use guest_memory::FlatMem;
@@ -82,19 +77,24 @@ impl Recorder {
         other.replays(self.recording.history())
     }
 
-    /// Gives the device the event that a request stands for, and keeps the call; or no more calls can be kept, and nothing
-    /// changes.
-    pub fn take(&mut self, request: Request<'_>) -> (VfdevReply, Messages)
-        requires { kept_as (event_of request) ≡ event_of request }
-        ensures kept { self.new ≡ taking self.old (event_of request.entry) }
-        ensures reply { result.0 ≡ (if is_full self.old then history_full
-            else shown (step self.old.live (event_of request.entry)).answer.reply) }
-        ensures messages { result.1 ≡ (if is_full self.old then no_messages
-            else (step self.old.live (event_of request.entry)).answer.raised) }
-        ensures isolated { is_full self.old ≡ false →
-            IsolatedStep self.old.live (event_of request.entry) self.new.live }
+    // Whether no more calls can be kept.
+    #[inline]
+    fn is_full(&self) -> bool
+        ensures full { result ≡ is_full self.now }
+        ensures room { result ≡ false → length self.now.calls < self.now.cap }
     {
-        if self.recording.history().is_full() {
+        self.recording.history().is_full()
+    }
+}
+
+#[tactic(auto, using(crate::proofs::RecordedLemmas::full_gives))]
+impl DeviceKind for Recorder {
+    ghost use Rattle.vfdev_c.specs.declared.handle_state.HandleState.TheVariants.{Kept};
+
+    ghost held = { λ r. Some (Kept r) };
+
+    fn take(&mut self, request: Request<'_>) -> (VfdevReply, Messages) {
+        if self.is_full() {
             return (VfdevReply::history_full(), Messages::none());
         }
         isolates(self.recording.device());
@@ -102,18 +102,8 @@ impl Recorder {
         (VfdevReply::of(taken.outcome), taken.messages)
     }
 
-    /// The same, of a frame from the wire.
-    pub fn wire(&mut self, bytes: &[u8]) -> (VfdevReply, Messages)
-        requires { is_frame 9018 bytes.now ≡ true }
-        ensures kept { self.new ≡ taking self.old (Event.Wire bytes.now) }
-        ensures reply { result.0 ≡ (if is_full self.old then history_full
-            else shown (step self.old.live (Event.Wire bytes.now)).answer.reply) }
-        ensures messages { result.1 ≡ (if is_full self.old then no_messages
-            else (step self.old.live (Event.Wire bytes.now)).answer.raised) }
-        ensures isolated { is_full self.old ≡ false →
-            IsolatedStep self.old.live (Event.Wire bytes.now) self.new.live }
-    {
-        if self.recording.history().is_full() {
+    fn wire(&mut self, bytes: &[u8]) -> (VfdevReply, Messages) {
+        if self.is_full() {
             return (VfdevReply::history_full(), Messages::none());
         }
         isolates(self.recording.device());
@@ -121,55 +111,25 @@ impl Recorder {
         issued(self.recording.wire(CALLER, &self.frame))
     }
 
-    /// The same, of a read of a guest's memory, whose bytes fill `out`; where it is refused, `out` stays.
-    pub fn mem_read(&mut self, function: u8, at: u64, out: &mut [u8]) -> VfdevReply
-        ensures kept { self.new ≡ taking self.old (Event.MemRead function at (length out.old)) }
-        ensures reply { result ≡ (if is_full self.old then history_full
-            else shown
-            (step self.old.live (Event.MemRead function at (length out.old))).answer.reply) }
-        ensures bytes { out.new ≡ (if is_full self.old then out.old
-            else bytes_shown
-            (step self.old.live (Event.MemRead function at (length out.old))).answer.reply out.old) }
-        ensures isolated { is_full self.old ≡ false →
-            IsolatedStep self.old.live (Event.MemRead function at (length out.old)) self.new.live }
-    {
-        if self.recording.history().is_full() {
-            return VfdevReply::history_full();
+    fn mem_read(&mut self, function: u8, at: u64, out: &mut [u8]) -> (VfdevReply, Messages) {
+        if self.is_full() {
+            return (VfdevReply::history_full(), Messages::none());
         }
         isolates(self.recording.device());
         let request = Request::MemRead(function, at, named(out.len()));
-        let reply = match self.recording.device().mem_read(function, at, out) {
-            Ok(()) => VfdevReply::bytes(),
-            Err(fault) => VfdevReply::refused(fault),
-        };
-        self.recording.record(CALLER, request, &mut self.frame);
-        reply
+        let _read = self.recording.device().mem_read(function, at, out);
+        let taken = self.recording.record(CALLER, request, &mut self.frame);
+        (VfdevReply::of(taken.outcome), taken.messages)
     }
 
-    /// The same, of a service of a transmit queue. A frame that leaves for the wire is laid into the first bytes of `out`, and
-    /// `left` is its length, and else 0.
-    #[tactic(auto, using(crate::proofs::HandleLemmas::isolated_of))]
-    pub fn serve(
+    fn serve(
         &mut self,
         function: u8,
         queue: Queue,
         out: &mut [u8],
         left: &mut usize,
-    ) -> (VfdevReply, Messages)
-        requires { 9018 ≤ length out.old }
-        ensures kept { self.new ≡ taking self.old (Event.Serve function queue) }
-        ensures reply { result.0 ≡ (if is_full self.old then history_full
-            else shown (step self.old.live (Event.Serve function queue)).answer.reply) }
-        ensures messages { result.1 ≡ (if is_full self.old then no_messages
-            else (step self.old.live (Event.Serve function queue)).answer.raised) }
-        ensures frame { out.new ≡ frame_in (if is_full self.old then None
-            else left_by self.old.live (Event.Serve function queue)) out.old }
-        ensures left { left.new ≡ length_in (if is_full self.old then None
-            else left_by self.old.live (Event.Serve function queue)) }
-        ensures isolated { is_full self.old ≡ false →
-            IsolatedStep self.old.live (Event.Serve function queue) self.new.live }
-    {
-        if self.recording.history().is_full() {
+    ) -> (VfdevReply, Messages) {
+        if self.is_full() {
             *left = 0;
             return (VfdevReply::history_full(), Messages::none());
         }

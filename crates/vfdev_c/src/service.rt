@@ -2,9 +2,11 @@
 ghost use Rattle.std.specs.Prelude.{◌≡◌};
 ghost use Rattle.vfdev_c.specs.Handle.{Calls, raised_on, messages_in, left_on, frame_in, length_in, where_room, serve_asked, queue_of};
 
+use crate::device_kind::DeviceKind;
 use crate::events::{POOLS, put_messages};
 use crate::handle::Vfdev;
 use crate::handle_state::MOST_FRAME;
+use crate::on_device::on_device;
 use crate::reply::VfdevReply;
 use device::Queue;
 use irq_causes::Messages;
@@ -45,7 +47,8 @@ pub extern "C" fn vfdev_serve_frame(
         put_messages(Messages::none(), messages);
         return VfdevReply::no_room();
     }
-    let (reply, raised) = handle.serve(alloc, function, queue, out, left);
+    let (reply, raised) =
+        on_device!(handle, alloc, device => device.serve(function, queue, out, left));
     put_messages(raised, messages);
     reply
 }

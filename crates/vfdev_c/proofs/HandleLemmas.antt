@@ -14,13 +14,17 @@ use Rattle.vfdev_c.specs.declared.handle_state.HandleState.TheVariants.{Made}
 use Rattle.vfdev_c.specs.declared.reply.VfdevReply.{VfdevReply}
 use Rattle.vfdev_c.specs.Handle.{Gives, IsolatedStep, Shows, can_make, shown}
 
+-- a law of all events in all worlds of as many functions
+abbrev pub Isolates : World → Type 0
+Isolates w = (v : World) (e : Event) → length v.functions ≡ length w.functions → IsolatedStep v e (step v e).world
+
 -- the law holds of the world that a step leaves, by whatever name
-pub isolated_at : (w new : World) (e : Event) → new ≡ (step w e).world → ((e : Event) → IsolatedStep w e (step w e).world) → IsolatedStep w e new
-isolated_at w new e same law = subst (λ v. IsolatedStep w e v) (sym same) (law e)
+pub isolated_at : (w new : World) (e : Event) → new ≡ (step w e).world → Isolates w → IsolatedStep w e new
+isolated_at w new e same law = subst (λ v. IsolatedStep w e v) (sym same) (law w e refl)
 
 -- a device over memories of its own takes an event
 pub made_gives : (w old new : World) (d e : Event) (a : Answer) (reply : VfdevReply) (raised : List ℕ) → w ≡ old → d ≡ e → Shows a reply raised
-    → a ≡ (step w d).answer → new ≡ (step w d).world → ((e : Event) → IsolatedStep w e (step w e).world) → Gives (Some (Made old)) (Ok e) (Some (Made new)) reply raised
+    → a ≡ (step w d).answer → new ≡ (step w d).world → Isolates w → Gives (Some (Made old)) (Ok e) (Some (Made new)) reply raised
 made_gives w old new d e a reply raised is same shows answers there law = subst (λ old. Gives (Some (Made old)) (Ok e) (Some (Made new)) reply raised) is
     (subst (λ e. Gives (Some (Made w)) (Ok e) (Some (Made new)) reply raised) same record {
       called = record {
@@ -39,7 +43,7 @@ shows_of w taken reply told = record { replied = told (λ span. bytes_in (functi
 
 -- the same, where a response tells of it
 pub made_takes : (w old new : World) (e : Event) (taken : Response) (reply : VfdevReply) → w ≡ old → ((bytes : Span → List ℕ) → reply ≡ shown (reply_by bytes taken.outcome))
-    → Takes w e new taken → ((e : Event) → IsolatedStep w e (step w e).world) → Gives (Some (Made old)) (Ok e) (Some (Made new)) reply taken.messages
+    → Takes w e new taken → Isolates w → Gives (Some (Made old)) (Ok e) (Some (Made new)) reply taken.messages
 made_takes w old new e taken reply is told takes law =
     made_gives w old new e e (answer_in new taken) reply taken.messages is refl (shows_of new taken reply told) takes.answer takes.world law
 

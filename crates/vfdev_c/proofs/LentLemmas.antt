@@ -21,8 +21,8 @@ use Rattle.vfdev_c.specs.Spans.{span, lent, one_more, block_of, blocks_of, IsBlo
 use Rattle.vfdev_c.specs.declared.handle_state.HandleState.TheVariants.{Lent}
 use Rattle.vfdev_c.specs.Handle.{Gives, IsolatedStep, Shows, bytes_shown, is_mem_read, shown}
 use Rattle.vfdev_c.specs.Recorded.{kept_as}
-use Rattle.vfdev_c.proofs.HandleLemmas.{shows_of}
-use Rattle.vfdev_c.proofs.RecordedLemmas.{step_alike, listed_alike}
+use Rattle.vfdev_c.proofs.HandleLemmas.{Isolates, shows_of}
+use Rattle.vfdev_c.proofs.RecordedLemmas.{alike}
 use Rattle.vfdev_c.specs.LentWorld.{met_by, AreOnce, AreAllListed}
 use Rattle.vfdev_c.specs.declared.reply.VfdevReply.{VfdevReply}
 
@@ -62,10 +62,6 @@ lent_more ms spans m address len is same = λ i. lent (blocks ms i) (spans ++ sp
 
 -- ---- the device over them
 
--- a law of all events in all worlds of as many functions
-abbrev pub Isolates : World → Type 0
-Isolates w = (v : World) (e : Event) → length v.functions ≡ length w.functions → IsolatedStep v e (step v e).world
-
 -- the law holds of the world that a call met
 isolated_met : (old new : TracedWorld) (e : Event) → new.world ≡ (step (met_by old new).world e).world → Isolates old.world → IsolatedStep (met_by old new).world e new.world
 isolated_met old new e is law =
@@ -75,9 +71,9 @@ isolated_met old new e is law =
 pub lent_gives : (seen old new : TracedWorld) (d e : Event) (a : Answer) (reply : VfdevReply) (raised : List ℕ) → seen ≡ old → Shows a reply raised
     → a ≡ (step (met_by seen new).world d).answer → new.world ≡ (step (met_by seen new).world d).world → d ≡ kept_as e → AreOnce seen new → AreAllListed seen d new
     → Isolates seen.world → Gives (Some (Lent old)) (Ok e) (Some (Lent new)) reply raised
-lent_gives seen old new d e a reply raised is shows answers world alike once listed law =
+lent_gives seen old new d e a reply raised is shows answers world so once listed law =
     let met = met_by seen new in
-    let same : step met.world d ≡ step met.world e = ap (step met.world) alike ∙ step_alike met.world e in
+    let same : step met.world d ≡ step met.world e = ap (step met.world) so ∙ (alike met.world e).does in
     let there : new.world ≡ (step met.world e).world = world ∙ ap (λ (s : Stepped). s.world) same in
     subst (λ old. Gives (Some (Lent old)) (Ok e) (Some (Lent new)) reply raised) is record {
       called = record {
@@ -85,7 +81,7 @@ lent_gives seen old new d e a reply raised is shows answers world alike once lis
         replied = shows.replied ∙ ap (λ (a : Answer). shown a.reply) answers ∙ ap (λ (s : Stepped). shown s.answer.reply) same;
         isolated = isolated_met seen new e there law;
         once = once;
-        listed = subst (λ own. AreListed own seen.accesses new.accesses) (ap (accesses_by met.world) alike ∙ listed_alike met.world e) listed;
+        listed = subst (λ own. AreListed own seen.accesses new.accesses) (ap (accesses_by met.world) so ∙ (alike met.world e).lists) listed;
       };
       raises = shows.raises ∙ ap (λ (a : Answer). a.raised) answers ∙ ap (λ (s : Stepped). s.answer.raised) same;
     }
@@ -94,47 +90,32 @@ lent_gives seen old new d e a reply raised is shows answers world alike once lis
 pub live_gives : (seen old new : TracedWorld) (d e : Event) (taken : Response) (reply : VfdevReply) → seen ≡ old → d ≡ kept_as e
     → ((bytes : Stretch → List ℕ) → reply ≡ shown (reply_by bytes taken.outcome)) → TakesLive true seen.accesses new.accesses seen.world d new.world taken
     → AreAllListed seen d new → Isolates seen.world → Gives (Some (Lent old)) (Ok e) (Some (Lent new)) reply taken.messages
-live_gives seen old new d e taken reply is alike told takes listed law =
-    lent_gives seen old new d e (answer_in new.world taken) reply taken.messages is (shows_of new.world taken reply told) takes.takes.answer takes.takes.world alike takes.met listed law
+live_gives seen old new d e taken reply is so told takes listed law =
+    lent_gives seen old new d e (answer_in new.world taken) reply taken.messages is (shows_of new.world taken reply told) takes.takes.answer takes.takes.world so takes.met listed law
 
--- an event but a read accesses the memories where its bytes are looked at elsewhere, and is kept as it is
-pub unread_by : (w : World) (e : Event) → is_mem_read e ≡ false → (accesses_but_read w e ≡ accesses_by w e) × (e ≡ kept_as e)
-unread_by w (Open p) not = (refl, refl)
-unread_by w (End p) not = (refl, refl)
-unread_by w (VfRead p offset) not = (refl, refl)
-unread_by w (VfWrite p offset x) not = (refl, refl)
-unread_by w (MemRead p at count) not = absurd (true≢false not)
-unread_by w (MemWrite p at bytes) not = (refl, refl)
-unread_by w (Serve p q) not = (refl, refl)
-unread_by w (Flr p) not = (refl, refl)
-unread_by w (PfRead offset) not = (refl, refl)
-unread_by w (PfWrite offset x) not = (refl, refl)
-unread_by w PfReset not = (refl, refl)
-unread_by w (Wire frame) not = (refl, refl)
-
--- the same, of such an event
+-- the same, of an event but a read
 pub unread_gives : (seen old new : TracedWorld) (e : Event) (taken : Response) (reply : VfdevReply) → seen ≡ old → is_mem_read e ≡ false
     → ((bytes : Stretch → List ℕ) → reply ≡ shown (reply_by bytes taken.outcome)) → TakesLive true seen.accesses new.accesses seen.world e new.world taken
     → AreListed (accesses_but_read (met_by seen new).world e) seen.accesses new.accesses → Isolates seen.world → Gives (Some (Lent old)) (Ok e) (Some (Lent new)) reply taken.messages
 unread_gives seen old new e taken reply is not told takes listed law =
-    let same = unread_by (met_by seen new).world e not in
+    let same = (alike (met_by seen new).world e).unread not in
     live_gives seen old new e e taken reply is same.1 told takes (subst (λ own. AreListed own seen.accesses new.accesses) same.0 listed) law
 
 -- an event that meets the world that was there
 gives_there : (seen old new : TracedWorld) (e : Event) (a : Answer) (reply : VfdevReply) (raised : List ℕ) → seen ≡ old → e ≡ kept_as e → (met_by seen new).world ≡ seen.world
     → Shows a reply raised → a ≡ (step seen.world e).answer → new.world ≡ (step seen.world e).world → AreOnce seen new → AreListed (accesses_by seen.world e) seen.accesses new.accesses
     → Isolates seen.world → Gives (Some (Lent old)) (Ok e) (Some (Lent new)) reply raised
-gives_there seen old new e a reply raised is alike there shows answers world once listed law =
+gives_there seen old new e a reply raised is so there shows answers world once listed law =
     let stepped : step seen.world e ≡ step (met_by seen new).world e = ap (λ (v : World). step v e) (sym there) in
-    lent_gives seen old new e e a reply raised is shows (answers ∙ ap (λ (s : Stepped). s.answer) stepped) (world ∙ ap (λ (s : Stepped). s.world) stepped) alike once
+    lent_gives seen old new e e a reply raised is shows (answers ∙ ap (λ (s : Stepped). s.answer) stepped) (world ∙ ap (λ (s : Stepped). s.world) stepped) so once
     (subst (λ (v : World). AreListed (accesses_by v e) seen.accesses new.accesses) (sym there) listed) law
 
 -- an event that accesses no memory
 pub quiet_gives : (seen old new : TracedWorld) (d e : Event) (a : Answer) (reply : VfdevReply) (raised : List ℕ) → seen ≡ old → d ≡ e → d ≡ kept_as d
     → ((p : ℕ) → accesses_by seen.world d p ≡ []) → Shows a reply raised → a ≡ (step seen.world d).answer → new.world ≡ (step seen.world d).world
     → new.accesses ≡ seen.accesses → Isolates seen.world → Gives (Some (Lent old)) (Ok e) (Some (Lent new)) reply raised
-quiet_gives seen old new d e a reply raised is one alike none shows answers world same law =
-    subst (λ e. Gives (Some (Lent old)) (Ok e) (Some (Lent new)) reply raised) one (gives_there seen old new d a reply raised is alike
+quiet_gives seen old new d e a reply raised is one so none shows answers world same law =
+    subst (λ e. Gives (Some (Lent old)) (Ok e) (Some (Lent new)) reply raised) one (gives_there seen old new d a reply raised is so
     (told_world_none seen.accesses new.accesses seen.world (λ r. ap (λ (t : List (List Access)). trace_of t r) same)) shows answers world
     (subst (λ (t : List (List Access)). AreMet true seen.accesses t seen.world) (sym same) (untouched true seen.accesses seen.world))
     (none_listed seen.accesses new.accesses (accesses_by seen.world d) same none) law)

@@ -12,17 +12,17 @@ use Rattle.device.specs.declared.span.Span.{Span}
 use Rattle.device.specs.Outcome.{answer_in, reply_by}
 use Rattle.device.specs.Takes.{Takes}
 use Rattle.device.specs.declared.event.Event.TheVariants.{Open, End, VfRead, VfWrite, MemRead, MemWrite, Serve, Flr, PfRead, PfWrite, PfReset, Wire}
-use Rattle.device.specs.Accesses.{accesses_by}
+use Rattle.device.specs.Accesses.{accesses_by, accesses_but_read}
 use Rattle.device.specs.Act.{act, refusal}
 use Rattle.device.specs.World.{World, Stepped, step, function_of, acted, refused}
 use Rattle.history.specs.declared.caller.Caller.TheVariants.{Driver}
 use Rattle.history.specs.Entries.{entry}
 use Rattle.history.specs.Recording.{Logged, keeping as keep_call}
 use Rattle.irq_causes.specs.Messages.{no_messages}
-use Rattle.vfdev_c.proofs.HandleLemmas.{isolated_at, shows_of}
+use Rattle.vfdev_c.proofs.HandleLemmas.{Isolates, isolated_at, shows_of}
 use Rattle.vfdev_c.specs.declared.handle_state.HandleState.TheVariants.{Kept}
 use Rattle.vfdev_c.specs.declared.reply.VfdevReply.{VfdevReply}
-use Rattle.vfdev_c.specs.Handle.{Gives, IsolatedStep, Shows, history_full, raised_on, shown}
+use Rattle.vfdev_c.specs.Handle.{Gives, Shows, history_full, is_mem_read, raised_on, shown}
 use Rattle.vfdev_c.specs.Recorded.{Recorded, recorded, recorded_of, is_full, keeping, kept_as}
 
 -- ---- reads of more bytes than an entry names
@@ -40,41 +40,36 @@ read_alike w p at count false is =
     let long : nat_lt 2048 count ≡ true = grind (arith, nat_tests) in
     ap (λ a. if nat_lt p (length w.functions) then acted w p a else refused w NoSuchVf) (is_alike (function_of p w) p at count (is_open (function_of p w)) refl long)
 
--- the device does the same by the event that a call is kept as
-pub step_alike : (w : World) (e : Event) → step w (kept_as e) ≡ step w e
-step_alike w (Open p) = refl
-step_alike w (End p) = refl
-step_alike w (VfRead p offset) = refl
-step_alike w (VfWrite p offset x) = refl
-step_alike w (MemRead p at count) = read_alike w p at count (nat_le count 65535) refl
-step_alike w (MemWrite p at bytes) = refl
-step_alike w (Serve p q) = refl
-step_alike w (Flr p) = refl
-step_alike w (PfRead offset) = refl
-step_alike w (PfWrite offset x) = refl
-step_alike w PfReset = refl
-step_alike w (Wire frame) = refl
-
--- and accesses the same
 listed_long : (w : World) (p at count : ℕ) (within : Bool) (r : ℕ) → nat_le count 65535 ≡ within
     → accesses_by w (MemRead p at (if within then count else 65535)) r ≡ accesses_by w (MemRead p at count) r
 listed_long w p at count true r is = refl
 listed_long w p at count false r is =
     let long : nat_lt 2048 count ≡ true = grind (arith, nat_tests) in rw long refl
 
-pub listed_alike : (w : World) (e : Event) → accesses_by w (kept_as e) ≡ accesses_by w e
-listed_alike w (Open p) = refl
-listed_alike w (End p) = refl
-listed_alike w (VfRead p offset) = refl
-listed_alike w (VfWrite p offset x) = refl
-listed_alike w (MemRead p at count) = λ i r. listed_long w p at count (nat_le count 65535) r refl i
-listed_alike w (MemWrite p at bytes) = refl
-listed_alike w (Serve p q) = refl
-listed_alike w (Flr p) = refl
-listed_alike w (PfRead offset) = refl
-listed_alike w (PfWrite offset x) = refl
-listed_alike w PfReset = refl
-listed_alike w (Wire frame) = refl
+-- the device does the same by the event that a call is kept as, and accesses the same; any event but a read is kept as it is, and
+-- accesses the same where its bytes are looked at elsewhere
+pub record Alike (w : World) (e : Event) : Type 0 where
+  pub does : step w (kept_as e) ≡ step w e
+  pub lists : accesses_by w (kept_as e) ≡ accesses_by w e
+  pub unread : is_mem_read e ≡ false → (accesses_but_read w e ≡ accesses_by w e) × (e ≡ kept_as e)
+
+pub alike : (w : World) (e : Event) → Alike w e
+alike w (Open p) = record { does = refl; lists = refl; unread = λ _. (refl, refl) }
+alike w (End p) = record { does = refl; lists = refl; unread = λ _. (refl, refl) }
+alike w (VfRead p offset) = record { does = refl; lists = refl; unread = λ _. (refl, refl) }
+alike w (VfWrite p offset x) = record { does = refl; lists = refl; unread = λ _. (refl, refl) }
+alike w (MemRead p at count) = record {
+  does = read_alike w p at count (nat_le count 65535) refl;
+  lists = λ i r. listed_long w p at count (nat_le count 65535) r refl i;
+  unread = λ not. absurd (true≢false not);
+}
+alike w (MemWrite p at bytes) = record { does = refl; lists = refl; unread = λ _. (refl, refl) }
+alike w (Serve p q) = record { does = refl; lists = refl; unread = λ _. (refl, refl) }
+alike w (Flr p) = record { does = refl; lists = refl; unread = λ _. (refl, refl) }
+alike w (PfRead offset) = record { does = refl; lists = refl; unread = λ _. (refl, refl) }
+alike w (PfWrite offset x) = record { does = refl; lists = refl; unread = λ _. (refl, refl) }
+alike w PfReset = record { does = refl; lists = refl; unread = λ _. (refl, refl) }
+alike w (Wire frame) = record { does = refl; lists = refl; unread = λ _. (refl, refl) }
 
 -- ---- what is kept
 
@@ -97,12 +92,12 @@ full_gives r new e reply raised full same replied raises = record {
 -- where one more can: the device takes the event that the call is kept as, and does the same
 pub kept_gives : (old new : Logged) (w : World) (r : Recorded) (d e : Event) (a : Answer) (reply : VfdevReply) (raised : List ℕ) → recorded_of old ≡ r → is_full r ≡ false
     → new ≡ keep_call old Driver d → d ≡ kept_as e → Shows a reply raised → a ≡ (step old.live d).answer → w ≡ old.live
-    → ((e : Event) → IsolatedStep w e (step w e).world) → Gives (Some (Kept r)) (Ok e) (Some (Kept (recorded_of new))) reply raised
-kept_gives old new w r d e a reply raised seen room kept alike shows answers there law =
-    let same : step old.live d ≡ step old.live e = ap (step old.live) alike ∙ step_alike old.live e in
+    → Isolates w → Gives (Some (Kept r)) (Ok e) (Some (Kept (recorded_of new))) reply raised
+kept_gives old new w r d e a reply raised seen room kept so shows answers there law =
+    let same : step old.live d ≡ step old.live e = ap (step old.live) so ∙ (alike old.live e).does in
     let more : recorded_of new ≡ keeping (recorded_of old) e =
-    ap recorded_of kept ∙ (λ i. recorded (same i).world (old.kept ++ entry Driver (alike i) (same i).answer ∷ []) old.cap) in
-    let law : (e : Event) → IsolatedStep old.live e (step old.live e).world = subst (λ v. (e : Event) → IsolatedStep v e (step v e).world) there law in
+    ap recorded_of kept ∙ (λ i. recorded (same i).world (old.kept ++ entry Driver (so i) (same i).answer ∷ []) old.cap) in
+    let law : Isolates old.live = subst Isolates there law in
     subst (λ r. Gives (Some (Kept r)) (Ok e) (Some (Kept (recorded_of new))) reply raised) seen
     (known (recorded_of old) (recorded_of new) e reply raised (ap is_full seen ∙ room) more
     (shows.replied ∙ ap (λ (a : Answer). shown a.reply) answers ∙ ap (λ (s : Stepped). shown s.answer.reply) same)
@@ -110,7 +105,7 @@ kept_gives old new w r d e a reply raised seen room kept alike shows answers the
   where
     known : (r new : Recorded) (e : Event) (reply : VfdevReply) (raised : List ℕ) → is_full r ≡ false → new ≡ keeping r e
         → reply ≡ shown (step r.live e).answer.reply → raised ≡ (step r.live e).answer.raised
-        → ((e : Event) → IsolatedStep r.live e (step r.live e).world) → Gives (Some (Kept r)) (Ok e) (Some (Kept new)) reply raised
+        → Isolates r.live → Gives (Some (Kept r)) (Ok e) (Some (Kept new)) reply raised
     known r new e reply raised room more replied raises law = record {
       called = record {
         held = rw room (ap (λ r. Some (Kept r)) more);
@@ -125,6 +120,6 @@ kept_gives old new w r d e a reply raised seen room kept alike shows answers the
 -- the same, where a response tells of it
 pub kept_takes : (old new : Logged) (w : World) (r : Recorded) (d e : Event) (taken : Response) (reply : VfdevReply) → recorded_of old ≡ r → is_full r ≡ false
     → d ≡ kept_as e → ((bytes : Span → List ℕ) → reply ≡ shown (reply_by bytes taken.outcome)) → Takes old.live d new.live taken → new ≡ keep_call old Driver d
-    → w ≡ old.live → ((e : Event) → IsolatedStep w e (step w e).world) → Gives (Some (Kept r)) (Ok e) (Some (Kept (recorded_of new))) reply taken.messages
-kept_takes old new w r d e taken reply seen room alike told takes kept there law =
-    kept_gives old new w r d e (answer_in new.live taken) reply taken.messages seen room kept alike (shows_of new.live taken reply told) takes.answer there law
+    → w ≡ old.live → Isolates w → Gives (Some (Kept r)) (Ok e) (Some (Kept (recorded_of new))) reply taken.messages
+kept_takes old new w r d e taken reply seen room so told takes kept there law =
+    kept_gives old new w r d e (answer_in new.live taken) reply taken.messages seen room kept so (shows_of new.live taken reply told) takes.answer there law

@@ -2,7 +2,7 @@
 ghost use Rattle.std.specs.Prelude.{◌≡◌, ◌≤◌, ◌↔◌, IsTrue, true, length, option_copied, Some, Ok, ℕ, List};
 ghost use Rattle.wire_frame.specs.Frame.{is_frame};
 ghost use Rattle.device.specs.Events.{Event};
-ghost use Rattle.device.specs.World.{step, answers, silently, world_after};
+ghost use Rattle.device.specs.World.{World, step, answers, silently, world_after};
 ghost use Rattle.device.specs.Request.{event_of};
 ghost use Rattle.device.specs.Outcome.{bytes_or_refused, done_or_refused, value_or_refused, messages_or_refused};
 ghost use Rattle.history.specs.Entries.{events, given};
@@ -19,6 +19,7 @@ use device::{Device, Queue, Request};
 use guest_memory::FlatMem;
 use history::History;
 use irq_causes::Messages;
+use live_memory::Dma;
 use std::marker::Model;
 use wire_frame::{Fault, FrameBuf, FrameLimit};
 
@@ -143,11 +144,12 @@ impl DeviceKind for Running {
     }
 }
 
-// To each function an event is as if it were alone.
+// To each function an event is as if it were alone, in whatever world of as many functions.
 #[inline]
 #[tactic(auto, unfolding(crate::specs::Handle::IsolatedStep))]
-pub(crate) fn isolates(device: &Device<FlatMem>)
-    ensures { (e : Event) → IsolatedStep device.now.world e (step device.now.world e).world }
+pub(crate) fn isolates<D: Dma<K>, K>(device: &Device<D, K>)
+    ensures { (w : World) (e : Event) → length w.functions ≡ length device.now.world.functions
+        → IsolatedStep w e (step w e).world }
 {
     let count = device.functions();
     prove!(count <= 64);

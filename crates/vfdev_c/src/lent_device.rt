@@ -1,16 +1,16 @@
 //! A device over blocks that guests write while it works on them.
 ghost use Rattle.std.specs.Prelude.{◌≡◌, ◌&&◌, true, false, map, length, Some, Ok, Err, IfOk, IfErr};
-ghost use Rattle.device.specs.Events.{Event};
-ghost use Rattle.device.specs.World.{World, step, fresh, is_frame_limit, is_makeable};
+ghost use Rattle.device.specs.World.{fresh, is_frame_limit, is_makeable};
 ghost use Rattle.device.specs.Request.{event_of};
-ghost use Rattle.vfdev_c.specs.Handle.{Gives, IsolatedStep, is_mem_read};
+ghost use Rattle.vfdev_c.specs.Handle.{Gives, is_mem_read};
 ghost use Rattle.vfdev_c.specs.LentWorld.{untouched};
 
 use crate::device_kind::DeviceKind;
-use crate::handle_state::{HandleState, done_or_refused, issued, lay, put_frame, value_or_refused};
+use crate::handle_state::{
+    HandleState, done_or_refused, isolates, issued, lay, put_frame, value_or_refused,
+};
 use crate::recorder::named;
 use crate::reply::VfdevReply;
-use device::laws::isolation;
 use device::{Device, MemSlice, Queue, Request};
 use irq_causes::Messages;
 use live_memory::Shared;
@@ -68,7 +68,7 @@ impl DeviceKind for LentDevice {
 
     #[inline(always)]
     fn take(&mut self, request: Request<'_>) -> (VfdevReply, Messages) {
-        isolates_any(&self.device);
+        isolates(&self.device);
         // By name, as where memories are the device's own.
         match request {
             Request::VfRead(function, offset) => value_or_refused(
@@ -88,7 +88,7 @@ impl DeviceKind for LentDevice {
 
     fn wire(&mut self, bytes: &[u8]) -> (VfdevReply, Messages) {
         let LentDevice { device, frame } = self;
-        isolates_any(device);
+        isolates(device);
         lay(frame, bytes);
         issued(device.wire_live(frame))
     }
@@ -96,7 +96,7 @@ impl DeviceKind for LentDevice {
     // The bytes are read once.
     fn mem_read(&mut self, function: u8, at: u64, out: &mut [u8]) -> (VfdevReply, Messages) {
         let LentDevice { device, frame: _ } = self;
-        isolates_any(device);
+        isolates(device);
         let count = named(out.len());
         let taken = device.mem_read_live(function, at, count, out);
         (VfdevReply::of(taken.outcome), taken.messages)
@@ -110,7 +110,7 @@ impl DeviceKind for LentDevice {
         left: &mut usize,
     ) -> (VfdevReply, Messages) {
         let LentDevice { device, frame } = self;
-        isolates_any(device);
+        isolates(device);
         let taken = device.serve_live(function, queue, frame);
         *left = put_frame(taken.left, out);
         (VfdevReply::of(taken.outcome), taken.messages)
@@ -127,19 +127,7 @@ fn take_any(
     ensures { Gives (Some (HandleState.Lent device.old)) (Ok (event_of request.entry)) (Some (HandleState.Lent device.new))
         result.0 result.1 }
 {
-    isolates_any(device);
+    isolates(device);
     let taken = device.take_unread(request, frame);
     (VfdevReply::of(taken.outcome), taken.messages)
-}
-
-// To each function an event is as if it were alone, in whatever world of as many functions.
-#[inline]
-#[tactic(auto, unfolding(crate::specs::Handle::IsolatedStep))]
-fn isolates_any(device: &Device<LiveMem<'static>, Shared>)
-    ensures { (w : World) (e : Event) → length w.functions ≡ length device.now.world.functions
-        → IsolatedStep w e (step w e).world }
-{
-    let count = device.functions();
-    prove!(count <= 64);
-    isolation();
 }

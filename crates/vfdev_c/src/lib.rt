@@ -30,6 +30,7 @@ mod lent_device;
 pub mod making;
 mod on_card;
 mod on_device;
+mod on_held;
 pub mod owner;
 pub mod raw_box;
 mod recorder;

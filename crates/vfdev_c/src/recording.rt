@@ -7,6 +7,7 @@ ghost use Rattle.vfdev_c.specs.Recorded.{recorded};
 use crate::handle::Vfdev;
 use crate::handle_state::HandleState;
 use crate::making::{HELD, MADE, can_make, memories};
+use crate::on_held::on_held;
 use crate::recorder::Recorder;
 use device::Device;
 use history::MOST_CALLS;
@@ -60,18 +61,7 @@ pub extern "C" fn vfdev_kept(alloc: Global, handle: &mut Vfdev) -> usize
     ensures kept { result ≡ length (calls_in handle.old.owner.held) }
     ensures unchanged { handle.new.owner.held ≡ handle.old.owner.held }
 {
-    let Some(state) = handle.take(alloc) else {
-        return 0;
-    };
-    let kept = match &*state {
-        HandleState::Kept(recorder) => recorder.kept(),
-        HandleState::Made(_)
-        | HandleState::Lending(_)
-        | HandleState::Lent(_)
-        | HandleState::Card(_) => 0,
-    };
-    handle.put(state);
-    kept
+    on_held!(handle, alloc, 0, Kept recorder => recorder.kept(); Lending | Made | Lent | Card)
 }
 
 /// Gives another device, whose calls are not kept, the events of the kept calls in their order, and tells whether it answers
@@ -93,18 +83,7 @@ pub extern "C" fn vfdev_replay(alloc: Global, handle: &mut Vfdev, other: &mut Vf
     ensures unchanged { handle.new.owner.held ≡ handle.old.owner.held }
     ensures stepped { other.new.owner.held ≡ replayed handle.old.owner.held other.old.owner.held }
 {
-    let Some(state) = handle.take(alloc) else {
-        return NOT_RECORDED;
-    };
-    let answer = match &*state {
-        HandleState::Kept(recorder) => replay_on(alloc, recorder, other),
-        HandleState::Made(_)
-        | HandleState::Lending(_)
-        | HandleState::Lent(_)
-        | HandleState::Card(_) => NOT_RECORDED,
-    };
-    handle.put(state);
-    answer
+    on_held!(handle, alloc, NOT_RECORDED, Kept recorder => replay_on(alloc, recorder, other); Lending | Made | Lent | Card)
 }
 
 // The same, of calls that are kept.
@@ -120,18 +99,7 @@ fn replay_on(alloc: Global, recorder: &Recorder, other: &mut Vfdev) -> u32
     ensures stepped { other.new.owner.held
         ≡ replayed (Some (HandleState.Kept recorder.now)) other.old.owner.held }
 {
-    let Some(mut state) = other.take(alloc) else {
-        return NO_OTHER;
-    };
-    let answer = match &mut *state {
-        HandleState::Made(running) => said(recorder.replays(running)),
-        HandleState::Kept(_)
-        | HandleState::Lending(_)
-        | HandleState::Lent(_)
-        | HandleState::Card(_) => NO_OTHER,
-    };
-    other.put(state);
-    answer
+    on_held!(other, alloc, NO_OTHER, Made running => said(recorder.replays(running)); Lending | Kept | Lent | Card)
 }
 
 // What a replay answers.

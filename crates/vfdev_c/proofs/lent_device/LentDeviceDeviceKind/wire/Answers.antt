@@ -6,4 +6,4 @@ use Rattle.vfdev_c.proofs.lent_device.LentDeviceDeviceKind.wire.Goals as goal
 
 pub returns : goal.returns
 returns c = lent_gives _ _ _ _ _ _ _ _ c.self.view_is c.issued.ensures c.wire_live.ensures.answer c.wire_live.ensures.world (ap Wire c.lay.ensures) c.wire_live.ensures.met
-    c.wire_live.ensures.listed c.isolates_any.ensures
+    c.wire_live.ensures.listed c.isolates.ensures

@@ -41,7 +41,7 @@ class Server:
         """Starts it, with this text as its configuration or without any, and waits for its sockets."""
         setting = self.setting
         command = self.within + [setting.program, "--functions", str(setting.functions), "--dir", setting.place,
-                                 "--frame", str(setting.frame)] + self.more
+                                 "--frame", str(setting.frame), *setting.words] + self.more
         if setting.offloads:
             command += ["--offloads", setting.offloads]
         if config is not None:

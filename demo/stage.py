@@ -27,7 +27,7 @@ class LeftOut(Exception):
 @dataclass
 class Setting:
     """What a run is made with. `place` is the folder of sockets as the host names it, `inside` as the chroot does; `offloads` is what the
-    server is told of them, nothing where it is empty, and with "none" the guests' drivers are told too."""
+    server is told of them, nothing where it is empty, and with "none" the guests' drivers are told too; `words` are more words for it."""
 
     chroot: str
     logs: str
@@ -38,6 +38,7 @@ class Setting:
     offloads: str
     verbose: bool
     functions: int = 4
+    words: tuple = ()
     inside: str = "/run/vfdev"
 
     @property

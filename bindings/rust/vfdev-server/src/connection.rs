@@ -7,6 +7,7 @@ use std::io::{self, Write};
 use std::ops::Range;
 use std::os::fd::{AsFd, BorrowedFd, OwnedFd};
 use std::os::unix::net::UnixStream;
+use std::sync::Arc;
 use vfdev::card::{Breach, CardFault, HEADER, MOST_MESSAGE, ROOM};
 
 /// Why a connection ended.
@@ -99,6 +100,8 @@ pub struct Connection {
     room: Box<[u8; ROOM]>,
     // the bytes of the room that are still to be sent
     unsent: Range<usize>,
+    // the file that goes beside the first of them
+    beside: Option<Arc<OwnedFd>>,
 }
 
 /// A whole message, with its files, and the room for its reply.
@@ -126,6 +129,7 @@ impl Connection {
             files: Vec::new(),
             room: Box::new([0; ROOM]),
             unsent: 0..0,
+            beside: None,
         })
     }
 
@@ -182,12 +186,19 @@ impl Connection {
         }
     }
 
-    /// Sends so many bytes of the room, as far as the socket takes them.
+    /// So many bytes of the room.
+    #[must_use]
+    pub fn laid(&self, count: usize) -> &[u8] {
+        &self.room[..count.min(ROOM)]
+    }
+
+    /// Sends so many bytes of the room, and the file beside them, as far as the socket takes them.
     ///
     /// # Errors
     /// Why the connection ends.
-    pub fn reply(&mut self, count: usize) -> Result<(), Ended> {
+    pub fn reply(&mut self, count: usize, beside: Option<Arc<OwnedFd>>) -> Result<(), Ended> {
         self.unsent = 0..count.min(ROOM);
+        self.beside = beside;
         self.send()
     }
 
@@ -197,9 +208,17 @@ impl Connection {
     /// Why the connection ends.
     pub fn send(&mut self) -> Result<(), Ended> {
         while !self.unsent.is_empty() {
-            match (&self.socket).write(&self.room[self.unsent.clone()]) {
+            let bytes = &self.room[self.unsent.clone()];
+            let sent = match &self.beside {
+                Some(file) => os::send_with_file(&self.socket, bytes, file.as_fd()),
+                None => (&self.socket).write(bytes),
+            };
+            match sent {
                 Ok(0) => return Err(Ended::Closed),
-                Ok(count) => self.unsent.start += count,
+                Ok(count) => {
+                    self.unsent.start += count;
+                    self.beside = None;
+                }
                 Err(error) => match error.kind() {
                     io::ErrorKind::WouldBlock => break,
                     io::ErrorKind::Interrupted => {}
@@ -286,6 +305,21 @@ mod tests {
         }
     }
 
+    // A file goes beside the first byte of its reply, and beside no other reply.
+    #[test]
+    fn a_file_goes_beside_its_reply() {
+        let (client, mut connection) = pair();
+        let page = os::SharedPage::new(0).expect("a page");
+        page.write(0, 0x5A);
+        for beside in [Some(page.file()), None] {
+            let due = usize::from(beside.is_some());
+            connection.reply(16, beside).expect("a reply");
+            let (mut bytes, mut files) = ([0; 64], Vec::new());
+            let received = os::receive(&client, &mut bytes, &mut files).expect("bytes");
+            assert_eq!((received.count, files.len()), (16, due));
+        }
+    }
+
     // A reply that the socket doesn't take is sent later, whole.
     #[test]
     fn a_reply_waits_for_its_client() {
@@ -294,7 +328,7 @@ mod tests {
         connection.room.fill(7);
         let mut sent = 0;
         while !connection.is_replying() {
-            connection.reply(ROOM).expect("a reply");
+            connection.reply(ROOM, None).expect("a reply");
             sent += ROOM;
         }
         let mut bytes = vec![0; sent];

@@ -11,6 +11,8 @@ pub struct Counters {
     pub ended: Vec<(&'static str, u64)>,
     /// Messages of its clients.
     pub messages: u64,
+    /// How often something was found in the page of its registers, beside the looks before each message.
+    pub looks: u64,
     /// How often its transmit queues were served.
     pub services: u64,
     /// Interrupts that were signalled.
@@ -65,7 +67,7 @@ pub struct Shown<'a> {
 type Number = fn(&Shown<'_>) -> u64;
 
 // The name, the kind and the meaning of each number.
-const NUMBERS: [(&str, &str, &str, Number); 11] = [
+const NUMBERS: [(&str, &str, &str, Number); 12] = [
     ("attached", "gauge", "Whether a client is attached.", |f| {
         f.is_attached.into()
     }),
@@ -89,6 +91,12 @@ const NUMBERS: [(&str, &str, &str, Number); 11] = [
         "counter",
         "Messages of the clients.",
         |f| f.counters.messages,
+    ),
+    (
+        "looks_total",
+        "counter",
+        "Looks at the page of transmit registers, beside those before each message, that found something.",
+        |f| f.counters.looks,
     ),
     (
         "services_total",

@@ -5,6 +5,7 @@ use crate::connection::Connection;
 use crate::counters::Counters;
 use crate::directory::{listen, Place, Unusable};
 use crate::os::{EventFile, NotAnEventfd};
+use crate::page::TransmitPage;
 use crate::rests::Rests;
 use std::io;
 use std::os::fd::OwnedFd;
@@ -22,6 +23,8 @@ pub struct Function {
     pub place: Place,
     /// The client that is attached. Others wait in the socket's queue.
     pub client: Option<Connection>,
+    /// The page of its transmit registers, where its client is offered one.
+    pub page: Option<TransmitPage>,
     /// No client is taken any more, until the configuration is read anew: one was hostile.
     pub is_barred: bool,
     /// Whether the client is watched for room for its reply, and not for messages.
@@ -44,6 +47,7 @@ impl Function {
             listener,
             place,
             client: None,
+            page: None,
             is_barred: false,
             is_watched_for_room: false,
             counters: Counters::default(),
@@ -93,6 +97,7 @@ impl Function {
     /// can't be they stay open, and nobody comes here any more.
     pub fn forget_client(&mut self, apart: &Apart) {
         self.is_watched_for_room = false;
+        self.page = None;
         self.rests = Rests::default();
         self.disarm(0, VECTORS);
         let files = self.client.take().map(Connection::into_files);

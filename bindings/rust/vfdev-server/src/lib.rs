@@ -16,7 +16,9 @@
 //! | [`offloads`] | what the card does for its guests' drivers, by names |
 //! | [`directory`] | the folder of the sockets |
 //! | [`counters`] | what is counted, and its text |
+//! | [`page`], [`pages`], [`registers`] | transmit registers that a client writes without a message |
 //! | [`polling`] | how long it looks for work before it sleeps |
+//! | [`looks`] | when it looks at pages while it sleeps |
 //! | [`rests`] | how far apart the interrupts of a vector are |
 //! | [`apart`] | what may take long to let go of |
 //! | [`os`] | what the standard library lacks; all `unsafe` |
@@ -33,12 +35,16 @@ pub mod connection;
 pub mod counters;
 pub mod directory;
 pub mod function;
+pub mod looks;
 pub mod mac;
 pub mod offloads;
 pub mod options;
 #[allow(unsafe_code)]
 pub mod os;
+pub mod page;
+pub mod pages;
 pub mod polling;
+pub mod registers;
 pub mod reload;
 pub mod rests;
 pub mod server;

@@ -43,6 +43,11 @@ pub struct Options {
     #[arg(long, value_name = "US", default_value_t = 0, value_parser = clap::value_parser!(u32).range(0..=1_000_000))]
     pub poll: u32,
 
+    /// Offer each client its transmit registers as memory, so that a driver's tails are no messages. The program looks there for them, also while
+    /// it sleeps otherwise
+    #[arg(long)]
+    pub transmit_page: bool,
+
     /// Allow the program any call of the system, and not those alone that it needs to serve: for a debugger, or for a C library that makes
     /// others
     #[arg(long)]

@@ -152,11 +152,7 @@ impl Server {
                     self.untold |= 1 << function;
                 }
             }
-            Telling::Reset => {
-                if let Err(fault) = self.card.flr(function) {
-                    error!(function, %fault, "the function can't be reset");
-                }
-            }
+            Telling::Reset => self.reset(function),
         }
     }
 }

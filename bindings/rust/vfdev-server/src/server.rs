@@ -9,10 +9,13 @@ use crate::connection::{Connection, Ended};
 use crate::counters::{self, Shown, Totals};
 use crate::directory::{listen, open_directory, Place, Unusable};
 use crate::function::Function;
+use crate::looks::{Looks, AWAKE};
 use crate::offloads;
 use crate::options::Options;
-use crate::os::{Alarm, Interest, MappedCard, Patience, Poller};
+use crate::os::{self, Alarm, Interest, MappedCard, Patience, Poller};
+use crate::page::Touched;
 use crate::polling::Polling;
+use crate::registers::Registers;
 use crate::signals::{drain, Signals};
 use crate::source::Source;
 use crate::wire::{Arrived, NoWire, Wire};
@@ -23,7 +26,7 @@ use std::os::unix::net::UnixListener;
 use std::path::PathBuf;
 use std::time::{Duration, Instant};
 use tracing::{debug, error, info, warn};
-use vfdev::card::{CardFault, NotAdmitted, Order, Step, VECTORS};
+use vfdev::card::{CardFault, NotAdmitted, Order, Step, ROOM, VECTORS};
 use vfdev::MOST_FRAME;
 
 /// How many messages of one client are handled in a turn at most.
@@ -94,6 +97,10 @@ pub struct Server {
     pub(crate) config: Option<PathBuf>,
     // the functions whose drivers are still to be told of a change, a bit for each
     pub(crate) untold: u64,
+    // whether clients are offered pages of registers, when it looks there while it sleeps, and room for the card's answers about them
+    pub(crate) offers_pages: bool,
+    pub(crate) looks: Looks,
+    pub(crate) room: Box<[u8; ROOM]>,
     wire: Option<Wire>,
     metrics: UnixListener,
     metrics_place: Place,
@@ -104,7 +111,7 @@ pub struct Server {
     // where files go that clients sent and nobody wants
     apart: Apart,
     // the functions whose transmit queues may have more, a bit for each
-    busy: u64,
+    pub(crate) busy: u64,
     // when the first vector that waits has rested
     due: Option<Instant>,
     // the function that comes first in this turn
@@ -137,6 +144,9 @@ impl Server {
                 card.admit(function, &grant.policy).map_err(refused)?;
             }
         }
+        if options.transmit_page {
+            os::sleep_exactly()?;
+        }
         open_directory(&options.dir)?;
         let wire = options.wire.as_ref().map(Wire::open).transpose()?;
         let functions = (0..options.functions)
@@ -149,11 +159,14 @@ impl Server {
             settings,
             config: options.config.clone(),
             untold: 0,
+            offers_pages: options.transmit_page,
+            looks: Looks::default(),
+            room: Box::new([0; ROOM]),
             wire,
             metrics,
             metrics_place,
             poller: Poller::new()?,
-            polling: Polling::new(Duration::from_micros(u64::from(options.poll))),
+            polling: Polling::new(awake(options)),
             signals: Signals::new()?,
             alarm: Alarm::new()?,
             apart: Apart::default(),
@@ -191,15 +204,10 @@ impl Server {
     pub fn run(&mut self) -> Result<(), Failed> {
         let mut ready = Vec::new();
         loop {
-            let may_sleep = self.busy == 0 && self.polling.is_over();
+            let was_busy = self.busy != 0;
+            let may_sleep = !was_busy && self.polling.is_over();
             self.poller.wait(&mut ready, self.patience(may_sleep))?;
             self.totals.turns += 1;
-            match ready.is_empty() {
-                true if may_sleep => self.alarm.rest()?,
-                // (who has something to say may want this processor for it)
-                true if self.busy == 0 => std::thread::yield_now(),
-                _ => self.polling.begin_anew(),
-            }
             for source in ready.iter().filter_map(|number| Source::of(*number)) {
                 match source {
                     Source::Client(function) => self.hear(function)?,
@@ -216,18 +224,44 @@ impl Server {
                     }
                 }
             }
-            self.serve_queues();
+            let has_found = self.look_at_pages()?;
+            self.serve_queues()?;
             self.signal_vectors()?;
+            self.pace(may_sleep, was_busy || has_found || !ready.is_empty())?;
         }
     }
 
-    // How long it may be waited for clients: a vector that waits is signalled once it has rested.
+    // How long it may be waited for clients: a vector that waits is signalled once it has rested, and pages are looked at.
     fn patience(&self, may_sleep: bool) -> Patience {
-        match (may_sleep, self.due) {
-            (false, _) => Patience::None,
-            (true, None) => Patience::Endless,
-            (true, Some(due)) => Patience::For(due.saturating_duration_since(Instant::now())),
+        if !may_sleep {
+            return Patience::None;
         }
+        let rested = |due: Instant| due.saturating_duration_since(Instant::now());
+        match (self.due.map(rested), self.until_look()) {
+            (None, None) => Patience::Endless,
+            (Some(time), None) | (None, Some(time)) => Patience::For(time),
+            (Some(one), Some(two)) => Patience::For(one.min(two)),
+        }
+    }
+
+    // A turn is over, in which it slept or not, and had something to do or not.
+    fn pace(&mut self, has_slept: bool, had_work: bool) -> io::Result<()> {
+        match had_work {
+            true => {
+                self.polling.begin_anew();
+                self.looks.begin_anew();
+            }
+            false if has_slept => {
+                let is_alarm = self.until_look().is_none() || self.looks.is_long();
+                self.looks.lengthen();
+                if is_alarm {
+                    self.alarm.rest()?;
+                }
+            }
+            // (who has something to say may want this processor for it)
+            false => std::thread::yield_now(),
+        }
+        Ok(())
     }
 
     // All guests go. The sockets go with their functions.
@@ -275,14 +309,15 @@ impl Server {
             return Ok(());
         }
         self.poller.forget(&self.functions[place].listener)?;
+        self.offer_page(function);
         self.functions[place].client = Some(client);
         self.functions[place].counters.attached += 1;
         info!(function, name = %self.name(function), "attached");
         Ok(())
     }
 
-    // A connection has ended: its guest goes, and the next client may come.
-    fn end(&mut self, function: u8, ended: &Ended) -> io::Result<()> {
+    /// A connection has ended: its guest goes, and the next client may come.
+    pub(crate) fn end(&mut self, function: u8, ended: &Ended) -> io::Result<()> {
         let place = usize::from(function);
         let name = self.name(function);
         match ended.is_by_force() {
@@ -348,23 +383,47 @@ impl Server {
             return Ok(false);
         };
         here.counters.messages += 1;
+        let mut registers = Registers::new(&mut self.card, function, &mut self.room);
+        let touched = match here.page.as_mut() {
+            Some(page) => page.before(message.bytes, &mut registers)?,
+            None => Touched::Nothing,
+        };
         let files = message.files;
         let step = self
             .card
             .receive(function, message.bytes, files.len(), message.room)
             .map_err(Ended::Card)?;
-        let reply = match step {
-            Step::Answered { reply } => reply,
+        let reply = self.do_step(function, step, files)?;
+        if let Some((page, mut registers)) = self.page_of(function) {
+            page.after(touched, &mut registers)?;
+        }
+        self.reply(function, reply)
+    }
+
+    // Does what is left of a message, and tells how long its reply is.
+    fn do_step(&mut self, function: u8, step: Step, files: Vec<OwnedFd>) -> Result<usize, Ended> {
+        match step {
+            Step::Answered { reply } => Ok(reply),
             Step::Asks { order, reply } => {
                 self.do_order(function, order, files)?;
-                reply
+                Ok(reply)
             }
-            Step::Ends(breach) => return Err(Ended::Breach(breach)),
-        };
-        match self.functions[usize::from(function)].client.as_mut() {
-            Some(client) => client.reply(reply).map(|()| true),
-            None => Ok(false),
+            Step::Ends(breach) => Err(Ended::Breach(breach)),
         }
+    }
+
+    // Sends a reply of so many bytes, with the page beside it where the card says in it that there is one.
+    fn reply(&mut self, function: u8, count: usize) -> Result<bool, Ended> {
+        let here = &mut self.functions[usize::from(function)];
+        let Some(client) = here.client.as_mut() else {
+            return Ok(false);
+        };
+        let mut registers = Registers::new(&mut self.card, function, &mut self.room);
+        let beside = match here.page.as_mut() {
+            Some(page) => page.beside(client.laid(count), &mut registers)?,
+            None => None,
+        };
+        client.reply(count, beside).map(|()| true)
     }
 
     // Does what the card leaves to the shell. Files that it names no place for are closed.
@@ -423,15 +482,24 @@ impl Server {
     }
 
     // Each function whose queues may have more is served once, another one first in each turn.
-    fn serve_queues(&mut self) {
+    fn serve_queues(&mut self) -> io::Result<()> {
         let count = self.functions.len();
         self.first = (self.first + 1) % count.max(1);
         for turn in 0..count {
             let place = (self.first + turn) % count;
             if self.busy >> place & 1 == 1 {
-                self.serve_queues_of(place as u8);
+                let function = place as u8;
+                self.serve_queues_of(function);
+                let put = match self.page_of(function) {
+                    Some((page, mut registers)) => page.after_service(&mut registers),
+                    None => Ok(()),
+                };
+                if let Err(ended) = put {
+                    self.end(function, &ended)?;
+                }
             }
         }
+        Ok(())
     }
 
     fn serve_queues_of(&mut self, function: u8) {
@@ -500,7 +568,8 @@ impl Server {
         let here = &mut self.functions[usize::from(function)];
         let vectors = self.card.signal(function, here.rests.over(now));
         for vector in (0..VECTORS).filter(|vector| vectors >> vector & 1 == 1) {
-            here.rests.begin(vector, self.card.interval(function, vector), now);
+            here.rests
+                .begin(vector, self.card.interval(function, vector), now);
         }
         if self.card.raised() >> function & 1 == 1 {
             self.due = [self.due, here.rests.next()].into_iter().flatten().min();
@@ -542,6 +611,15 @@ impl Server {
                 counters: &function.counters,
             })
             .collect()
+    }
+}
+
+// How long it looks for work before it sleeps.
+fn awake(options: &Options) -> Duration {
+    let given = Duration::from_micros(u64::from(options.poll));
+    match options.transmit_page {
+        true => given.max(AWAKE),
+        false => given,
     }
 }
 

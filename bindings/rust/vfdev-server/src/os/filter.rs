@@ -35,7 +35,7 @@ enum Rule {
 use Rule::{Any, Here, Missing, Where};
 
 // The calls, by what they are for. Those of each turn stand first.
-const RULES: [Rule; 50] = [
+const RULES: [Rule; 53] = [
     Any(libc::SYS_epoll_wait),
     Any(libc::SYS_epoll_pwait2),
     Any(libc::SYS_recvmsg),
@@ -57,9 +57,19 @@ const RULES: [Rule; 50] = [
             libc::F_GETFL,
             libc::F_SETFL,
             libc::F_GET_SEALS,
+            libc::F_ADD_SEALS,
             libc::F_GETFD,
         ],
     ),
+    // (and where a client is offered a page of registers: it is made, sealed, and sent)
+    Where(
+        libc::SYS_memfd_create,
+        1,
+        -1,
+        &[(libc::MFD_CLOEXEC | libc::MFD_ALLOW_SEALING) as c_int],
+    ),
+    Any(libc::SYS_ftruncate),
+    Any(libc::SYS_sendmsg),
     Any(libc::SYS_readlink),
     Any(libc::SYS_fstatfs),
     Any(libc::SYS_statx),
@@ -329,6 +339,23 @@ mod tests {
             (
                 libc::SYS_fcntl,
                 [-1, c_long::from(libc::F_SETOWN), 0, 0, 0, 0],
+                Fate::Killed,
+            ),
+            (
+                libc::SYS_memfd_create,
+                [
+                    0,
+                    c_long::from(libc::MFD_CLOEXEC | libc::MFD_ALLOW_SEALING),
+                    0,
+                    0,
+                    0,
+                    0,
+                ],
+                went(libc::EFAULT),
+            ),
+            (
+                libc::SYS_memfd_create,
+                [0, c_long::from(libc::MFD_HUGETLB), 0, 0, 0, 0],
                 Fate::Killed,
             ),
             (

@@ -154,6 +154,14 @@ impl MappedCard {
         self.card.attach(function)
     }
 
+    /// As [`Card::offer_area`].
+    ///
+    /// # Errors
+    /// As [`Card::offer_area`].
+    pub fn offer_area(&mut self, function: u8) -> Result<(), CardFault> {
+        self.card.offer_area(function)
+    }
+
     /// A guest goes, and nothing of its memory stays mapped.
     ///
     /// # Errors

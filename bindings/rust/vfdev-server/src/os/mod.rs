@@ -7,7 +7,10 @@ mod event_file;
 mod filter;
 mod mapped_card;
 mod mapping;
+mod page;
 mod receive;
+mod send;
+mod slack;
 mod tap;
 
 pub use alarm::Alarm;
@@ -15,7 +18,10 @@ pub use epoll::{Interest, Patience, Poller};
 pub use event_file::{is_eventfd, EventFile, NotAnEventfd};
 pub use filter::allow_serving_alone;
 pub use mapped_card::{MapError, MappedCard};
+pub use page::{SharedPage, PAGE, PAGE_WORDS};
 pub use receive::{receive, Received, MOST_FILES};
+pub use send::send_with_file;
+pub use slack::sleep_exactly;
 pub use tap::open_tap;
 
 use std::io;

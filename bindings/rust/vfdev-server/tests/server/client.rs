@@ -1,11 +1,12 @@
 //! A client of vfio-user, in QEMU's place.
 
-use crate::os;
+use crate::os::{self, Memory};
 use crate::program::PATIENCE;
 use std::io::{self, Read};
-use std::os::fd::{AsFd, BorrowedFd};
+use std::os::fd::{AsFd, BorrowedFd, OwnedFd};
 use std::os::unix::net::UnixStream;
 use std::path::Path;
+use std::sync::atomic::{AtomicU32, Ordering};
 use vfdev_server::server::MOST_MESSAGES;
 
 // Commands of the protocol.
@@ -32,9 +33,15 @@ pub const WRITE: u32 = 2;
 /// A reply: the bytes behind its header, or the error.
 pub type Reply = Result<Vec<u8>, u32>;
 
+/// The page of BAR 0 that a client may be offered: where it begins, and how long it is.
+pub const PAGE: u32 = 0x2000;
+pub const PAGE_SIZE: u32 = 0x1000;
+
 /// A connection to a function.
 pub struct Client {
     pub socket: UnixStream,
+    /// The page, where it was taken: registers there are read and written without messages.
+    pub page: Option<Memory>,
     next: u16,
 }
 
@@ -89,7 +96,11 @@ impl Client {
         let socket = UnixStream::connect(path).expect("a server");
         socket.set_read_timeout(Some(PATIENCE)).expect("a limit");
         socket.set_write_timeout(Some(PATIENCE)).expect("a limit");
-        Client { socket, next: 0 }
+        Client {
+            socket,
+            page: None,
+            next: 0,
+        }
     }
 
     /// Sends a command, which wants a reply or not.
@@ -179,8 +190,40 @@ impl Client {
         self.call(SET_IRQS, &words(&[20, 0x21, 2, 0, 0]), &[])
     }
 
+    /// Asks about a region, with so much room for the answer, and tells which files came beside it.
+    pub fn ask_region(&mut self, index: u32, room: u32) -> (Vec<u8>, Vec<OwnedFd>) {
+        let asked = words(&[room, 0, index, 0, 0, 0, 0, 0]);
+        self.send(GET_REGION_INFO, &asked, &[], 0)
+            .expect("a message");
+        let is_there = os::is_readable(&self.socket, PATIENCE.as_millis() as i32);
+        assert!(is_there, "a reply");
+        let (mut reply, mut files) = ([0; 128], Vec::new());
+        let received = vfdev_server::os::receive(&self.socket, &mut reply, &mut files);
+        let count = received.expect("a reply").count;
+        assert_eq!(number(&reply, 4) as usize, count, "a whole one");
+        assert_eq!(number(&reply, 8), REPLY, "no error");
+        (reply[16..count].to_vec(), files)
+    }
+
+    /// Takes the page, as QEMU does: it asks with little room first, and then with enough.
+    pub fn take_page(&mut self) {
+        self.ask_region(0, 32);
+        let (_, mut files) = self.ask_region(0, 64);
+        let file = files.pop().expect("a file");
+        self.page = Some(Memory::of(file, PAGE.into(), PAGE_SIZE as usize));
+    }
+
+    // The word of a register in the page, where it is there.
+    fn in_page(&self, offset: u32) -> Option<&AtomicU32> {
+        let at = offset.checked_sub(PAGE).filter(|at| *at < PAGE_SIZE)?;
+        Some(self.page.as_ref()?.register(at as usize))
+    }
+
     /// Reads a register.
     pub fn read(&mut self, offset: u32) -> u32 {
+        if let Some(word) = self.in_page(offset) {
+            return word.load(Ordering::Acquire);
+        }
         number(
             &self
                 .call(REGION_READ, &access(offset), &[])
@@ -191,6 +234,9 @@ impl Client {
 
     /// Writes a register, as QEMU does: the message is posted.
     pub fn write(&mut self, offset: u32, value: u32) {
+        if let Some(word) = self.in_page(offset) {
+            return word.store(value, Ordering::Release);
+        }
         let body = [access(offset), words(&[value])].concat();
         self.send(REGION_WRITE, &body, &[], NO_REPLY)
             .expect("a write");

@@ -33,11 +33,11 @@ const API_1_3: u32 = 4;
 // Where a guest has its rings, of how many descriptors, and its buffers.
 pub const MEMORY: usize = 4 << 20;
 const RX_RING: usize = 0x10000;
-const TX_RING: usize = 0x20000;
+pub const TX_RING: usize = 0x20000;
 const RX_BUFFERS: usize = 0x10_0000;
 const TX_BUFFERS: usize = 0x20_0000;
 const BUFFER: usize = 2048;
-const COUNT: usize = 512;
+pub const COUNT: usize = 512;
 // After so many frames the driver gives its buffers anew.
 const BATCH: usize = 64;
 
@@ -56,6 +56,14 @@ impl Guest {
     /// A guest attaches: its memory is mapped, its vectors have eventfds, its driver has asked the host, and its rings are on.
     pub fn attach(server: &Server, function: u8) -> Guest {
         let mut guest = Guest::begin(server, function);
+        guest.start_driver();
+        guest
+    }
+
+    /// The same, whose transmit registers are a page that it has too.
+    pub fn attach_with_page(server: &Server, function: u8) -> Guest {
+        let mut guest = Guest::begin(server, function);
+        guest.client.take_page();
         guest.start_driver();
         guest
     }

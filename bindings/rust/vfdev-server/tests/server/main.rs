@@ -14,6 +14,7 @@ mod memory;
 mod offloads;
 #[allow(unsafe_code)]
 mod os;
+mod pages;
 mod program;
 mod reloads;
 mod sessions;

@@ -5,9 +5,9 @@ use std::io;
 use std::os::fd::{AsFd, AsRawFd, BorrowedFd, FromRawFd, OwnedFd, RawFd};
 use std::os::unix::net::UnixStream;
 use std::ptr::NonNull;
-use std::sync::atomic::{fence, AtomicU64, AtomicU8, Ordering};
+use std::sync::atomic::{fence, AtomicU32, AtomicU64, AtomicU8, Ordering};
 
-/// A guest's memory: a file, and where it is mapped here. The server reads and writes it meanwhile, so all accesses are atomic.
+/// Memory that is shared, a guest's or a page of registers: a file, and where a part of it is mapped here. The server reads and writes it meanwhile, so all accesses are atomic.
 pub struct Memory {
     pub file: OwnedFd,
     at: NonNull<u8>,
@@ -47,6 +47,11 @@ impl Memory {
         // SAFETY: the call takes numbers alone, and the file is open.
         let sealed = unsafe { libc::fcntl(file.as_raw_fd(), libc::F_ADD_SEALS, seals) };
         assert_eq!(sealed, 0, "F_ADD_SEALS: {}", io::Error::last_os_error());
+        Memory::of(OwnedFd::from(file), 0, size)
+    }
+
+    /// So many bytes of a file, from this offset on.
+    pub fn of(file: OwnedFd, offset: u64, size: usize) -> Memory {
         // SAFETY: the kernel chooses the place, and the file is open.
         let at = unsafe {
             libc::mmap(
@@ -55,12 +60,12 @@ impl Memory {
                 libc::PROT_READ | libc::PROT_WRITE,
                 libc::MAP_SHARED,
                 file.as_raw_fd(),
-                0,
+                offset as libc::off_t,
             )
         };
         assert_ne!(at, libc::MAP_FAILED, "mmap: {}", io::Error::last_os_error());
         Memory {
-            file: OwnedFd::from(file),
+            file,
             at: NonNull::new(at.cast()).expect("a place"),
             size,
         }
@@ -87,6 +92,13 @@ impl Memory {
         self.word(at).store(word, Ordering::Release);
     }
 
+    /// The word of 4 bytes at an address: a register's.
+    pub fn register(&self, at: usize) -> &AtomicU32 {
+        assert!(at % 4 == 0 && at + 4 <= self.size);
+        // SAFETY: as for the words of 8 bytes.
+        unsafe { &*self.at.as_ptr().add(at).cast() }
+    }
+
     /// So many bytes from an address on.
     pub fn read(&self, at: usize, count: usize) -> Vec<u8> {
         fence(Ordering::Acquire);
@@ -104,6 +116,12 @@ impl Memory {
         }
         fence(Ordering::Release);
     }
+}
+
+/// The seals of a file.
+pub fn seals(file: impl AsFd) -> libc::c_int {
+    // SAFETY: the call takes numbers alone, and the file is open as long as it is borrowed.
+    unsafe { libc::fcntl(file.as_fd().as_raw_fd(), libc::F_GET_SEALS) }
 }
 
 /// An eventfd, whose reads wait.

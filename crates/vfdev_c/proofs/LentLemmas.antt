@@ -7,7 +7,7 @@ use Rattle.mapped_memory.specs.Regions.{Regions}
 use Rattle.device.specs.Events.{Event}
 use Rattle.device.specs.declared.event.Answer.{Answer}
 use Rattle.device.specs.declared.response.Response.{Response}
-use Rattle.device.specs.declared.span.Span.{Span as Stretch}
+use Rattle.device.specs.declared.span.Span.{Span}
 use Rattle.device.specs.declared.event.Event.TheVariants.{Open, End, VfRead, VfWrite, MemRead, MemWrite, Serve, Flr, PfRead, PfWrite, PfReset, Wire}
 use Rattle.device.specs.declared.event.Reply.TheVariants.{Done, Value, Bytes, Idle, More, Sent, Dropped, Faulted, Refused}
 use Rattle.device.specs.Accesses.{accesses_by, accesses_but_read}
@@ -16,7 +16,7 @@ use Rattle.device.specs.Outcome.{Outcome, HasCount, answer_in, reply_by, HoldsIn
 use Rattle.device.specs.World.{World, Stepped, step}
 use Rattle.device.proofs.LiveLemmas.{length_told, told_world_none, untouched, none_listed}
 use Rattle.device.proofs.Written.{write_reads_none, still}
-use Rattle.vfdev_c.specs.declared.lending.Span.{Span}
+use Rattle.vfdev_c.specs.declared.lending.BlockSpan.{BlockSpan}
 use Rattle.vfdev_c.specs.Spans.{span, lent, one_more, block_of, blocks_of, IsBlock, AreBlocks, no_access}
 use Rattle.vfdev_c.specs.declared.handle_state.HandleState.TheVariants.{Lent}
 use Rattle.vfdev_c.specs.Handle.{Gives, IsolatedStep, Shows, bytes_shown, is_mem_read, shown}
@@ -51,7 +51,7 @@ as_many [] = refl
 as_many (m ∷ ms) = ap suc (as_many ms)
 
 -- what was lent, with one block more
-pub lent_more : (ms : List Regions) (spans : List Span) (m : Regions) (address len : ℕ) → IsBlock m → len ≡ length m.seen
+pub lent_more : (ms : List Regions) (spans : List BlockSpan) (m : Regions) (address len : ℕ) → IsBlock m → len ≡ length m.seen
     → lent (blocks_of (ms ++ m ∷ [])) (spans ++ span address len ∷ []) ≡ one_more (lent (blocks_of ms) spans) address (block_of m)
 unfolding IsBlock
 lent_more ms spans m address len is same = λ i. lent (blocks ms i) (spans ++ span address ((same ∙ is.1) i) ∷ [])
@@ -88,14 +88,14 @@ lent_gives seen old new d e a reply raised is shows answers world so once listed
 
 -- the same, where a response tells of it
 pub live_gives : (seen old new : TracedWorld) (d e : Event) (taken : Response) (reply : VfdevReply) → seen ≡ old → d ≡ kept_as e
-    → ((bytes : Stretch → List ℕ) → reply ≡ shown (reply_by bytes taken.outcome)) → TakesLive true seen.accesses new.accesses seen.world d new.world taken
+    → ((bytes : Span → List ℕ) → reply ≡ shown (reply_by bytes taken.outcome)) → TakesLive true seen.accesses new.accesses seen.world d new.world taken
     → AreAllListed seen d new → Isolates seen.world → Gives (Some (Lent old)) (Ok e) (Some (Lent new)) reply taken.messages
 live_gives seen old new d e taken reply is so told takes listed law =
     lent_gives seen old new d e (answer_in new.world taken) reply taken.messages is (shows_of new.world taken reply told) takes.takes.answer takes.takes.world so takes.met listed law
 
 -- the same, of an event but a read
 pub unread_gives : (seen old new : TracedWorld) (e : Event) (taken : Response) (reply : VfdevReply) → seen ≡ old → is_mem_read e ≡ false
-    → ((bytes : Stretch → List ℕ) → reply ≡ shown (reply_by bytes taken.outcome)) → TakesLive true seen.accesses new.accesses seen.world e new.world taken
+    → ((bytes : Span → List ℕ) → reply ≡ shown (reply_by bytes taken.outcome)) → TakesLive true seen.accesses new.accesses seen.world e new.world taken
     → AreListed (accesses_but_read (met_by seen new).world e) seen.accesses new.accesses → Isolates seen.world → Gives (Some (Lent old)) (Ok e) (Some (Lent new)) reply taken.messages
 unread_gives seen old new e taken reply is not told takes listed law =
     let same = (alike (met_by seen new).world e).unread not in

@@ -3,25 +3,25 @@ use Rattle.std.specs.Prelude.{◌≡◌, ℕ, ◌+◌, Bool, false, ◌&&◌, na
 use Rattle.std.specs.List.{list_any}
 use Rattle.live_memory.specs.Trace.{Access}
 use Rattle.mapped_memory.specs.Regions.{Part, Regions}
-use Rattle.vfdev_c.specs.declared.lending.Span.{Span}
+use Rattle.vfdev_c.specs.declared.lending.BlockSpan.{BlockSpan}
 
 -- from the address on, so many bytes
-abbrev pub span : ℕ → ℕ → Span
+abbrev pub span : ℕ → ℕ → BlockSpan
 span address len = record { address = address; len = len }
 
 -- each begins before the other ends
-abbrev pub overlap : Span → Span → Bool
+abbrev pub overlap : BlockSpan → BlockSpan → Bool
 overlap s t = nat_lt s.address (t.address + t.len) && nat_lt t.address (s.address + s.len)
 
-abbrev pub overlaps_one : Span → List Span → Bool
+abbrev pub overlaps_one : BlockSpan → List BlockSpan → Bool
 overlaps_one s all = list_any (λ t. overlap s t) all
 
 -- what was lent, the first block first: the bytes that each had then, and where it lies
 pub record Lent : Type 0 where
   pub blocks : List (List ℕ)
-  pub spans : List Span
+  pub spans : List BlockSpan
 
-abbrev pub lent : List (List ℕ) → List Span → Lent
+abbrev pub lent : List (List ℕ) → List BlockSpan → Lent
 lent blocks spans = record { blocks = blocks; spans = spans }
 
 abbrev pub none_lent : Lent

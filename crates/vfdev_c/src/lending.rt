@@ -14,7 +14,7 @@ pub const MOST_BLOCKS: usize = 64;
 
 /// Where a block lies: the address of its first byte, and how many it has.
 #[derive(Clone, Copy)]
-pub struct Span {
+pub struct BlockSpan {
     pub address: u64,
     pub len: u64,
 }
@@ -24,7 +24,7 @@ pub struct Span {
 #[derive(Drop)]
 pub struct LentBlocks {
     memories: Vec<LiveMem<'static>>,
-    spans: Vec<Span>,
+    spans: Vec<BlockSpan>,
 }
 
 impl Model for LentBlocks {
@@ -62,7 +62,7 @@ impl LentBlocks {
     }
 
     /// Whether a block overlaps one of them.
-    pub fn overlaps(&self, block: Span) -> bool
+    pub fn overlaps(&self, block: BlockSpan) -> bool
         ensures { result ≡ overlaps_one block self.now.spans }
     {
         self.spans.iter().any(|lent| overlap(block, *lent))
@@ -74,7 +74,7 @@ impl LentBlocks {
         requires block { IsBlock memory }
         ensures { self.new ≡ one_more self.old address (block_of memory.entry) }
     {
-        self.spans.push_reserved(Span {
+        self.spans.push_reserved(BlockSpan {
             address,
             len: memory.extent(),
         });
@@ -109,7 +109,7 @@ pub fn memory_of(alloc: Global, cells: &'static mut [u8]) -> Result<LiveMem<'sta
 }
 
 // Whether each of two blocks begins before the other ends.
-fn overlap(one: Span, other: Span) -> bool
+fn overlap(one: BlockSpan, other: BlockSpan) -> bool
     ensures { result ≡ overlap one other }
 {
     u128::from(one.address) < u128::from(other.address) + u128::from(other.len)

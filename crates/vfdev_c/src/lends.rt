@@ -8,7 +8,7 @@ ghost use Rattle.vfdev_c.specs.Spans.{none_lent, one_more};
 use crate::block::Block;
 use crate::handle::Vfdev;
 use crate::handle_state::HandleState;
-use crate::lending::{LentBlocks, MOST_BLOCKS, Span, memory_of};
+use crate::lending::{BlockSpan, LentBlocks, MOST_BLOCKS, memory_of};
 use crate::lent_device::LentDevice;
 use crate::making::{HELD, MADE};
 use guest_memory::is_memory_size;
@@ -101,7 +101,7 @@ fn lend_next(alloc: Global, blocks: &mut LentBlocks, cells: &'static mut [u8], a
     if !is_memory_size(cells.len() as u64) || blocks.len() >= MOST_BLOCKS {
         return u32::from(Fault::BadMake.number());
     }
-    let span = Span {
+    let span = BlockSpan {
         address,
         len: cells.len() as u64,
     };

@@ -27,7 +27,7 @@ pub struct Ended<L: Ledger> {
 
 /// What runs for a share.
 #[derive(Drop)]
-pub enum Running<M: GuestMem, L: Ledger, P: GuestPort> {
+pub enum RunningWorker<M: GuestMem, L: Ledger, P: GuestPort> {
     /// The thread of a worker that has a share of its own.
     One(PromisedHandle<WorkerResult<L>, Work<M, L, P>>),
     /// The threads of the pump and of the wire's reader.
@@ -38,7 +38,7 @@ pub enum Running<M: GuestMem, L: Ledger, P: GuestPort> {
 /// start was refused.
 #[derive(Drop)]
 pub struct Crew<M: GuestMem, L: Ledger, P: GuestPort> {
-    running: Vec<(Worker, Running<M, L, P>)>,
+    running: Vec<(Worker, RunningWorker<M, L, P>)>,
     // a start was refused, and none is tried any more
     was_refused: bool,
 }
@@ -110,7 +110,7 @@ impl<M: GuestMem, L: Ledger + Send + 'static, P: GuestPort> Crew<M, L, P> {
     }
 
     /// A worker was started, which is logged.
-    pub fn add<O: Log>(&mut self, log: &O, worker: Worker, running: Running<M, L, P>)
+    pub fn add<O: Log>(&mut self, log: &O, worker: Worker, running: RunningWorker<M, L, P>)
         ensures stays { self.new.was_refused ≡ false → self.old.was_refused ≡ false }
         ensures one { self.new.was_refused ≡ false
             → self.new.duties ≡ self.old.duties ++ duty_in running ∷ [] }
@@ -164,7 +164,7 @@ pub fn log_end<O: Log>(log: &O, worker: Worker) {
 fn join_one<M: GuestMem, L: Ledger + Send + 'static, P: GuestPort, R: Threads, O: Log>(
     rt: &R,
     log: &O,
-    one: Running<M, L, P>,
+    one: RunningWorker<M, L, P>,
     shares: &mut Vec<Share<L>>,
     ends: &mut CrewEnds,
 )
@@ -174,8 +174,8 @@ fn join_one<M: GuestMem, L: Ledger + Send + 'static, P: GuestPort, R: Threads, O
         → HaveDone (duty_in one ∷ []) shares.old.items shares.new.items }
 {
     match one {
-        Running::One(thread) => join_thread(rt, thread, shares, ends),
-        Running::Two(pair) => pair.join(rt, log, shares, ends),
+        RunningWorker::One(thread) => join_thread(rt, thread, shares, ends),
+        RunningWorker::Two(pair) => pair.join(rt, log, shares, ends),
     }
 }
 

@@ -5,7 +5,7 @@ ghost use Rattle.history.specs.declared.caller.Caller.TheVariants.{Pump};
 ghost use Rattle.workers.specs.Duties.{HaveDone, OfShare};
 ghost use Rattle.workers.specs.Pair.{AreNew, HasPumped, HasRead};
 
-use crate::crew::{Crew, CrewEnds, Running, log_end, log_start};
+use crate::crew::{Crew, CrewEnds, RunningWorker, log_end, log_start};
 use crate::door::GatedDoor;
 use crate::gate::Gate;
 use crate::starting::WorkerContext;
@@ -120,7 +120,7 @@ pub fn start_pair<
                 pump_thread,
                 reader_thread,
             };
-            crew.add(log, Worker::Reader, Running::Two(pair));
+            crew.add(log, Worker::Reader, RunningWorker::Two(pair));
         }
         Err(_) => {
             // the sender is gone, so the pump ends

@@ -4,7 +4,7 @@ ghost use Rattle.std.specs.Arc.{arc_value};
 ghost use Rattle.workers.specs.Callers.{is_port};
 ghost use Rattle.workers.specs.Duties.{IsDone, OfPort, OfShare, port_duty};
 
-use crate::crew::{Crew, Running};
+use crate::crew::{Crew, RunningWorker};
 use crate::gate::Gate;
 use crate::plan::Plan;
 use crate::work::Work;
@@ -101,7 +101,7 @@ fn start_guest<
     }
     let work = Work::Guest(Shadow::of(&*mine.plan), Shadow::of(&port));
     match thread::spawn_with(&rt, work, move || do_port(rt, mine, port)) {
-        Ok(thread) => crew.add(log, Worker::Port(pool), Running::One(thread)),
+        Ok(thread) => crew.add(log, Worker::Port(pool), RunningWorker::One(thread)),
         Err(_) => crew.refuse(),
     }
 }
@@ -149,7 +149,7 @@ pub fn start_driver<
     }
     let work = Work::Owner(Shadow::of(&*mine.plan), Shadow::of(&share));
     match thread::spawn_with(&rt, work, move || do_share(rt, mine, caller, share)) {
-        Ok(thread) => crew.add(log, worker, Running::One(thread)),
+        Ok(thread) => crew.add(log, worker, RunningWorker::One(thread)),
         Err(_) => crew.refuse(),
     }
 }

@@ -1,5 +1,5 @@
 -- Frames from the wire one after another, in one call.
-use Rattle.std.specs.Prelude.{◌≡◌, ℕ, ◌+◌, ◌&&◌, Bool, true, false, nat_le, List, [], ◌∷◌, filter, length, map, slice_range, if◌then◌else◌}
+use Rattle.std.specs.Prelude.{◌≡◌, ℕ, ◌+◌, ◌&&◌, Bool, nat_le, List, [], ◌∷◌, filter, length, map, slice_range, if◌then◌else◌}
 use Rattle.wire_frame.specs.Frame.{is_frame}
 use Rattle.irq_causes.specs.Messages.{both, no_messages}
 use Rattle.device.specs.Accesses.{accesses_by}

@@ -1,10 +1,6 @@
 //! Frames from the wire one after another, in one call.
-ghost use Rattle.std.specs.Prelude.{◌≡◌, ◌+◌, ◌≤◌, true, false, length, if◌then◌else◌};
+ghost use Rattle.std.specs.Prelude.{◌≡◌, true, false};
 ghost use Rattle.wire_frame.specs.Frame.{is_frame};
-ghost use Rattle.device.specs.Outcome.{messages_or_refused};
-ghost use Rattle.device.specs.Live.{told_world};
-ghost use Rattle.device.specs.World.{step};
-ghost use Rattle.device.specs.declared.event.Event.TheVariants.{Wire};
 ghost use Rattle.live_run.specs.Arrivals.{IsArrival, IsWireBurst, cut};
 
 use device::Device;

@@ -1,10 +1,9 @@
 -- Frame by frame.
-use Rattle.std.proofs.Common.{◌≡◌, ◌+◌, ◌<◌, ◌≤◌, ℕ, Bool, true, false, List, length, take, get_or, arith, ap, refl, subst, sym, ◌∙◌}
-use Rattle.std.specs.Prelude.{slice_index, if◌then◌else◌}
+use Rattle.std.proofs.Common.{ℕ, List, arith, ap, subst, ◌∙◌}
 use Rattle.std.proofs.lemmas.List.{take_all}
 use Rattle.device.specs.Lone.{seen_by, lone_of}
 use Rattle.device.specs.Live.{trace_of}
-use Rattle.live_run.specs.Arrivals.{arrivals, cut}
+use Rattle.live_run.specs.Arrivals.{arrivals}
 use Rattle.live_run.proofs.Runs.{live_state, live_sight, live_made}
 use Rattle.live_run.proofs.WireSteps.{WireSoFar, at_most_one, none_came, next_came}
 use Rattle.live_run.proofs.wire_bursts.wire_burst.Goals as goal

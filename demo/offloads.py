@@ -12,6 +12,7 @@ LONG_MTU = 9000
 LONG_PING = LONG_MTU - 28
 # Everything but what makes interrupts fewer: vectors that are masked, and intervals between messages.
 UNMASKED = "vlan,checksum,segmentation,legacy-receive,receive-checksum"
+MASKED = UNMASKED + ",auto-mask"
 ROUNDS = 3
 
 
@@ -86,7 +87,7 @@ def interrupts(stage):
     before = stage.setting.offloads
     table = {}
     try:
-        for masked, offloads in (("with VTEIAM", "all"), ("without", UNMASKED)):
+        for masked, offloads in (("with VTEIAM", MASKED), ("without", UNMASKED)):
             stage.setting.offloads = offloads
             stage.again()
             pair = stage.pair()

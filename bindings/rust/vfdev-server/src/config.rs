@@ -155,10 +155,10 @@ impl Text<'_> {
         Ok(ids)
     }
 
-    // What the card does for all guests: everything, where nothing is said.
+    // What the card does for all guests: what is usual, where nothing is said.
     fn offloads(&self, written: Option<&Spanned<offloads::Written>>) -> Result<Offloads, Refused> {
         let Some(written) = written else {
-            return Ok(Offloads::ALL);
+            return Ok(offloads::USUAL);
         };
         let names = match written.get_ref() {
             offloads::Written::List(names) => names,
@@ -344,7 +344,7 @@ impl Settings {
         Settings {
             ids: vec![0],
             default_function: None,
-            offloads: Offloads::ALL,
+            offloads: offloads::USUAL,
             grants: (0..functions).map(|number| Some(grant(number))).collect(),
         }
     }
@@ -483,7 +483,7 @@ mod tests {
             ..Offloads::NONE
         };
         for (line, due) in [
-            ("", Ok(Offloads::ALL)),
+            ("", Ok(offloads::USUAL)),
             ("offloads = \"all\"", Ok(Offloads::ALL)),
             ("offloads = []", Ok(Offloads::NONE)),
             ("offloads = \"none\"", Ok(Offloads::NONE)),

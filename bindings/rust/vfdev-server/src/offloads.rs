@@ -25,6 +25,13 @@ const LEGACY_RECEIVE: &str = "legacy-receive";
 const THROTTLE: &str = "throttle";
 const RECEIVE_CHECKSUM: &str = "receive-checksum";
 
+/// What the card does where nothing else is said: all but to hold interrupts back as far apart as drivers ask for, since that costs a guest more
+/// than the interrupts do where it has no processor to itself.
+pub const USUAL: Offloads = Offloads {
+    throttle: false,
+    ..Offloads::ALL
+};
+
 /// Why a name can't be among offloads.
 #[derive(Clone, Debug, PartialEq, Eq)]
 #[non_exhaustive]

@@ -35,7 +35,8 @@ pub struct Options {
     pub frame: u16,
 
     /// What the card does for the drivers of its guests: all, none, or names of vlan, checksum, segmentation, auto-mask, legacy-receive, throttle
-    /// and receive-checksum with commas between. It holds in place of the configuration's `offloads`; without both it is all
+    /// and receive-checksum with commas between. It holds in place of the configuration's `offloads`; without both it is all but
+    /// throttle
     #[arg(long, value_name = "LIST", value_parser = offloads::parse)]
     pub offloads: Option<Offloads>,
 

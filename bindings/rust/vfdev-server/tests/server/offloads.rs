@@ -163,7 +163,7 @@ fn what_cannot_be_done_is_counted() {
 fn interrupts_are_as_far_apart_as_the_driver_asks() {
     const INTERVAL: Duration = Duration::from_micros(1022);
     const COUNTER: &str = "vfdev_interrupts_total{function=\"1\",name=\"vf1\"}";
-    let server = Server::new(2);
+    let server = Server::with(Folder::new(), 2, &["--offloads", "all"]);
     let (mut one, mut two) = (Guest::attach(&server, 0), Guest::attach(&server, 1));
     two.client.write(regs::vteitr(0), 0xFFFF_FFFF);
     assert_eq!(two.client.read(regs::vteitr(0)), 0xFF8);

@@ -147,5 +147,10 @@ fn offloads_stay_as_they_were_at_the_start() {
         ],
     );
     assert!(!server.log().contains("the configuration is taken"));
-    reload(&server, &with("\"all\""), &["the configuration is taken"]);
+    let usual = "vlan,checksum,segmentation,auto-mask,legacy-receive,receive-checksum";
+    reload(
+        &server,
+        &with(&format!("\"{usual}\"")),
+        &["the configuration is taken"],
+    );
 }

@@ -102,15 +102,17 @@ fn a_bad_configuration_is_told_with_its_line() {
     }
 }
 
-// What the card does: everything where nothing is said, what the configuration says, and what the word says before all.
+// What the card does: what is usual where nothing is said, what the configuration says, and what the word says before all.
 #[test]
 fn offloads_are_those_of_the_word_or_of_the_configuration() {
+    let usual = "offloads=vlan,checksum,segmentation,auto-mask,legacy-receive,receive-checksum";
     let text = "vlans = [0]\noffloads = [\"checksum\", \"vlan\"]\n";
     for (text, words, made) in [
-        (None, &[][..], "offloads=all"),
+        (None, &[][..], usual),
+        (None, &["--offloads", "all"], "offloads=all"),
         (None, &["--offloads", "none"], "offloads=none"),
         (None, &["--offloads", "auto-mask"], "offloads=auto-mask"),
-        (Some("vlans = [0]\n"), &[], "offloads=all"),
+        (Some("vlans = [0]\n"), &[], usual),
         (Some(text), &[], "offloads=vlan,checksum"),
         (Some(text), &["--offloads", "all"], "offloads=all"),
     ] {

@@ -92,12 +92,14 @@ static void cut(void)
 }
 
 /* The bytes that `cut` sends, in frames that lie behind one another as a driver would have made them. */
-static void plain_large(void)
+static void give_large(uint64_t asks)
 {
     for (uint32_t i = 0; i < SEGMENTS; i++)
-        put((sent + i) % SLOTS, FRAMES + (HEADERS + MSS) * i, DATA | (HEADERS + MSS));
+        put((sent + i) % SLOTS, FRAMES + (HEADERS + MSS) * i, asks | DATA | (HEADERS + MSS));
     give(SEGMENTS, SEGMENTS);
 }
+static void plain_large(void) { give_large(0); }
+static void summed_large(void) { give_large(TXSM); }
 
 static const struct row {
     const char *name;
@@ -108,6 +110,7 @@ static const struct row {
     {"60 bytes, a context before each, with tag and sum", summed_in_pairs, pairs, BURST / 2},
     {"60 bytes with tag and sum, under one context", summed, burst, BURST},
     {"1,502 bytes, as they stand", nothing, plain_large, SEGMENTS},
+    {"1,502 bytes with their sum", nothing, summed_large, SEGMENTS},
     {"1,502 bytes, cut from 65,214", cut, one_large, SEGMENTS},
 };
 

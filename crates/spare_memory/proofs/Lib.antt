@@ -1,3 +1,4 @@
 mod Exchanged
 mod Remapped
 mod Places
+mod Devices

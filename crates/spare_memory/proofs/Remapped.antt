@@ -20,7 +20,7 @@ moved_back : (f : Function) (a b : List ℕ) → IsFormer f b → moved_to (move
 moved_back (Closed size) a b former = refl
 moved_back (Open s) a b former = ap (λ (m : List ℕ). Open (record s { memory = m })) former
 
-over_back : (w : World) (p : ℕ) (a b : List ℕ) → p < length w.functions → IsFormer (function_of p w) b → over_memory (over_memory w p a) p b ≡ w
+pub over_back : (w : World) (p : ℕ) (a b : List ℕ) → p < length w.functions → IsFormer (function_of p w) b → over_memory (over_memory w p a) p b ≡ w
 over_back w p a b inside former =
     ap (λ (f : Function). with_function (over_memory w p a) p (moved_to f b)) (get_or-set_same w.functions p (moved_to (function_of p w) a) (Closed 0) inside)
     ∙ ap (λ (fs : List Function). record w { functions = fs })
@@ -46,7 +46,7 @@ both_ways false true none = (refl, refl)
 both_ways false false none = absurd (true≢false (sym (ap is_none_of none)))
 
 -- a function that isn't refused another memory is there
-there : (w : World) (p n : ℕ) → replace_refusal w p n ≡ None → p < length w.functions
+pub there : (w : World) (p n : ℕ) → replace_refusal w p n ≡ None → p < length w.functions
 there w p n taken = let (inside, same) = both_ways (nat_le (length w.functions) p) (size_of (function_of p w) == n) taken in grind (arith, nat_tests)
 
 pub stays_there : (w v : World) (p : ℕ) (a b : List ℕ) → replace_refusal w p (length a) ≡ None → v ≡ over_memory w p a → length b ≡ length a → replace_refusal v p (length b) ≡ None

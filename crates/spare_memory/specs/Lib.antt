@@ -1,2 +1,3 @@
 pub mod Spares
 pub mod Refused
+pub mod Devices

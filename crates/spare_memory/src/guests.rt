@@ -111,7 +111,7 @@ impl<'a> Spares<'a> {
 }
 
 // A guest's memory as the next guest has it.
-fn for_next<'a>(former: Traced<LiveMem<'a>, Shared>) -> LiveMem<'a>
+pub(crate) fn for_next<'a>(former: Traced<LiveMem<'a>, Shared>) -> LiveMem<'a>
     ensures spare { IsSpare result }
     ensures size { size_in result ≡ length former.entry.memory.seen }
 {

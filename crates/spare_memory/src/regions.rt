@@ -101,7 +101,7 @@ impl<'a> Spares<'a> {
 
 // Maps a region of a memory that is out of the card.
 #[tactic(auto, using(crate::proofs::Places::has_place, crate::proofs::Places::has_why))]
-fn map_in<'a>(
+pub(crate) fn map_in<'a>(
     memory: &mut LiveMem<'a>,
     at: u64,
     cells: &'a mut [u8],
@@ -162,7 +162,7 @@ fn put_back<'a>(
 }
 
 // Why a function's memory can't be taken out.
-fn why_not(fault: Fault) -> NotMapped
+pub(crate) fn why_not(fault: Fault) -> NotMapped
     ensures { Some result ≡ without_memory (Some fault) }
 {
     if fault == Fault::NoSuchVf {

@@ -10,10 +10,10 @@ use std::alloc::{AllocError, Global};
 use std::marker::Model;
 use wire_frame::Fault;
 
-/// How many functions a card may have.
+/// How many functions a card or a device may have.
 const FUNCTIONS: usize = 64;
 
-/// For each of 64 functions a memory that its card doesn't have: one of 64 TiB of addresses, of which none is mapped, for the guest that
+/// For each of 64 functions a memory that its card or device doesn't have: one of 64 TiB of addresses, of which none is mapped, for the guest that
 /// comes; or, while a guest is there, the one of no bytes that a vacant function has. And one more, which stands in a guest's place
 /// while a region is mapped. In contracts it is how many bytes the memory of each function has.
 #[derive(Drop)]

@@ -5,7 +5,7 @@ use Rattle.std.proofs.Math.Seq.{take-nil}
 use Rattle.std.specs.List.{list_all}
 use Rattle.mapped_memory.specs.Regions.{Regions}
 use Rattle.std.proofs.lemmas.Bool.Decides.{nat_tests}
-use Rattle.std.specs.Prelude.{drop, is_some, slice_index, slice_index_or, IfSome, if◌then◌else◌}
+use Rattle.std.specs.Prelude.{drop, is_some, slice_index, slice_index_or, IfErr, IfSome, Result, Ok, Err, if◌then◌else◌}
 use Rattle.vfio_session.specs.Answers.{answer_to}
 use Rattle.vfio_session.specs.Decisions.{Says}
 use Rattle.vfio_session.specs.declared.decision.Breach.{Breach}
@@ -17,7 +17,8 @@ use Rattle.card.specs.Told.{Told}
 use Rattle.card.specs.declared.step.Order.{Order}
 use Rattle.card.specs.declared.step.Step.{Step}
 use Rattle.card.specs.declared.step.Step.TheVariants.{Answered, Asks, Ends}
-use Rattle.wire_frame.specs.declared.fault.Fault.TheVariants.{NoSuchVf}
+use Rattle.wire_frame.specs.declared.fault.Fault.{Fault}
+use Rattle.wire_frame.specs.declared.fault.Fault.TheVariants.{NoMemory, NoSuchVf}
 use Rattle.device.specs.Guests.{attach_refusal, is_for_guests, is_in_space}
 use Rattle.device.specs.Lone.{lone_of}
 use Rattle.device.specs.World.{World}
@@ -136,6 +137,11 @@ pool_at None n some is = go (nat_lt n 64) some
 pub vacant_for_guests : (functions : ℕ) → 1 ≤ functions → functions ≤ 64 → is_for_guests (replicate functions 0) ≡ true
 unfolding is_for_guests
 vacant_for_guests n least most = rw (length_same 0 n, all_same is_in_space 0 n refl) (grind (arith, nat_tests))
+
+-- where all numbers are within their limits, only memory can be lacking
+pub no_memory_then : {X : Type 0} (r : Result X Fault) (b : Bool) → b ≡ true → IfErr r (λ e. b ≡ true → e ≡ NoMemory) → IfErr r (λ e. e ≡ NoMemory)
+no_memory_then (Ok x) b is none = tt
+no_memory_then (Err e) b is none = none is
 
 each_same : {A B : Type 0} (f : A → B) (n : ℕ) (x : A) → map f (replicate n x) ≡ replicate n (f x)
 each_same f zero x = refl

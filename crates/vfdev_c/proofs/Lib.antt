@@ -1,4 +1,6 @@
+mod BlockLemmas
 mod CardLemmas
+mod GuestLemmas
 mod HandleLemmas
 mod LentLemmas
 mod RecordedLemmas

@@ -53,12 +53,12 @@ use Rattle.spare_memory.specs.declared.regions.NotMapped.TheVariants.{NoSuchVf, 
 use Rattle.vfdev_c.specs.Cards.{HeldCard}
 use Rattle.vfdev_c.specs.Handle.{Held, refused_as, shown}
 use Rattle.vfdev_c.specs.declared.card_frames.VfdevCardMore.{VfdevCardMore}
-use Rattle.vfdev_c.specs.declared.card_frames.VfdevCardWired.{VfdevCardWired}
 use Rattle.vfdev_c.specs.declared.card_policies.VfdevCardAdmission.{VfdevCardAdmission}
 use Rattle.vfdev_c.specs.declared.card_policies.VfdevCardPolicy.{VfdevCardPolicy}
 use Rattle.vfdev_c.specs.declared.card_step.VfdevCardStep.{VfdevCardStep}
 use Rattle.vfdev_c.specs.declared.handle_state.HandleState.TheVariants.{Card}
 use Rattle.vfdev_c.specs.declared.reply.VfdevReply.{VfdevReply}
+use Rattle.vfdev_c.specs.declared.wired.VfdevWired.{VfdevWired}
 
 -- a card as a call leaves it, where the handle leads to one
 abbrev pub on_card : Held → (HeldCard → HeldCard) → Held
@@ -256,11 +256,14 @@ pub record Serves (p : ℕ) (c d : HeldCard) (more : VfdevCardMore) : Type 0 whe
   pub spares : d.spares ≡ c.spares
 
 -- the frame of that number, where there is room for it
-abbrev pub frame_at : ℕ → List ℕ → HeldCard → Option (List ℕ)
-frame_at n out c =
-    if nat_lt n (length c.frames.frames) && nat_le (length (slice_index_or c.frames.frames n [])) (length out)
-    then Some (slice_index_or c.frames.frames n [])
+abbrev pub frame_in_room : ℕ → List ℕ → Room → Option (List ℕ)
+frame_in_room n out r =
+    if nat_lt n (length r.frames) && nat_le (length (slice_index_or r.frames n [])) (length out)
+    then Some (slice_index_or r.frames n [])
     else None
+
+abbrev pub frame_at : ℕ → List ℕ → HeldCard → Option (List ℕ)
+frame_at n out c = frame_in_room n out c.frames
 
 abbrev pub busy_at : ℕ → HeldCard → Bool
 busy_at p c = nat_lt p 64 && is_busy (end_at c.card p)
@@ -300,11 +303,11 @@ pub record Wires (frame : List ℕ) (c d : HeldCard) (reply : VfdevReply) : Type
   pub spares : d.spares ≡ c.spares
   pub frames : d.frames ≡ c.frames
 
-abbrev pub none_wired : VfdevCardWired
+abbrev pub none_wired : VfdevWired
 none_wired = record { taken = 0; refused = 0 }
 
 -- frames came one after another, by where they lie and end
-pub record WiresAll (ends_at bytes : List ℕ) (c d : HeldCard) (wired : VfdevCardWired) : Type 0 where
+pub record WiresAll (ends_at bytes : List ℕ) (c d : HeldCard) (wired : VfdevWired) : Type 0 where
   pub came : AreWired true ends_at bytes c.card d.card (record { taken = wired.taken; refused = wired.refused })
   pub spares : d.spares ≡ c.spares
   pub frames : d.frames ≡ c.frames

@@ -21,13 +21,14 @@ use Rattle.history.specs.Entries.{Entry, is_cap, events, given}
 use Rattle.history.specs.Recording.{made_like}
 use Rattle.vfdev_c.specs.declared.reply.VfdevReply.{VfdevReply}
 use Rattle.vfdev_c.specs.declared.handle_state.HandleState.{HandleState}
-use Rattle.vfdev_c.specs.declared.handle_state.HandleState.TheVariants.{Lending, Made, Kept, Lent, Card}
+use Rattle.vfdev_c.specs.declared.handle_state.HandleState.TheVariants.{Lending, Made, Kept, Lent, Card, Guests}
+use Rattle.vfdev_c.specs.GuestDevices.{with_device}
 use Rattle.vfdev_c.specs.LentWorld.{untouched, met_by, taken_by, AreOnce, AreAllListed}
 use Rattle.vfdev_c.specs.Recorded.{is_full, keeping}
 use Rattle.vfdev_c.specs.Spans.{Lent as Blocks, none_lent, no_access, span, overlaps_one}
 
 -- what a handle leads to: nothing, blocks that were lent for a device, a device over memories of its own, one whose calls are kept, a
--- device over lent blocks, or a card
+-- device over lent blocks, a card, or a device of guests that come and go
 abbrev pub Held : Type 0
 Held = Option HandleState
 
@@ -106,6 +107,7 @@ serve_asked function queue out = serve_at function (queue_of queue) out
 -- of its memory, and else what the handle led to
 abbrev pub met : Held → Requested → Held → Held
 met (Some (Lent old)) (Ok e) (Some (Lent new)) = Some (Lent (met_by old new))
+met (Some (Guests old)) (Ok e) (Some (Guests new)) = Some (Guests (with_device old (met_by old.device new.device)))
 met held asked new = held
 
 -- what a call leaves and answers: what the handle leads to, the reply, the messages that it issued for each pool, the frame that left
@@ -142,6 +144,7 @@ given_by held (Err reply) = unasked held reply
 given_by (Some (Made w)) (Ok e) = taken (Some (Made (step w e).world)) w e
 given_by (Some (Kept r)) (Ok e) = if is_full r then unasked (Some (Kept r)) history_full else taken (Some (Kept (keeping r e))) r.live e
 given_by (Some (Lent l)) (Ok e) = taken (Some (Lent (taken_by l e))) l.world e
+given_by (Some (Guests g)) (Ok e) = taken (Some (Guests (with_device g (taken_by g.device e)))) g.device.world e
 given_by held (Ok e) = unasked held no_device
 
 -- the messages stand in the first 64 bytes, where there is room; no other byte changes
@@ -181,17 +184,20 @@ abbrev pub Isolated : Held → Requested → Held → Type 0
 Isolated (Some (Made w)) (Ok e) (Some (Made new)) = IsolatedStep w e new
 Isolated (Some (Kept r)) (Ok e) (Some (Kept new)) = is_full r ≡ false → IsolatedStep r.live e new.live
 Isolated (Some (Lent l)) (Ok e) (Some (Lent new)) = IsolatedStep l.world e new.world
+Isolated (Some (Guests g)) (Ok e) (Some (Guests new)) = IsolatedStep g.device.world e new.device.world
 Isolated held asked new = Unit
 
 -- no byte of a function's memory was read after it was read or written in the call
 abbrev pub ReadsOnce : Held → Requested → Held → Type 0
 ReadsOnce (Some (Lent old)) (Ok e) (Some (Lent new)) = AreOnce old new
+ReadsOnce (Some (Guests old)) (Ok e) (Some (Guests new)) = AreOnce old.device new.device
 ReadsOnce old asked new = Unit
 
 -- what was read and written of each guest's memory is just what the event lists, in that order; a call that asks no event accesses
 -- none, as the handle then leads to what it led to
 abbrev pub AccessesListed : Held → Requested → Held → Type 0
 AccessesListed (Some (Lent old)) (Ok e) (Some (Lent new)) = AreAllListed old e new
+AccessesListed (Some (Guests old)) (Ok e) (Some (Guests new)) = AreAllListed old.device e new.device
 AccessesListed old asked new = Unit
 
 -- ---- a call
@@ -263,6 +269,7 @@ is_made (Some (Made w)) = true
 is_made (Some (Kept r)) = true
 is_made (Some (Lent l)) = true
 is_made (Some (Card c)) = true
+is_made (Some (Guests g)) = true
 is_made held = false
 
 -- ---- kept calls

@@ -1,5 +1,7 @@
 pub mod CardCalls
 pub mod Cards
+pub mod GuestCalls
+pub mod GuestDevices
 pub mod Handle
 pub mod LentWorld
 pub mod Ownership

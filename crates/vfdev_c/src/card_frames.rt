@@ -7,8 +7,10 @@ ghost use Rattle.vfdev_c.specs.Handle.{frame_in, length_in, no_device};
 use crate::card_held::CardHeld;
 use crate::handle::Vfdev;
 use crate::handle_state::{MOST_FRAME, lay};
+use crate::left::lay_left;
 use crate::on_card::on_card;
 use crate::reply::VfdevReply;
+use crate::wired::VfdevWired;
 use irq_causes::Vectors;
 use std::alloc::Global;
 use vf_unit::Vector;
@@ -22,16 +24,6 @@ pub struct VfdevCardMore {
     pub frames: usize,
     /// 1 where a queue may have more.
     pub goes_on: u32,
-}
-
-/// What came of frames from the wire, as C sees it.
-#[repr(C)]
-#[derive(Clone, Copy, Debug, PartialEq, Eq)]
-pub struct VfdevCardWired {
-    /// How many frames the card took.
-    pub taken: usize,
-    /// How many were refused.
-    pub refused: usize,
 }
 
 /// Takes descriptors of a function's busy transmit queues.
@@ -91,10 +83,10 @@ pub extern "C" fn vfdev_card_wire_burst(
     handle: &mut Vfdev,
     bytes: &[u8],
     ends: &[usize],
-) -> VfdevCardWired
+) -> VfdevWired
     ensures called { OnCard none_wired (WiresAll ends.now bytes.now) handle.old.owner.held handle.new.owner.held result }
 {
-    on_card!(handle, alloc, VfdevCardWired::none(), held => held.wire_burst(bytes, ends))
+    on_card!(handle, alloc, VfdevWired::none(), held => held.wire_burst(bytes, ends))
 }
 
 /// The functions that have vectors which were raised and not handed out.
@@ -154,17 +146,6 @@ impl VfdevCardMore {
     }
 }
 
-impl VfdevCardWired {
-    fn none() -> VfdevCardWired
-        ensures { result ≡ none_wired }
-    {
-        VfdevCardWired {
-            taken: 0,
-            refused: 0,
-        }
-    }
-}
-
 impl CardHeld {
     // Takes descriptors.
     fn more(&mut self, function: u8) -> VfdevCardMore
@@ -186,15 +167,7 @@ impl CardHeld {
         ensures length { result ≡ length_in (frame_at number out.old self.now) }
         ensures bytes { out.new ≡ frame_in (frame_at number out.old self.now) out.old }
     {
-        if number as usize >= self.frames.len() {
-            return 0;
-        }
-        let bytes = self.frames.frame(number as usize);
-        if bytes.len() > out.len() {
-            return 0;
-        }
-        out[..bytes.len()].copy_from_slice(bytes);
-        bytes.len()
+        lay_left(&self.frames, number, out)
     }
 
     fn is_busy(&self, function: u8) -> bool
@@ -230,11 +203,11 @@ impl CardHeld {
     }
 
     // Frames from the wire.
-    fn wire_burst(&mut self, bytes: &[u8], ends: &[usize]) -> VfdevCardWired
+    fn wire_burst(&mut self, bytes: &[u8], ends: &[usize]) -> VfdevWired
         ensures { WiresAll ends.now bytes.now self.old self.new result }
     {
         let came = self.card.wire_burst(bytes, ends, &mut self.frame);
-        VfdevCardWired {
+        VfdevWired {
             taken: came.taken,
             refused: came.refused,
         }

@@ -163,7 +163,7 @@ impl CardHeld {
 }
 
 // The number of a reason.
-fn number_of(why: NotMapped) -> u32
+pub(crate) fn number_of(why: NotMapped) -> u32
     ensures { result ≡ reason_number why }
 {
     match why {

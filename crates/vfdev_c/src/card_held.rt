@@ -22,10 +22,10 @@ const MOST: usize = 64;
 pub const NOBODY: u8 = 255;
 
 /// How many frames may leave in one call: as many as the descriptors that it takes at most.
-const MOST_FRAMES: usize = 256;
+pub(crate) const MOST_FRAMES: usize = 256;
 
 /// How many bytes they may have together. With less room for one more than the longest frame has, no descriptor is taken.
-const FRAME_BYTES: usize = 262_144;
+pub(crate) const FRAME_BYTES: usize = 262_144;
 
 /// A card over memories of guests, with spare memories for those that come, and room for frames that leave.
 #[derive(Drop)]
@@ -141,7 +141,7 @@ fn ids_of(alloc: Global, numbers: &[u16]) -> Result<Vec<Vid>, Fault>
 }
 
 // The memories of as many vacant functions.
-fn vacancies(alloc: Global, functions: u32) -> Result<Vec<LiveMem<'static>>, Fault>
+pub(crate) fn vacancies(alloc: Global, functions: u32) -> Result<Vec<LiveMem<'static>>, Fault>
     ensures ok { IfOk result (λ memories. memories.items ≡ replicate functions (unmapped 0)) }
     ensures no_memory { IfErr result (λ e. e ≡ Fault.NoMemory) }
 {

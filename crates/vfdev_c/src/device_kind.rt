@@ -9,7 +9,8 @@ use crate::reply::VfdevReply;
 use device::{Queue, Request};
 use irq_causes::Messages;
 
-/// A kind of device that a handle may lead to: one over memories of its own, one whose calls are kept, or one over lent blocks.
+/// A kind of device that a handle may lead to: one over memories of its own, one whose calls are kept, one over lent blocks, or one
+/// of guests.
 pub trait DeviceKind {
     ghost held: { Self → Held };
 

@@ -8,7 +8,7 @@ use std::alloc::Global;
 use std::mem::replace;
 
 /// What C holds of a device: it leads to nothing, to blocks that were lent for a device, to a device over memories of its own, to one
-/// whose calls are kept, to a device over lent blocks, or to a card.
+/// whose calls are kept, to a device over lent blocks, to a card, or to a device of guests.
 #[repr(C)]
 #[derive(Drop)]
 pub struct Vfdev {

@@ -10,6 +10,7 @@ ghost use Rattle.vfdev_c.specs.Handle.{Gives, Shows, frame_in, length_in, Isolat
 
 use crate::card_held::CardHeld;
 use crate::device_kind::DeviceKind;
+use crate::guest_device::GuestDevice;
 use crate::lending::LentBlocks;
 use crate::lent_device::LentDevice;
 use crate::recorder::Recorder;
@@ -39,6 +40,8 @@ pub enum HandleState {
     Lent(LentDevice),
     /// A card.
     Card(CardHeld),
+    /// A device of guests that come and go.
+    Guests(GuestDevice),
 }
 
 /// A device, with room for a frame that comes or goes.

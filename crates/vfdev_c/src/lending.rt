@@ -109,7 +109,7 @@ pub fn memory_of(alloc: Global, cells: &'static mut [u8]) -> Result<LiveMem<'sta
 }
 
 // Whether each of two blocks begins before the other ends.
-fn overlap(one: BlockSpan, other: BlockSpan) -> bool
+pub(crate) fn overlap(one: BlockSpan, other: BlockSpan) -> bool
     ensures { result ≡ overlap one other }
 {
     u128::from(one.address) < u128::from(other.address) + u128::from(other.len)

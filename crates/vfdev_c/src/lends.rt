@@ -50,8 +50,11 @@ pub extern "C" fn vfdev_lend_at(
     };
     let answer = match &mut *state {
         HandleState::Lending(blocks) => lend_next(alloc, blocks, cells, address),
-        HandleState::Made(_) | HandleState::Kept(_) | HandleState::Lent(_) | HandleState::Card(_) =>
-            HELD,
+        HandleState::Made(_)
+        | HandleState::Kept(_)
+        | HandleState::Lent(_)
+        | HandleState::Card(_)
+        | HandleState::Guests(_) => HELD,
     };
     handle.put(state);
     answer
@@ -144,7 +147,11 @@ pub extern "C" fn vfdev_make_lent(alloc: Global, handle: &mut Vfdev, limit: u16)
     };
     if matches!(
         &*state,
-        HandleState::Made(_) | HandleState::Kept(_) | HandleState::Lent(_) | HandleState::Card(_)
+        HandleState::Made(_)
+            | HandleState::Kept(_)
+            | HandleState::Lent(_)
+            | HandleState::Card(_)
+            | HandleState::Guests(_)
     ) {
         handle.put(state);
         return HELD;
@@ -155,8 +162,11 @@ pub extern "C" fn vfdev_make_lent(alloc: Global, handle: &mut Vfdev, limit: u16)
     }
     let blocks = match Box::into_inner(state) {
         HandleState::Lending(blocks) => blocks,
-        HandleState::Made(_) | HandleState::Kept(_) | HandleState::Lent(_) | HandleState::Card(_) =>
-            unreachable!(),
+        HandleState::Made(_)
+        | HandleState::Kept(_)
+        | HandleState::Lent(_)
+        | HandleState::Card(_)
+        | HandleState::Guests(_) => unreachable!(),
     };
     match boxed_over(alloc, blocks.into_memories(), limit) {
         Ok(state) => {

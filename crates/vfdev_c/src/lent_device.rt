@@ -1,7 +1,10 @@
 //! A device over blocks that guests write while it works on them.
-ghost use Rattle.std.specs.Prelude.{◌≡◌, ◌&&◌, true, false, map, length, Some, Ok, Err, IfOk, IfErr};
+ghost use Rattle.std.specs.Prelude.{◌≡◌, ◌≤◌, ◌⊎◌, ◌&&◌, true, false, map, length, Some, Ok, Err, IfOk, IfErr};
 ghost use Rattle.device.specs.World.{fresh, is_frame_limit, is_makeable};
 ghost use Rattle.device.specs.Request.{event_of};
+ghost use Rattle.live_run.specs.Arrivals.{IsWireBurst};
+ghost use Rattle.live_run.specs.Bursts.{IsBurst};
+ghost use Rattle.live_run.specs.Frames.{has_room};
 ghost use Rattle.vfdev_c.specs.Handle.{Gives, is_mem_read};
 ghost use Rattle.vfdev_c.specs.LentWorld.{untouched};
 
@@ -14,6 +17,7 @@ use crate::reply::VfdevReply;
 use device::{Device, MemSlice, Queue, Request};
 use irq_causes::Messages;
 use live_memory::Shared;
+use live_run::{Burst, Frames, WireBurst, serve_burst, wire_burst};
 use mapped_memory::LiveMem;
 use std::alloc::Global;
 use std::marker::Model;
@@ -23,7 +27,7 @@ use wire_frame::{Fault, FrameBuf};
 /// world, and all that it read and wrote of each function's memory since it was made, in order.
 #[derive(Drop)]
 pub struct LentDevice {
-    device: Device<LiveMem<'static>, Shared>,
+    pub(crate) device: Device<LiveMem<'static>, Shared>,
     frame: FrameBuf,
 }
 
@@ -54,10 +58,43 @@ impl LentDevice {
             ≡ true → e ≡ Fault.NoMemory) }
     {
         let device = Device::with_limit(alloc, memories, limit)?;
-        Ok(LentDevice {
+        Ok(LentDevice::over(device))
+    }
+
+    /// The device.
+    pub fn over(device: Device<LiveMem<'static>, Shared>) -> LentDevice
+        ensures { result ≡ device.entry }
+    {
+        LentDevice {
             device,
             frame: FrameBuf::blank(),
-        })
+        }
+    }
+}
+
+impl LentDevice {
+    // Takes descriptors of a transmit queue one after another.
+    pub(crate) fn serve_burst(
+        &mut self,
+        function: u8,
+        queue: Queue,
+        most: usize,
+        frames: &mut Frames,
+    ) -> Burst
+        ensures burst { IsBurst true function queue self.old frames.old self.new frames.new result }
+        ensures most { result.taken ≤ most }
+        ensures why { result.goes_on ≡ true → (result.taken ≡ most) ⊎ (has_room frames.new ≡ false) }
+    {
+        let LentDevice { device, frame } = self;
+        serve_burst(device, function, queue, most, frames, frame)
+    }
+
+    // Takes frames from the wire one after another.
+    pub(crate) fn wire_burst(&mut self, bytes: &[u8], ends: &[usize]) -> WireBurst
+        ensures { IsWireBurst true self.old ends.now bytes.now self.new result }
+    {
+        let LentDevice { device, frame } = self;
+        wire_burst(device, bytes, ends, frame)
     }
 }
 

@@ -16,6 +16,10 @@ macro_rules! on_device {
             Lent $device => {
                 let (reply, raised) = $done;
                 (reply, raised)
+            },
+            Guests $device => {
+                let (reply, raised) = $done;
+                (reply, raised)
             };
             Lending | Card
         )

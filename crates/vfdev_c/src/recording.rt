@@ -61,7 +61,7 @@ pub extern "C" fn vfdev_kept(alloc: Global, handle: &mut Vfdev) -> usize
     ensures kept { result ≡ length (calls_in handle.old.owner.held) }
     ensures unchanged { handle.new.owner.held ≡ handle.old.owner.held }
 {
-    on_held!(handle, alloc, 0, Kept recorder => recorder.kept(); Lending | Made | Lent | Card)
+    on_held!(handle, alloc, 0, Kept recorder => recorder.kept(); Lending | Made | Lent | Card | Guests)
 }
 
 /// Gives another device, whose calls are not kept, the events of the kept calls in their order, and tells whether it answers
@@ -83,7 +83,7 @@ pub extern "C" fn vfdev_replay(alloc: Global, handle: &mut Vfdev, other: &mut Vf
     ensures unchanged { handle.new.owner.held ≡ handle.old.owner.held }
     ensures stepped { other.new.owner.held ≡ replayed handle.old.owner.held other.old.owner.held }
 {
-    on_held!(handle, alloc, NOT_RECORDED, Kept recorder => replay_on(alloc, recorder, other); Lending | Made | Lent | Card)
+    on_held!(handle, alloc, NOT_RECORDED, Kept recorder => replay_on(alloc, recorder, other); Lending | Made | Lent | Card | Guests)
 }
 
 // The same, of calls that are kept.
@@ -99,7 +99,7 @@ fn replay_on(alloc: Global, recorder: &Recorder, other: &mut Vfdev) -> u32
     ensures stepped { other.new.owner.held
         ≡ replayed (Some (HandleState.Kept recorder.now)) other.old.owner.held }
 {
-    on_held!(other, alloc, NO_OTHER, Made running => said(recorder.replays(running)); Lending | Kept | Lent | Card)
+    on_held!(other, alloc, NO_OTHER, Made running => said(recorder.replays(running)); Lending | Kept | Lent | Card | Guests)
 }
 
 // What a replay answers.

@@ -55,7 +55,7 @@ pub extern "C" fn vfdev_serve_frame(
 
 // The transmit queue of that number.
 #[inline]
-fn queue_of(number: u8) -> Option<Queue>
+pub(crate) fn queue_of(number: u8) -> Option<Queue>
     ensures { result ≡ queue_of number }
 {
     match number {

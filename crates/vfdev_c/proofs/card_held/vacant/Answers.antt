@@ -1,19 +1,12 @@
 -- As many vacant functions, and the pool of the number.
-use Rattle.std.proofs.Common.{◌≡◌, ◌≤◌, ℕ, ◌&&◌, Bool, true, List, [], length, map, nat_le, replicate, refl, sym, ap, ◌∙◌, subst, arith, IfErr, IfOk, Option}
+use Rattle.std.proofs.Common.{◌≡◌, ◌≤◌, ℕ, ◌&&◌, Bool, true, List, [], length, map, nat_le, replicate, refl, sym, ap, ◌∙◌, subst, arith, IfOk, Option}
 use Rattle.std.proofs.lemmas.Bool.Decides.{nat_tests}
-use Rattle.std.specs.Prelude.{Result, Ok, Err}
-use Rattle.wire_frame.specs.declared.fault.Fault.{Fault}
-use Rattle.wire_frame.specs.declared.fault.Fault.TheVariants.{NoMemory}
 use Rattle.device.specs.Guests.{is_for_guests}
 use Rattle.hosted.specs.Hosted.{host_of_ids}
 use Rattle.card.specs.Card.{IsMade}
 use Rattle.mapped_memory.specs.Regions.{Regions}
-use Rattle.vfdev_c.proofs.CardLemmas.{noted_vacant, pool_at, sizes_vacant, vacant_for_guests}
+use Rattle.vfdev_c.proofs.CardLemmas.{no_memory_then, noted_vacant, pool_at, sizes_vacant, vacant_for_guests}
 use Rattle.vfdev_c.proofs.card_held.vacant.Goals as goal
-
-no_memory_then : {X : Type 0} (r : Result X Fault) (b : Bool) → b ≡ true → IfErr r (λ e. b ≡ true → e ≡ NoMemory) → IfErr r (λ e. e ≡ NoMemory)
-no_memory_then (Ok x) b is none = tt
-no_memory_then (Err e) b is none = none is
 
 can : (ids sizes : List ℕ) (n : ℕ) → length ids ≤ 64 → 1 ≤ n → n ≤ 64 → sizes ≡ replicate n 0 → (nat_le (length ids) 64 && is_for_guests sizes) ≡ true
 can ids sizes n few least most is =

@@ -2,7 +2,7 @@
  *
  * The archive is compiled from source that is proved to meet its contracts. After each call the device is what its definition says. The
  * reply, the messages and the bytes that are handed out are those of the definition. To each virtual function an event is as if
- * that function were alone. Guests may write the blocks that were lent for a device whenever they like: a call does what the
+ * that function were alone. Guests may write the blocks that were lent or mapped for a device whenever they like: a call does what the
  * definition says of the bytes that it read, and reads none of them twice. docs/EMBEDDING.md says what this rests on. vfdev_regs.h
  * has the registers by name.
  *
@@ -10,20 +10,20 @@
  *   - A vfdev begins as VFDEV_NONE. Its fields are never read or written, and it is never copied while it holds anything.
  *   - A pointer with a length points to so many bytes of one live object, also where the length is 0. No pointer is NULL, but for
  *     `left` of vfdev_serve. A buffer that is written is touched by nothing else during the call, and overlaps no other argument. A
- *     block that was lent is no buffer in this sense: see vfdev_lend.
+ *     block that was lent or mapped is no buffer in this sense: see vfdev_lend and vfdev_map.
  *   - One call at a time for one vfdev. It may go from thread to thread; a lock or the like orders the calls.
  *   - No call from a signal handler, or in the child of a fork of a process with threads.
  *   - malloc, realloc and free are those of one allocator, which aligns a block to each power of two up to 16 that divides
  *     its size.
  *
- * No call takes memory but vfdev_make, vfdev_make_recorded, vfdev_lend and vfdev_make_lent. No call blocks, prints or ends the
- * process.
+ * No call takes memory but vfdev_make, vfdev_make_recorded, vfdev_lend, vfdev_make_lent and vfdev_make_guests. No call blocks, prints or
+ * ends the process.
  *
  * The ABI is that of C on x86-64 Linux, with enums of 32 bits (no -fshort-enums). A header and an archive fit where vfdev_version()
  * answers VFDEV_VERSION, which a program asks before its first call. Within one version no number gets another meaning, no struct and no
  * signature changes, and nothing is taken away; kinds, faults and functions may be added, so a program expects numbers that it does not
- * know. Any other change makes a new version. vfdev_lend and vfdev_serve are inline here, over vfdev_lend_at and vfdev_serve_frame of
- * the archive: programs in other languages call these.
+ * know. Any other change makes a new version. vfdev_lend, vfdev_map and vfdev_serve are inline here, over vfdev_lend_at, vfdev_map_at and
+ * vfdev_serve_frame of the archive: programs in other languages call these.
  */
 #ifndef VFDEV_H
 #define VFDEV_H
@@ -54,6 +54,29 @@ extern "C" {
 #define VFDEV_MOST_FRAME 9018u
 /* How many bytes of a guest's memory one call reads or writes at most. */
 #define VFDEV_MOST_BYTES 2048u
+
+/* Of a device of vfdev_make_guests: how many addresses a guest's memory has, 64 TiB, and how many regions of it may be mapped at once. */
+#define VFDEV_GUEST_SPACE (UINT64_C(1) << 46)
+#define VFDEV_GUEST_REGIONS 64u
+/* The most descriptors that one burst can take while each gives a frame to the wire: there is room for so many frames. */
+#define VFDEV_MOST_FRAMES 256u
+
+/* What a device of vfdev_make_guests, or a card (vfdev_card.h), does for the drivers of its guests beyond frames as they stand: flags of the
+ * maker, which no later call changes. */
+/* It inserts the VLAN tag of a context descriptor where a data descriptor asks for it (VLE). */
+#define VFDEV_OFFLOAD_VLAN 1u
+/* It makes the checksums that a data descriptor asks for (IXSM, TXSM). */
+#define VFDEV_OFFLOAD_CHECKSUM 2u
+/* It cuts the TCP data of a frame into segments where a data descriptor asks for it (TSE). */
+#define VFDEV_OFFLOAD_SEGMENTATION 4u
+/* It masks a vector by itself when it issues its message, where the driver asks for it (VTEIAM). */
+#define VFDEV_OFFLOAD_AUTO_MASK 8u
+/* It takes legacy receive descriptors (SRRCTL.DESCTYPE 0). */
+#define VFDEV_OFFLOAD_LEGACY_RECEIVE 16u
+/* It keeps how far apart the driver wants the messages of each vector (VTEITR): the driver reads them back, and vfdev_card_interval tells. */
+#define VFDEV_OFFLOAD_THROTTLE 32u
+/* It says in the receive descriptor whether the checksums of a frame verify (IPCS, L4CS, IPE, L4E). */
+#define VFDEV_OFFLOAD_RECEIVE_CHECKSUM 64u
 
 /* How many calls of a device can be recorded at most. */
 #define VFDEV_MOST_CALLS 65536u
@@ -102,7 +125,12 @@ enum vfdev_fault {
     VFDEV_NO_MEMORY = 9,    /* the host refused memory */
     VFDEV_BAD_MAKE = 10,    /* a size or a count is outside its limits */
     VFDEV_HELD = 11,        /* the handle isn't empty, or holds a device already */
-    VFDEV_OVERLAPS = 13     /* the block overlaps one that was lent for the same device */
+    VFDEV_OVERLAPS = 13,    /* the block overlaps one that was lent for the same device, or a region has one of these guest addresses */
+    VFDEV_NO_GUESTS = 32,   /* the handle holds no device of vfdev_make_guests */
+    VFDEV_TOO_MANY = 33,    /* 64 regions are mapped already */
+    VFDEV_NOT_THERE = 34,   /* no region begins at that address */
+    VFDEV_PAST_END = 35,    /* the region passes the end of the guest's addresses */
+    VFDEV_ANOTHERS = 36     /* the block has a byte of one that is mapped for another function */
 };
 
 /* What a replay answers. */
@@ -110,7 +138,7 @@ enum vfdev_replayed {
     VFDEV_SAME = 0,         /* the other device gave the recorded answer to each recorded call */
     VFDEV_DIFFERENT = 1,    /* it gave another answer to one of them */
     VFDEV_NOT_RECORDED = 2, /* there is no first device, or its calls are not recorded; the other was not asked */
-    VFDEV_NO_OTHER = 3      /* there is no other device, its own calls are recorded, or its memories were lent; it was not asked */
+    VFDEV_NO_OTHER = 3      /* there is no other device, its own calls are recorded, or guests write its memories; it was not asked */
 };
 
 /* A reply. The value is 0 but for VFDEV_VALUE and VFDEV_REFUSED. */
@@ -118,6 +146,19 @@ typedef struct vfdev_reply {
     enum vfdev_kind kind;
     uint32_t value; /* of VFDEV_VALUE the register, of VFDEV_REFUSED an enum vfdev_fault */
 } vfdev_reply;
+
+/* What came of a burst of services. */
+typedef struct vfdev_burst_result {
+    size_t taken;     /* how many services there were, with the one that ended it: which found nothing, faulted or was refused */
+    size_t frames;    /* how many frames left for the wire: vfdev_frame has them until the next burst */
+    uint32_t goes_on; /* 1: the queue may have more */
+} vfdev_burst_result;
+
+/* What came of frames from the wire that came in one call. */
+typedef struct vfdev_wire_result {
+    size_t taken;   /* how many frames were taken */
+    size_t refused; /* how many were refused: those that are longer than the limit, and what is no frame */
+} vfdev_wire_result;
 
 /* The archive answers numbers of 32 bits. */
 #ifdef __cplusplus
@@ -169,7 +210,13 @@ VFDEV_LOOK static inline enum vfdev_fault vfdev_lend(vfdev *device, vfdev_block 
  * host refused. After VFDEV_NO_MEMORY the handle is empty, and the blocks are no longer lent. */
 VFDEV_LOOK enum vfdev_fault vfdev_make_lent(vfdev *device, uint16_t limit);
 
-/* Frees what the handle holds. It is empty then, and a second call does nothing. Blocks that were lent are the
+/* Makes a device of vacant virtual functions, 1 to 64, to which guests come by vfdev_attach and go by vfdev_detach. Frames have up to `limit`
+ * bytes, 1518 to 9018. `offloads` are flags VFDEV_OFFLOAD_.. that are or-ed, 0 for none. VFDEV_HELD where the handle isn't empty, then
+ * VFDEV_BAD_MAKE exactly where a number is outside its limits, or another flag is set, and VFDEV_NO_MEMORY only where the host refused: some
+ * 640 KB are taken, and 5 KB for each function. Where the answer is not VFDEV_OK, the handle is as it was before. */
+VFDEV_LOOK enum vfdev_fault vfdev_make_guests(vfdev *device, uint32_t functions, uint16_t limit, uint32_t offloads);
+
+/* Frees what the handle holds. It is empty then, and a second call does nothing. Blocks that were lent or mapped are the
  * caller's again. */
 void vfdev_free(vfdev *device);
 
@@ -239,6 +286,64 @@ VFDEV_LOOK vfdev_reply vfdev_pf_reset(vfdev *device);
  * none, before the device is asked, and where it is longer than the device takes. VFDEV_DONE also where nobody received it. */
 vfdev_reply vfdev_wire(vfdev *device, const uint8_t *frame, size_t len, uint8_t *messages, size_t messages_len);
 
+/* ---- guests that come and go -------------------------------------------------------------------------------------
+ *
+ * A device of vfdev_make_guests begins with vacant functions. Each call below leaves all other functions as they are: their registers, their
+ * memories and their settings. The settings that the physical function has for a pool aren't its guest's: they stay when a guest goes, and
+ * the next one has them unless they are written anew. The events above do the same as on any other device. In particular vfdev_end and
+ * vfdev_pf_reset close a function whose guest is still there, with its memory; vfdev_open opens it again, and writes zeros over all that is
+ * mapped of it. Without a guest vfdev_open opens a function without memory, which does no harm.
+ *
+ * Each of them answers VFDEV_OK, or the first of the faults that it names; VFDEV_NO_GUESTS where the handle holds no device of
+ * vfdev_make_guests. Where it isn't VFDEV_OK, nothing has changed, and a block is not used. */
+
+/* A guest comes to a vacant function, which is open then: no byte of its memory is mapped, and its registers are initial.
+ * VFDEV_NO_SUCH_VF; VFDEV_ALREADY_OPEN where it isn't vacant. */
+VFDEV_LOOK enum vfdev_fault vfdev_attach(vfdev *device, uint8_t function);
+
+/* A guest goes, and its function is vacant: nothing of the guest is left for the next one, and the blocks that were mapped for it are the
+ * caller's again. VFDEV_NO_SUCH_VF where the number isn't below 64; VFDEV_NOT_OPEN where the function is vacant, or there is none. */
+VFDEV_LOOK enum vfdev_fault vfdev_detach(vfdev *device, uint8_t function);
+
+/* Maps a block, whose first byte is at the host's address, as vfdev_map does, which calls it with the address of the block. */
+VFDEV_LOOK enum vfdev_fault vfdev_map_at(vfdev *device, uint8_t function, uint64_t at, vfdev_block block, uint64_t address, bool read_only);
+
+/* The block is memory of the function's guest from the address `at` on. It stays mapped until vfdev_unmap, vfdev_detach or vfdev_free. The
+ * processors of its guest may read and write it at any time, as a block that was lent (vfdev_lend). An address that no region has reads as
+ * zero, and what is written there is dropped; so are the device's writes to a read-only region.
+ *
+ * VFDEV_ANOTHERS exactly where the block has a byte of one that is mapped for another function of this device, whatever else holds; then
+ * VFDEV_NO_SUCH_VF; VFDEV_BAD_MAKE where the function is vacant, or the block is empty; VFDEV_PAST_END; VFDEV_OVERLAPS where a region of this
+ * guest has one of these guest addresses; VFDEV_TOO_MANY.
+ *
+ * Blocks are compared by their addresses and lengths in this process. Two maps of one file have different addresses: who maps files compares
+ * the files and their offsets. A block may be mapped for one guest at several of its addresses. */
+VFDEV_LOOK static inline enum vfdev_fault vfdev_map(vfdev *device, uint8_t function, uint64_t at, vfdev_block block, bool read_only)
+{
+    return vfdev_map_at(device, function, at, block, (uint64_t)(uintptr_t)block.at, read_only);
+}
+
+/* The region that begins at the address is mapped no more, and its block is the caller's again. VFDEV_NO_SUCH_VF; VFDEV_BAD_MAKE where the
+ * function is vacant; VFDEV_NOT_THERE. */
+VFDEV_LOOK enum vfdev_fault vfdev_unmap(vfdev *device, uint8_t function, uint64_t at);
+
+/* Takes descriptors of a transmit queue one after another, `most` at most: what as many calls of vfdev_serve do, in one. It ends where the
+ * queue has no more, after `most` of them, or where there is no room for one more of the longest frames: there is room for VFDEV_MOST_FRAMES,
+ * and for 262144 bytes. Frames that left at a former burst are gone. messages[p] is that of all services together, as of the events above.
+ * All numbers are 0, and no message is issued, where there is no such queue, and where the handle holds no device of vfdev_make_guests. */
+VFDEV_LOOK vfdev_burst_result vfdev_serve_burst(vfdev *device, uint8_t function, uint8_t queue, size_t most, uint8_t messages[VFDEV_POOLS]);
+
+/* The frame of that number, from 0 on, of those that left at the last vfdev_serve_burst: its length, and its bytes at the front of `out`. 0
+ * where there is none, or `out` is shorter, and then `out` stays. */
+VFDEV_LOOK size_t vfdev_frame(vfdev *device, uint32_t number, uint8_t *out, size_t out_len);
+
+/* Frames come from the wire, `count` of them one after another: what as many calls of vfdev_wire do, in one. They lie behind one another in
+ * `bytes`: the first begins at 0, each other where the one before it ends, and ends[i] says where frame i ends. What vfdev_wire would refuse
+ * is passed over, and so is one whose end is before its beginning or past the bytes. messages[p] is that of all of them together. Both numbers
+ * are 0, and no message is issued, where the handle holds no device of vfdev_make_guests. */
+vfdev_wire_result vfdev_wire_burst(vfdev *device, const uint8_t *bytes, size_t len, const size_t *ends, size_t count,
+                                   uint8_t messages[VFDEV_POOLS]);
+
 /* ---- recording and replay ----------------------------------------------------------------------------------------
  *
  * The recording of a device of vfdev_make_recorded has each event that the device is asked, with its answer: the reply with its
@@ -253,7 +358,7 @@ size_t vfdev_kept(vfdev *device);
  * where the calls of `device` are not recorded, and then VFDEV_NO_OTHER where there is no such `other`. Nothing of `device` changes;
  * `other` is what the events make of it.
  *
- * A device over lent blocks can't be `other`, since its guests may write them meanwhile. A fresh device of vfdev_make, with as many
+ * A device over lent blocks, or of guests, can't be `other`, since its guests may write them meanwhile. A fresh device of vfdev_make, with as many
  * functions, memories of the same size and the same limit, always gives VFDEV_SAME, and ends in the state that `device` is in. A replay
  * takes no memory, but more stack than an event (docs/PERFORMANCE.md). */
 VFDEV_LOOK enum vfdev_replayed vfdev_replay(vfdev *device, vfdev *other);
@@ -309,6 +414,11 @@ static inline const char *vfdev_fault_text(uint32_t fault)
     case VFDEV_BAD_MAKE: return "a size or a count is outside its limits";
     case VFDEV_HELD: return "the handle leads to something already";
     case VFDEV_OVERLAPS: return "the block overlaps one that was lent";
+    case VFDEV_NO_GUESTS: return "the handle holds no device of guests";
+    case VFDEV_TOO_MANY: return "64 regions are mapped already";
+    case VFDEV_NOT_THERE: return "no region begins at that address";
+    case VFDEV_PAST_END: return "the region passes the end of the guest's addresses";
+    case VFDEV_ANOTHERS: return "the block has a byte of another function's memory";
     default: return "no fault of this version";
     }
 }

@@ -40,22 +40,6 @@ extern "C" {
 /* No function, where one may be named. */
 #define VFDEV_CARD_NOBODY 255u
 
-/* What a card does for the drivers of its guests beyond frames as they stand: flags of vfdev_card_make, which no later call changes. */
-/* It inserts the VLAN tag of a context descriptor where a data descriptor asks for it (VLE). */
-#define VFDEV_OFFLOAD_VLAN 1u
-/* It makes the checksums that a data descriptor asks for (IXSM, TXSM). */
-#define VFDEV_OFFLOAD_CHECKSUM 2u
-/* It cuts the TCP data of a frame into segments where a data descriptor asks for it (TSE). */
-#define VFDEV_OFFLOAD_SEGMENTATION 4u
-/* It masks a vector by itself when it issues its message, where the driver asks for it (VTEIAM). */
-#define VFDEV_OFFLOAD_AUTO_MASK 8u
-/* It takes legacy receive descriptors (SRRCTL.DESCTYPE 0). */
-#define VFDEV_OFFLOAD_LEGACY_RECEIVE 16u
-/* It keeps how far apart the driver wants the messages of each vector (VTEITR): vfdev_card_interval tells. */
-#define VFDEV_OFFLOAD_THROTTLE 32u
-/* It says in the receive descriptor whether the checksums of a frame verify (IPCS, L4CS, IPE, L4E). */
-#define VFDEV_OFFLOAD_RECEIVE_CHECKSUM 64u
-
 /* A handle. It is empty, or holds a card. */
 typedef struct vfdev_card {
     bool live;
@@ -144,10 +128,7 @@ typedef struct vfdev_card_more_result {
 } vfdev_card_more_result;
 
 /* What came of frames from the wire that came in one call. */
-typedef struct vfdev_card_wire_result {
-    size_t taken;   /* how many frames the card took */
-    size_t refused; /* how many it refused: those that are longer than its limit, and what is no frame */
-} vfdev_card_wire_result;
+typedef vfdev_wire_result vfdev_card_wire_result;
 
 /* ---- makers */
 

@@ -26,6 +26,7 @@
 //! # Ok::<(), Box<dyn std::error::Error>>(())
 //! ```
 
+pub use crate::guests::WireCount;
 use crate::kinds::Fault;
 use crate::raw;
 use std::fmt;
@@ -223,7 +224,7 @@ impl fmt::Display for Breach {
 
 impl std::error::Error for Breach {}
 
-/// What a card does for the drivers of its guests beyond frames as they stand, fixed when it is made.
+/// What a card, or a device of [`Guests`](crate::Guests), does for the drivers of its guests beyond frames as they stand, fixed when it is made.
 #[derive(Clone, Copy, Debug, Default, PartialEq, Eq)]
 pub struct Offloads {
     /// It inserts the VLAN tag of a context descriptor where a data descriptor asks for it (VLE).
@@ -264,7 +265,7 @@ impl Offloads {
         receive_checksum: true,
     };
 
-    fn raw(self) -> u32 {
+    pub(crate) fn raw(self) -> u32 {
         [
             (self.vlan, raw::OFFLOAD_VLAN),
             (self.checksum, raw::OFFLOAD_CHECKSUM),
@@ -377,15 +378,6 @@ pub struct More {
     pub goes_on: bool,
     /// How many frames left for the wire: [`Card::frame`] has them until the next call of [`Card::more`].
     pub frames: u32,
-}
-
-/// What came of frames from the wire that came in one call.
-#[derive(Clone, Copy, Debug, PartialEq, Eq)]
-pub struct WireCount {
-    /// How many frames the card took.
-    pub taken: usize,
-    /// How many it refused: those that are longer than its limit, and what is no frame.
-    pub refused: usize,
 }
 
 /// A card. Calls take `&mut self`, so that one is made at a time. A function is named by a number from 0 on; one that the card does not have

@@ -19,7 +19,7 @@ use std::ptr::NonNull;
 /// ```
 #[derive(Debug)]
 pub struct Device<'m> {
-    handle: raw::Vfdev,
+    pub(crate) handle: raw::Vfdev,
     // the blocks that the device may write until it is dropped
     lent: std::marker::PhantomData<&'m mut [u8]>,
 }
@@ -173,7 +173,7 @@ impl<'m> Device<'m> {
         Ok(self)
     }
 
-    fn empty() -> Result<Device<'m>, Fault> {
+    pub(crate) fn empty() -> Result<Device<'m>, Fault> {
         // SAFETY: the function takes nothing and reads nothing.
         if unsafe { raw::vfdev_version() } != raw::VERSION {
             return Err(Fault::Version);
@@ -372,7 +372,7 @@ fn refused(reply: raw::Reply) -> Fault {
     }
 }
 
-fn made(answer: u32) -> Result<(), Fault> {
+pub(crate) fn made(answer: u32) -> Result<(), Fault> {
     match answer {
         0 => Ok(()),
         fault => Err(Fault::of(fault)),

@@ -65,9 +65,17 @@ pub enum Fault {
     NoMemory,
     /// A size or a count is outside its limits.
     BadMake,
-    /// A block overlaps one that was lent for the same device. Blocks that are borrowed, as [`Device::over`](crate::Device::over) takes
-    /// them, never do.
+    /// A block overlaps one that was lent for the same device, or a region has one of these guest addresses. Blocks that are borrowed, as
+    /// [`Device::over`](crate::Device::over) takes them, never do.
     Overlaps,
+    /// As many regions as there may be are mapped for this guest already.
+    TooMany,
+    /// No region begins at that address.
+    NotThere,
+    /// The region passes the end of the guest's addresses.
+    PastEnd,
+    /// The block has a byte of one that is mapped for another function.
+    Anothers,
     /// The recording of this device is full.
     HistoryFull,
     /// The archive has another version than this crate.
@@ -89,6 +97,10 @@ impl Fault {
             9 => Fault::NoMemory,
             10 => Fault::BadMake,
             13 => Fault::Overlaps,
+            33 => Fault::TooMany,
+            34 => Fault::NotThere,
+            35 => Fault::PastEnd,
+            36 => Fault::Anothers,
             other => Fault::Other(other),
         }
     }
@@ -109,6 +121,10 @@ impl Fault {
             Fault::BadMake => 10,
             Fault::HistoryFull => 12,
             Fault::Overlaps => 13,
+            Fault::TooMany => 33,
+            Fault::NotThere => 34,
+            Fault::PastEnd => 35,
+            Fault::Anothers => 36,
             Fault::Version => 0,
             Fault::Other(number) => number,
         }
@@ -128,6 +144,10 @@ impl fmt::Display for Fault {
             Fault::NoMemory => "no memory",
             Fault::BadMake => "a size or a count is outside its limits",
             Fault::Overlaps => "the block overlaps one that was lent",
+            Fault::TooMany => "64 regions are mapped already",
+            Fault::NotThere => "no region begins at that address",
+            Fault::PastEnd => "the region passes the end of the guest's addresses",
+            Fault::Anothers => "the block has a byte of another function's memory",
             Fault::HistoryFull => "no more calls can be kept",
             Fault::Version => "the archive has another version than this crate",
             Fault::Other(number) => return write!(f, "fault {number}"),

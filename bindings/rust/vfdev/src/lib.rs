@@ -2,8 +2,8 @@
 //!
 //! [`Device`] is the device. Each method gives it one event, and answers what came of it with the interrupt messages that it
 //! issued. [`SharedDevice`] puts it behind a lock, with an [`Interrupt`] where its messages go and [`Frames`] where its
-//! frames go; [`MmioBar`] is the register space of one virtual function. [`regs`] has the registers by name. [`card`] has a whole card,
-//! for guests whose QEMU attaches by vfio-user.
+//! frames go; [`MmioBar`] is the register space of one virtual function. To a device of [`Guests`] guests come, and go, while it lives.
+//! [`regs`] has the registers by name. [`card`] has a whole card, for guests whose QEMU attaches by vfio-user.
 //!
 //! What a method does is what the archive's contracts say. That this crate passes the arguments as they are declared there
 //! is read and tested, not proved; `docs/EMBEDDING.md` of the repository says more.
@@ -42,6 +42,7 @@
 
 pub mod card;
 mod device;
+mod guests;
 mod kinds;
 mod quiet;
 mod raw;
@@ -49,6 +50,7 @@ pub mod regs;
 mod shared;
 
 pub use device::Device;
+pub use guests::{Burst, Guests, WireCount};
 pub use kinds::{Fault, Messages, Pool, Queue, Replayed, Served, MOST_BYTES, MOST_FRAME, POOLS};
 pub use quiet::Quiet;
 pub use shared::{Frames, Interrupt, MmioBar, SharedDevice, WeakDevice};

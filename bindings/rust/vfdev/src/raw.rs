@@ -94,15 +94,24 @@ pub struct CardMore {
 /// What came of frames from the wire.
 #[repr(C)]
 #[derive(Clone, Copy)]
-pub struct CardWired {
+pub struct Wired {
     pub taken: usize,
     pub refused: usize,
+}
+
+/// What came of a burst of services.
+#[repr(C)]
+#[derive(Clone, Copy)]
+pub struct Burst {
+    pub taken: usize,
+    pub frames: usize,
+    pub goes_on: u32,
 }
 
 /// The version of the interface that is declared here.
 pub const VERSION: u32 = 2;
 
-/// The flags of a card's offloads.
+/// The flags of offloads.
 pub const OFFLOAD_VLAN: u32 = 1;
 pub const OFFLOAD_CHECKSUM: u32 = 2;
 pub const OFFLOAD_SEGMENTATION: u32 = 4;
@@ -123,6 +132,7 @@ extern "C" {
     ) -> u32;
     pub fn vfdev_lend_at(d: &mut Vfdev, block: Block, address: u64) -> u32;
     pub fn vfdev_make_lent(d: &mut Vfdev, limit: u16) -> u32;
+    pub fn vfdev_make_guests(d: &mut Vfdev, functions: u32, limit: u16, offloads: u32) -> u32;
     pub fn vfdev_free(d: &mut Vfdev);
     pub fn vfdev_open(d: &mut Vfdev, function: u8) -> Reply;
     pub fn vfdev_end(d: &mut Vfdev, function: u8) -> Reply;
@@ -164,6 +174,33 @@ extern "C" {
         messages: *mut u8,
         messages_len: usize,
     ) -> Reply;
+    pub fn vfdev_attach(d: &mut Vfdev, function: u8) -> u32;
+    pub fn vfdev_detach(d: &mut Vfdev, function: u8) -> u32;
+    pub fn vfdev_map_at(
+        d: &mut Vfdev,
+        function: u8,
+        at: u64,
+        block: Block,
+        address: u64,
+        read_only: bool,
+    ) -> u32;
+    pub fn vfdev_unmap(d: &mut Vfdev, function: u8, at: u64) -> u32;
+    pub fn vfdev_serve_burst(
+        d: &mut Vfdev,
+        function: u8,
+        queue: u8,
+        most: usize,
+        messages: &mut [u8; 64],
+    ) -> Burst;
+    pub fn vfdev_frame(d: &mut Vfdev, number: u32, out: *mut u8, out_len: usize) -> usize;
+    pub fn vfdev_wire_burst(
+        d: &mut Vfdev,
+        bytes: *const u8,
+        len: usize,
+        ends: *const usize,
+        count: usize,
+        messages: &mut [u8; 64],
+    ) -> Wired;
     pub fn vfdev_kept(d: &mut Vfdev) -> usize;
     pub fn vfdev_replay(d: &mut Vfdev, other: &mut Vfdev) -> u32;
 
@@ -209,7 +246,7 @@ extern "C" {
         len: usize,
         ends: *const usize,
         count: usize,
-    ) -> CardWired;
+    ) -> Wired;
     pub fn vfdev_card_raised(c: &mut VfdevCard) -> u64;
     pub fn vfdev_card_signal(c: &mut VfdevCard, function: u8) -> u32;
     pub fn vfdev_card_signal_some(c: &mut VfdevCard, function: u8, vectors: u32) -> u32;

@@ -69,6 +69,10 @@ struct Inner<'m, I, F> {
 /// A device that several threads share, one call at a time. It is cloned for each of them, and for each bar. Its memories are the
 /// archive's own, or borrowed for `'m`.
 ///
+/// Messages are told after the lock is let go. So one of a tenant's may be on its way still when another thread has ended the function and
+/// opened it for the next tenant. Before a function changes hands, exchange what its messages reach (its eventfds, say), or wait until the
+/// other threads have come back from their calls.
+///
 /// ```
 /// use vfdev::{regs, Device, Fault, Pool, SharedDevice};
 ///

@@ -1,21 +1,22 @@
-//! Random and mutated sessions on some sockets, floods of memories and files, and clients that are killed, while two guests on others go on:
-//! nothing of theirs changes, and the program keeps nothing.
+//! Random and mutated sessions on some sockets, floods of memories and files, clients that are killed, and words by chance in pages of
+//! registers, while two guests on others go on: nothing of theirs changes, and the program keeps nothing.
 //!
-//! It lasts a second, or as many as VFDEV_FUZZ_SECONDS says, and then prints ten times how far it is. Chance begins with the number that
+//! Each test lasts a second, or as many as VFDEV_FUZZ_SECONDS says, and then prints ten times how far it is. Chance begins with the number that
 //! VFDEV_FUZZ_SEED names.
 
 use crate::client::{
     map_body, message, words, Client, DMA_MAP, READ, REGION_READ, REGION_WRITE, WRITE,
 };
-use crate::driver::Guest;
+use crate::driver::{Guest, TX_RING};
 use crate::os::{self, Memory};
-use crate::program::{wait_until, Server};
+use crate::program::{wait_until, Folder, Server};
 use std::fs::{self, File};
 use std::io::{ErrorKind, Read};
 use std::os::fd::{AsFd, BorrowedFd, OwnedFd};
 use std::process::{Command, Stdio};
 use std::sync::atomic::{AtomicBool, AtomicU64, Ordering};
 use std::time::{Duration, Instant};
+use vfdev::regs;
 
 // Numbers by chance, the same in each run that begins with the same one.
 struct Chance(u64);
@@ -167,6 +168,50 @@ fn flood(server: &Server, function: u8, chance: &mut Chance, files: &Files) -> u
     sent
 }
 
+// A word that a guest could write into a page of registers: as a driver would, or anything.
+fn word(chance: &mut Chance) -> u32 {
+    match chance.below(4) {
+        // the queue is on, or off
+        0 => *chance.pick(&[0, regs::TXDCTL_ENABLE]),
+        // a ring's size, its head or its tail
+        1 => 128 * chance.below(33) as u32,
+        2 => TX_RING as u32 + 16 * chance.below(64) as u32,
+        _ => chance.below(1 << 32) as u32,
+    }
+}
+
+// A guest that has its page writes there whatever it likes, most of it where queues have their registers, and says messages meanwhile.
+fn scribble(server: &Server, function: u8, chance: &mut Chance, files: &Files) -> u64 {
+    let mut client = server.client(function);
+    let _ = client.map(&files.memories[0].file, READ | WRITE, 0, 0, 1 << 20);
+    client.take_page();
+    let Some(page) = client.page.take() else {
+        return 0;
+    };
+    client.socket.set_nonblocking(true).expect("a socket");
+    let mut sent = 3;
+    for _ in 0..chance.below(64) {
+        for _ in 0..chance.below(256) {
+            let place = match chance.is_one_in(8) {
+                true => chance.below(1024),
+                false => 16 * chance.below(2) + chance.below(16),
+            };
+            let register = page.register(4 * place as usize);
+            register.store(word(chance), Ordering::Release);
+        }
+        let command = *chance.pick(&[REGION_READ, REGION_WRITE]);
+        match os::send(&client.socket, &mutated(chance, command), &[]) {
+            Ok(()) => sent += 1,
+            Err(error) if error.kind() == ErrorKind::WouldBlock => {}
+            Err(_) => break,
+        }
+        if !drain(&mut client) {
+            break;
+        }
+    }
+    sent
+}
+
 // Another process has the only end of a connection with memory, says a lot without waiting, and is killed at any moment.
 fn killed(server: &Server, function: u8, chance: &mut Chance, files: &Files) -> u64 {
     let mut client = server.client(function);
@@ -233,13 +278,20 @@ fn number_of(name: &str, otherwise: u64) -> u64 {
 }
 
 // A client without end, each time another kind of one.
-fn misbehave(server: &Server, function: u8, is_over: &AtomicBool, messages: &AtomicU64) {
+fn misbehave(
+    server: &Server,
+    function: u8,
+    with_pages: bool,
+    is_over: &AtomicBool,
+    messages: &AtomicU64,
+) {
     let seed = number_of("VFDEV_FUZZ_SEED", 0);
     let (mut chance, files) = (Chance(64 * seed + u64::from(function)), Files::new());
     while !is_over.load(Ordering::Relaxed) {
         let kind = match chance.below(64) {
             0 => flood,
             1 => killed,
+            2..=31 if with_pages => scribble,
             _ => live,
         };
         let sent = kind(server, function, &mut chance, &files);
@@ -249,16 +301,30 @@ fn misbehave(server: &Server, function: u8, is_over: &AtomicBool, messages: &Ato
 
 #[test]
 fn chance_disturbs_nobody() {
-    let seconds = number_of("VFDEV_FUZZ_SECONDS", 1);
     let server = Server::quiet(4);
-    let (mut one, mut two) = (Guest::attach(&server, 0), Guest::attach(&server, 1));
-    let before = held(&server);
+    let guests = [0, 1].map(|function| Guest::attach(&server, function));
+    nobody_is_disturbed(&server, guests, false);
+}
+
+#[test]
+fn chance_in_pages_disturbs_nobody() {
+    let words = ["--log-level", "error", "--transmit-page"];
+    let server = Server::with(Folder::new(), 4, &words);
+    let guests = [0, 1].map(|function| Guest::attach_with_page(&server, function));
+    nobody_is_disturbed(&server, guests, true);
+}
+
+// The guests of functions 0 and 1 send each other frames, while others misbehave on 2 and 3.
+fn nobody_is_disturbed(server: &Server, guests: [Guest; 2], with_pages: bool) {
+    let seconds = number_of("VFDEV_FUZZ_SECONDS", 1);
+    let [mut one, mut two] = guests;
+    let before = held(server);
     let (is_over, messages) = (AtomicBool::new(false), AtomicU64::new(0));
     let mut number = 0u32;
     std::thread::scope(|scope| {
         for function in 2..4 {
-            let (server, is_over, messages) = (&server, &is_over, &messages);
-            scope.spawn(move || misbehave(server, function, is_over, messages));
+            let (is_over, messages) = (&is_over, &messages);
+            scope.spawn(move || misbehave(server, function, with_pages, is_over, messages));
         }
         let begun = Instant::now();
         let mut tenth = 1;
@@ -268,20 +334,23 @@ fn chance_disturbs_nobody() {
             one.send(&frame);
             assert!(two.wait() == frame, "frame {number}");
             if begun.elapsed() >= Duration::from_millis(100 * seconds * tenth) {
-                tell(begun, number, messages.load(Ordering::Relaxed), &server);
+                tell(begun, number, messages.load(Ordering::Relaxed), server);
                 tenth += 1;
             }
         }
         is_over.store(true, Ordering::Relaxed);
-        assert_eq!(one.client.read(vfdev::regs::VFGPTC), number);
-        assert_eq!(two.client.read(vfdev::regs::VFGPRC), number);
+        // (in a page it stands once the queue was served)
+        wait_until("the count of frames", || {
+            one.client.read(regs::VFGPTC) == number
+        });
+        assert_eq!(two.client.read(regs::VFGPRC), number);
     });
     let sent = messages.into_inner();
     assert!(sent > 0);
     wait_until("the others have gone", || {
         (2..4).all(|function| server.is_vacant(function))
     });
-    let after = held(&server);
+    let after = held(server);
     println!("{number} frames, {sent} messages; files, threads and KiB before {before:?}, after {after:?}");
     assert_eq!((before.0, before.1), (after.0, after.1), "files, threads");
     assert!(

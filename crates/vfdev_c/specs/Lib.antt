@@ -5,3 +5,4 @@ pub mod LentWorld
 pub mod Ownership
 pub mod Recorded
 pub mod Spans
+pub mod Pages

@@ -33,7 +33,7 @@ source_of_crates() {
 BEGIN {
     groups = split("bytes and memory|filters and switch|one function|device|C|PCI and vfio-user|threads|program", title, "|")
     split("wire_frame guest_memory live_memory mapped_memory shadow internet_checksum offload receive_checksum|pool_index addr_tables vlan_table pool_filter anti_spoof local_switch|" \
-        "rings irq_causes rx_desc tx_desc sending_laws vf_unit|device lone live_run history mailbox mailbox_laws hosted card card_laws spare_memory|vfdev_c|pci_function vfio_user vfio_session|" \
+        "rings irq_causes rx_desc tx_desc sending_laws vf_unit|device lone live_run history mailbox mailbox_laws hosted card card_laws spare_memory transmit_page|vfdev_c|pci_function vfio_user vfio_session|" \
         "irq_line recorder device_lock guest_port wire_pump|script transcript workers modes host vfdev", members, "|")
     split("#e3eef9 #e3eef9 #e3eef9 #ffe9b8 #f6e1ee #fbe6d8 #e6f4e6 #eeeeee", fill, " ")
 }

@@ -40,6 +40,12 @@ extern "C" {
 /* No function, where one may be named. */
 #define VFDEV_CARD_NOBODY 255u
 
+/* How many words of a queue's registers stand in that page, in this order, which is their place: TDBAL, TDBAH, TDLEN, TDH, TDWBAL, TDWBAH,
+ * TXDCTL, TDT. The card has no register for TDWBAL and TDWBAH, and they read as zero. */
+#define VFDEV_PAGE_WORDS 8u
+/* The most writes that the changes of a queue's words give. */
+#define VFDEV_PAGE_CHANGES 10u
+
 /* A handle. It is empty, or holds a card. */
 typedef struct vfdev_card {
     bool live;
@@ -159,8 +165,9 @@ VFDEV_LOOK uint32_t vfdev_card_detach(vfdev_card *card, uint8_t function);
 /* Offers the function's client to map the page of its registers with those of the transmit queues, offsets VFDEV_CARD_AREA to
  * VFDEV_CARD_AREA + VFDEV_CARD_AREA_SIZE - 1 of BAR 0. It is for a shell that keeps such a page: it calls this once the guest has come, before
  * its client speaks. From then on the reply to DEVICE_GET_REGION_INFO of BAR 0 (vfdev_card_receive) names the page, and a file of BAR 0 goes
- * beside each such reply, and beside no other. The shell knows it by the reply: it has 48 bytes or more, its command, 2 bytes at offset 2, is
- * 5, and its flags, 4 bytes at offset 20, have VFDEV_CARD_MMAP. What a guest writes into the page the card doesn't know: the shell hands it on.
+ * beside each such reply, and beside no other. The shell knows it by the reply (vfdev_page_offered): it has 48 bytes or more, its command, 2
+ * bytes at offset 2, is 5, and its flags, 4 bytes at offset 20, have VFDEV_CARD_MMAP. What a guest writes into the page the card doesn't know:
+ * the shell hands it on (vfdev_page_changes).
  * The offer goes with the guest, and with its client's connection. A reset leaves it.
  * VFDEV_OK; VFDEV_NO_SUCH_VF where the number is none below 64; VFDEV_CARD_NO_CARD. */
 uint32_t vfdev_card_offer_area(vfdev_card *card, uint8_t function);
@@ -184,6 +191,56 @@ VFDEV_LOOK uint32_t vfdev_card_unmap(vfdev_card *card, uint8_t function, uint64_
  * connection in place of sending it. Files that no order names are to be closed. No descriptor is taken: vfdev_card_more takes them. */
 void vfdev_card_receive(vfdev_card *card, uint8_t function, const uint8_t *message, size_t len, size_t files, uint8_t room[VFDEV_CARD_ROOM],
                         vfdev_card_step *step);
+
+/* ---- the page of transmit registers
+ *
+ * Who offers the page (vfdev_card_offer_area) has it as memory that the client writes without a message, and gives the card what was written
+ * there as register writes: REGION_WRITE by vfdev_card_receive, as the client itself would. These calls say which. They take no handle, and
+ * keep nothing. The caller reads the words of a queue (each once), says the changes since it last did, and puts words back where they are
+ * still what it knows (by a compare and exchange), else the guest has written meanwhile, and its word is one of the next changes. */
+
+/* A write of a register of BAR 0. */
+typedef struct vfdev_register_write {
+    uint32_t offset;
+    uint32_t value;
+} vfdev_register_write;
+
+/* What a message may change of the registers in the page. */
+enum vfdev_page_touch_kind {
+    VFDEV_TOUCHES_NOTHING = 0,
+    VFDEV_TOUCHES_ONE = 1, /* one of them */
+    VFDEV_TOUCHES_ALL = 2  /* all of them: it may be a reset */
+};
+typedef struct vfdev_page_touch {
+    uint32_t kind;  /* an enum vfdev_page_touch_kind */
+    uint32_t queue; /* ONE: its queue, else 0 */
+    uint32_t place; /* ONE: its place among the words, else 0 */
+} vfdev_page_touch;
+
+/* What a driver did with queue 0 or 1, whose words were so and are so now: the writes stand at the front of `changes` in the order in which
+ * they are to be done, and the rest of it stays. How many there are, 10 at most; 0 where nothing has changed, or there is no such queue.
+ *
+ * Whatever the words are, done in that order the writes make the words that were those that are. A register that hasn't changed is written only
+ * where its queue goes off or comes on: its control, and where it comes on its tail. The base, the length and the head are written only while the
+ * queue is off, and where it comes on all its other words are written before, and its tail once more behind that. (docs/proof/CARD.md has it
+ * in the words of its laws.) */
+size_t vfdev_page_changes(uint8_t queue, const uint32_t was[VFDEV_PAGE_WORDS], const uint32_t now[VFDEV_PAGE_WORDS],
+                          vfdev_register_write changes[VFDEV_PAGE_CHANGES]);
+
+/* The words that are to be put back, as their registers read, once these changes were written: bit k for the word at place k. */
+uint32_t vfdev_page_put_back(const uint32_t was[VFDEV_PAGE_WORDS], const uint32_t now[VFDEV_PAGE_WORDS]);
+
+/* The words of a queue that are to be put back once its descriptors were taken (vfdev_card_more): bit k for the word at place k. */
+uint32_t vfdev_page_serviced(const uint32_t words[VFDEV_PAGE_WORDS]);
+
+/* What a whole message of the client may change of the registers in the page, which are then to be put back. */
+vfdev_page_touch vfdev_page_touched(const uint8_t *message, size_t len);
+
+/* Whether the reply is one beside which a file of the page goes. */
+bool vfdev_page_offered(const uint8_t *reply, size_t len);
+
+/* The offset in BAR 0 of the word at a place of queue 0 or 1; 0 where there is none. */
+uint32_t vfdev_page_offset(uint8_t queue, uint32_t place);
 
 /* ---- frames and interrupts */
 

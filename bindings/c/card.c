@@ -1,6 +1,6 @@
 /* The calls of vfdev_card.h, by numbers worked out by hand: makers and freeing, guests and their regions, messages of a client, frames,
- * policies, what a driver leaves to a card, and the page of registers that a client may map. It writes nothing, and ends with 0, where all is
- * as it should be. */
+ * policies, what a driver leaves to a card, the page of registers that a client may map, and what is to be done about its words. It writes
+ * nothing, and ends with 0, where all is as it should be. */
 #include "client.h"
 #include "vfdev_regs.h"
 
@@ -349,6 +349,69 @@ static void areas(void)
     vfdev_card_free(&card);
 }
 
+/* The writes of a queue's changes go to a card, whose queue then reads as the words say. */
+static void give(vfdev_card *card, uint8_t queue, const uint32_t *was, const uint32_t *now)
+{
+    vfdev_register_write changes[VFDEV_PAGE_CHANGES];
+    const size_t count = vfdev_page_changes(queue, was, now, changes);
+    for (size_t at = 0; at < count; at++) {
+        write_register(card, 0, changes[at].offset, changes[at].value);
+    }
+    for (uint32_t place = 0; place < VFDEV_PAGE_WORDS; place++) {
+        EQUAL(read_register(card, 0, vfdev_page_offset(queue, place)), now[place]);
+    }
+}
+
+/* What a driver did with a ring in the page: set up and turned on with two frames, moved to another address, turned off; for each queue. */
+static void pages(void)
+{
+    const uint32_t none[VFDEV_PAGE_WORDS] = {0}, first[VFDEV_PAGE_WORDS] = {0x1000, 0, 128, 0, 0, 0, VFDEV_TXDCTL_ENABLE, 2},
+                   second[VFDEV_PAGE_WORDS] = {0x2000, 0, 256, 0, 0, 0, VFDEV_TXDCTL_ENABLE, 1}, off[VFDEV_PAGE_WORDS] = {0x2000, 0, 256};
+    const uint32_t due[][2] = {{VFDEV_TXDCTL(1), 0}, {VFDEV_TDBAL(1), 0x2000}, {VFDEV_TDLEN(1), 256}, {VFDEV_TDT(1), 1},
+                               {VFDEV_TXDCTL(1), VFDEV_TXDCTL_ENABLE}, {VFDEV_TDT(1), 1}};
+    vfdev_register_write changes[VFDEV_PAGE_CHANGES];
+    vfdev_card card = VFDEV_CARD_NONE;
+    memset(changes, 0xA5, sizeof changes);
+    EQUAL(vfdev_page_changes(1, first, second, changes), 6);
+    for (size_t at = 0; at < 6; at++) {
+        EQUAL(changes[at].offset, due[at][0]);
+        EQUAL(changes[at].value, due[at][1]);
+    }
+    EQUAL(changes[6].offset, 0xA5A5A5A5);
+    EQUAL(vfdev_page_changes(1, first, first, changes), 0);
+    EQUAL(vfdev_page_changes(2, none, first, changes), 0);
+    EQUAL(changes[0].offset, due[0][0]);
+    EQUAL(vfdev_page_offset(2, 0) + vfdev_page_offset(0, VFDEV_PAGE_WORDS), 0);
+    begin_receiving(&card, memory, sizeof memory);
+    for (uint8_t queue = 0; queue < 2; queue++) {
+        give(&card, queue, none, first);
+        give(&card, queue, first, second);
+        give(&card, queue, second, off);
+    }
+    vfdev_card_free(&card);
+}
+
+/* Which words go back, and what messages touch. */
+static void touches(void)
+{
+    const uint32_t was[VFDEV_PAGE_WORDS] = {0x1000, 0, 128, 0, 0, 0, VFDEV_TXDCTL_ENABLE, 2}, now[VFDEV_PAGE_WORDS] = {0x1001, 0, 128, 5, 0, 0, 0, 6};
+    uint8_t message[36] = {7, 0, 10, 0, 36}, reply[48] = {7, 0, 5, 0, 48, [8] = 1, [20] = 3 | VFDEV_CARD_MMAP};
+    EQUAL(vfdev_page_put_back(was, now), 1u << 0 | 1u << 3 | 1u << 6);
+    EQUAL(vfdev_page_serviced(was), 1u << 3 | 1u << 6);
+    EQUAL(vfdev_page_serviced(now), 0);
+    EQUAL(vfdev_page_touched(message, sizeof message).kind, VFDEV_TOUCHES_ALL);
+    message[16] = 0x50;
+    message[17] = 0x20;
+    const vfdev_page_touch touch = vfdev_page_touched(message, sizeof message);
+    EQUAL(touch.kind, VFDEV_TOUCHES_ONE);
+    EQUAL(touch.queue, 1);
+    EQUAL(touch.place, 3);
+    EQUAL(vfdev_page_touched(message, 1).kind, VFDEV_TOUCHES_NOTHING);
+    EQUAL(vfdev_page_offered(reply, sizeof reply), true);
+    reply[8] |= 0x20;
+    EQUAL(vfdev_page_offered(reply, sizeof reply), false);
+}
+
 int main(void)
 {
     vfdev_card card = VFDEV_CARD_NONE;
@@ -378,5 +441,7 @@ int main(void)
     bursts();
     offloads();
     areas();
+    pages();
+    touches();
     return 0;
 }

@@ -5,5 +5,6 @@ pub mod GuestDevices
 pub mod Handle
 pub mod LentWorld
 pub mod Ownership
+pub mod Pages
 pub mod Recorded
 pub mod Spans

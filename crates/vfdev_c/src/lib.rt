@@ -8,6 +8,8 @@
 //! `include/vfdev.h`: pointers that lead to what their lengths say, and one call at a time. A handle may go from thread to
 //! thread.
 //!
+//! Whoever has a page of transmit registers that a client writes as memory asks [`page`], which takes no handle.
+//!
 //! No call takes memory but the makers.
 #![tactic(auto)]
 
@@ -38,6 +40,7 @@ mod on_device;
 mod on_guests;
 mod on_held;
 pub mod owner;
+pub mod page;
 pub mod raw_box;
 mod recorder;
 pub mod recording;

@@ -6,10 +6,8 @@ use crate::os::MappedCard;
 use vfdev::card::{Step, HEADER, ROOM};
 
 // Commands of the protocol.
-pub(crate) const GET_REGION_INFO: u16 = 5;
-pub(crate) const REGION_READ: u16 = 9;
-pub(crate) const REGION_WRITE: u16 = 10;
-pub(crate) const DEVICE_RESET: u16 = 13;
+const REGION_READ: u16 = 9;
+const REGION_WRITE: u16 = 10;
 
 // A command that wants no reply.
 const NO_REPLY: u32 = 0x10;
@@ -81,8 +79,8 @@ impl<'a> Registers<'a> {
     }
 }
 
-/// The number of 32 bits at a place of a message that has it.
-pub(crate) fn word(bytes: &[u8], at: usize) -> u32 {
+// The number of 32 bits at a place of a message that has it.
+fn word(bytes: &[u8], at: usize) -> u32 {
     let mut word = [0; WORD];
     word.copy_from_slice(&bytes[at..at + WORD]);
     u32::from_le_bytes(word)

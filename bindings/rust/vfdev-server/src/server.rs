@@ -13,7 +13,6 @@ use crate::looks::{Looks, AWAKE};
 use crate::offloads;
 use crate::options::Options;
 use crate::os::{self, Alarm, Interest, MappedCard, Patience, Poller};
-use crate::page::Touched;
 use crate::polling::Polling;
 use crate::registers::Registers;
 use crate::signals::{drain, Signals};
@@ -27,6 +26,7 @@ use std::path::PathBuf;
 use std::time::{Duration, Instant};
 use tracing::{debug, error, info, warn};
 use vfdev::card::{CardFault, NotAdmitted, Order, Step, ROOM, VECTORS};
+use vfdev::page::Touched;
 use vfdev::MOST_FRAME;
 
 /// How many messages of one client are handled in a turn at most.

@@ -3,7 +3,8 @@
 //! [`Device`] is the device. Each method gives it one event, and answers what came of it with the interrupt messages that it
 //! issued. [`SharedDevice`] puts it behind a lock, with an [`Interrupt`] where its messages go and [`Frames`] where its
 //! frames go; [`MmioBar`] is the register space of one virtual function. To a device of [`Guests`] guests come, and go, while it lives.
-//! [`regs`] has the registers by name. [`card`] has a whole card, for guests whose QEMU attaches by vfio-user.
+//! [`regs`] has the registers by name. [`card`] has a whole card, for guests whose QEMU attaches by vfio-user; [`page`] says what is to be
+//! done about its transmit registers where they are memory that a guest writes.
 //!
 //! What a method does is what the archive's contracts say. That this crate passes the arguments as they are declared there
 //! is read and tested, not proved; `docs/EMBEDDING.md` of the repository says more.
@@ -44,6 +45,7 @@ pub mod card;
 mod device;
 mod guests;
 mod kinds;
+pub mod page;
 mod quiet;
 mod raw;
 pub mod regs;

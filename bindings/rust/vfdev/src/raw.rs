@@ -48,6 +48,22 @@ impl VfdevCard {
     };
 }
 
+/// A write of a register.
+#[repr(C)]
+#[derive(Clone, Copy, Debug, Default, PartialEq, Eq)]
+pub struct RegisterWrite {
+    pub offset: u32,
+    pub value: u32,
+}
+
+/// What a message may change of the transmit registers.
+#[repr(C)]
+pub struct PageTouch {
+    pub kind: u32,
+    pub queue: u32,
+    pub place: u32,
+}
+
 /// What a message came to.
 #[repr(C)]
 #[derive(Clone, Copy, Default)]
@@ -255,4 +271,16 @@ extern "C" {
     pub fn vfdev_card_dismiss(c: &mut VfdevCard, function: u8) -> u32;
     pub fn vfdev_card_notify(c: &mut VfdevCard, function: u8) -> u32;
     pub fn vfdev_card_flr(c: &mut VfdevCard, function: u8) -> u32;
+
+    pub fn vfdev_page_changes(
+        queue: u8,
+        was: &[u32; 8],
+        now: &[u32; 8],
+        changes: &mut [RegisterWrite; 10],
+    ) -> usize;
+    pub fn vfdev_page_put_back(was: &[u32; 8], now: &[u32; 8]) -> u32;
+    pub fn vfdev_page_serviced(words: &[u32; 8]) -> u32;
+    pub fn vfdev_page_touched(message: *const u8, len: usize) -> PageTouch;
+    pub fn vfdev_page_offered(reply: *const u8, len: usize) -> bool;
+    pub fn vfdev_page_offset(queue: u8, place: u32) -> u32;
 }

@@ -1,0 +1,5 @@
+pub mod Words
+pub mod Changes
+pub mod PutBack
+pub mod Messages
+pub mod Laws

@@ -288,14 +288,15 @@ vfdev_reply vfdev_wire(vfdev *device, const uint8_t *frame, size_t len, uint8_t 
 
 /* ---- guests that come and go -------------------------------------------------------------------------------------
  *
- * A device of vfdev_make_guests begins with vacant functions. Each call below leaves all other functions as they are: their registers, their
- * memories and their settings. The settings that the physical function has for a pool aren't its guest's: they stay when a guest goes, and
- * the next one has them unless they are written anew. The events above do the same as on any other device. In particular vfdev_end and
- * vfdev_pf_reset close a function whose guest is still there, with its memory; vfdev_open opens it again, and writes zeros over all that is
- * mapped of it. Without a guest vfdev_open opens a function without memory, which does no harm.
+ * A device of vfdev_make_guests begins with vacant functions. Guests come by vfdev_attach and go by vfdev_detach, and blocks of their memories
+ * come and go by vfdev_map and vfdev_unmap. These four leave all other functions as they are: their registers, their memories and their
+ * settings. Each answers VFDEV_OK, or the first of the faults that it names, and VFDEV_NO_GUESTS where the handle holds no device of
+ * vfdev_make_guests. Where it isn't VFDEV_OK, nothing has changed, and a block is not used.
  *
- * Each of them answers VFDEV_OK, or the first of the faults that it names; VFDEV_NO_GUESTS where the handle holds no device of
- * vfdev_make_guests. Where it isn't VFDEV_OK, nothing has changed, and a block is not used. */
+ * The settings that the physical function has for a pool aren't its guest's: they stay when a guest goes, and the next one has them unless
+ * they are written anew. The events above do the same as on any other device. In particular vfdev_end and vfdev_pf_reset close a function
+ * whose guest is still there, with its memory; vfdev_open opens it again, and writes zeros over all that is mapped of it. Without a guest
+ * vfdev_open opens a function without memory, which does no harm. */
 
 /* A guest comes to a vacant function, which is open then: no byte of its memory is mapped, and its registers are initial.
  * VFDEV_NO_SUCH_VF; VFDEV_ALREADY_OPEN where it isn't vacant. */
@@ -314,7 +315,7 @@ VFDEV_LOOK enum vfdev_fault vfdev_map_at(vfdev *device, uint8_t function, uint64
  *
  * VFDEV_ANOTHERS exactly where the block has a byte of one that is mapped for another function of this device, whatever else holds; then
  * VFDEV_NO_SUCH_VF; VFDEV_BAD_MAKE where the function is vacant, or the block is empty; VFDEV_PAST_END; VFDEV_OVERLAPS where a region of this
- * guest has one of these guest addresses; VFDEV_TOO_MANY.
+ * guest has one of these guest addresses; VFDEV_TOO_MANY, which comes before these where 4096 blocks are mapped, 64 for each of 64 functions.
  *
  * Blocks are compared by their addresses and lengths in this process. Two maps of one file have different addresses: who maps files compares
  * the files and their offsets. A block may be mapped for one guest at several of its addresses. */

@@ -33,8 +33,8 @@ pub struct WireCount {
 /// and go: its calls are those of a [`Device`], and those by which guests and their memories come and go. Calls take `&mut self`, so that one
 /// is made at a time. No call takes memory but [`Guests::new`], and none blocks.
 ///
-/// No call about one function changes another one: neither its registers nor its memory nor its settings. The settings that the physical
-/// function has for a pool stay when its guest goes.
+/// Where a guest comes or goes, or a block of its memory, no other function changes: neither its registers nor its memory nor its settings.
+/// The settings that the physical function has for a pool stay when its guest goes.
 ///
 /// ```
 /// use std::{ptr::NonNull, sync::atomic::{AtomicU8, Ordering}};

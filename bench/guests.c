@@ -171,6 +171,7 @@ static void start_driver(uint8_t function)
 static void set_up(void)
 {
     must(vfdev_make_guests(&device, GUESTS, LONG, 0));
+    pf(VFDEV_PFDTXGSWC, VFDEV_PFDTXGSWC_LBE);
     for (uint32_t half = 0; half < 2; half++) {
         pf(VFDEV_PFVFRE(half), UINT32_MAX);
         pf(VFDEV_PFVFTE(half), UINT32_MAX);

@@ -3,8 +3,13 @@
 use crate::card::Offloads;
 use crate::device::{made, Device};
 use crate::kinds::{Fault, Messages, Queue, Served, MOST_FRAME};
+use crate::memory::{FileRange, MappedMemory, NotPlugged};
 use crate::raw;
+use std::fmt;
 use std::ptr::NonNull;
+
+/// How many regions of a guest's memory are mapped at most.
+const MOST_REGIONS: usize = 64;
 
 /// What came of a burst of services.
 #[derive(Clone, Copy, Debug, PartialEq, Eq)]
@@ -60,7 +65,28 @@ pub struct WireCount {
 /// ```
 #[derive(Debug)]
 pub struct Guests {
+    // (dropped before the memories are)
     device: Device<'static>,
+    // room for as many as there may be was taken when the device was made
+    plugged: Vec<Plugged>,
+}
+
+// A memory that the device holds, and where its function's guest has it.
+struct Plugged {
+    function: u8,
+    at: u64,
+    file: Option<FileRange>,
+    memory: Box<dyn MappedMemory>,
+}
+
+impl fmt::Debug for Plugged {
+    fn fmt(&self, to: &mut fmt::Formatter<'_>) -> fmt::Result {
+        to.debug_struct("Plugged")
+            .field("function", &self.function)
+            .field("at", &self.at)
+            .field("file", &self.file)
+            .finish_non_exhaustive()
+    }
 }
 
 impl Guests {
@@ -74,7 +100,11 @@ impl Guests {
         let (handle, flags) = (&mut device.handle, offloads.raw());
         // SAFETY: the handle is empty, and the reference leads to one live value.
         made(unsafe { raw::vfdev_make_guests(handle, functions, limit, flags) })?;
-        Ok(Guests { device })
+        let mut plugged = Vec::new();
+        plugged
+            .try_reserve_exact(functions as usize * MOST_REGIONS)
+            .map_err(|_| Fault::NoMemory)?;
+        Ok(Guests { device, plugged })
     }
 
     /// A guest comes to a vacant function, which is open then: no byte of its memory is mapped, and its registers are initial.
@@ -87,13 +117,15 @@ impl Guests {
     }
 
     /// A guest goes, and its function is vacant: nothing of the guest is left for the next one, and the blocks that were mapped for it are the
-    /// caller's again.
+    /// caller's again. Memories that were plugged for it are dropped.
     ///
     /// # Errors
     /// [`Fault::NoSuchVf`] where the number isn't below 64; [`Fault::NotOpen`] where the function is vacant, or there is none.
     pub fn detach(&mut self, function: u8) -> Result<(), Fault> {
         // SAFETY: the reference leads to one live value, which only this device holds.
-        made(unsafe { raw::vfdev_detach(&mut self.device.handle, function) })
+        made(unsafe { raw::vfdev_detach(&mut self.device.handle, function) })?;
+        self.plugged.retain(|region| region.function != function);
+        Ok(())
     }
 
     /// The block is memory of the function's guest from the address `at` on. Its guest may read and write it at any time, and what a call
@@ -101,7 +133,7 @@ impl Guests {
     /// and what is written there is dropped.
     ///
     /// Blocks are compared by their addresses and lengths in this process. Two maps of one file have different addresses: who maps files
-    /// compares the files and their offsets.
+    /// compares the files and their offsets, as [`plug`](Guests::plug) does.
     ///
     /// # Errors
     /// [`Fault::Anothers`] exactly where the block has a byte of one that is mapped for another function of this device; then
@@ -129,13 +161,105 @@ impl Guests {
         made(unsafe { raw::vfdev_map_at(handle, function, at, block, address, read_only) })
     }
 
-    /// The region that begins at the address is mapped no more: its block is the caller's again.
+    /// The region that begins at the address is mapped no more: its block is the caller's again. A memory that was plugged there is dropped;
+    /// [`unplug`](Guests::unplug) hands it back.
     ///
     /// # Errors
     /// [`Fault::NoSuchVf`]; [`Fault::BadMake`] where the function is vacant; [`Fault::NotThere`].
     pub fn unmap(&mut self, function: u8, at: u64) -> Result<(), Fault> {
         // SAFETY: the reference leads to one live value, which only this device holds.
-        made(unsafe { raw::vfdev_unmap(&mut self.device.handle, function, at) })
+        made(unsafe { raw::vfdev_unmap(&mut self.device.handle, function, at) })?;
+        if let Some(place) = self.place_of(function, at) {
+            self.plugged.swap_remove(place);
+        }
+        Ok(())
+    }
+
+    /// As [`map`](Guests::map) does, and the device keeps the memory until it is [unplugged](Guests::unplug), its guest goes, or the device is
+    /// dropped. So no `unsafe` is needed here: it stands where the memory's type is made. Takes no memory.
+    ///
+    /// ```
+    /// use std::{ptr::NonNull, sync::{atomic::{AtomicU8, Ordering}, Arc}};
+    /// use vfdev::{card::Offloads, Fault, Guests, MappedMemory};
+    /// struct Page(Arc<[AtomicU8; 4096]>);
+    /// // SAFETY: the bytes stay where they are as long as somebody has them, and all write them by atomic accesses.
+    /// unsafe impl MappedMemory for Page {
+    ///     fn block(&self) -> NonNull<[u8]> {
+    ///         NonNull::slice_from_raw_parts(NonNull::from(&*self.0).cast(), 4096)
+    ///     }
+    /// }
+    /// const ZERO: AtomicU8 = AtomicU8::new(0);
+    /// let page = Arc::new([ZERO; 4096]);
+    /// let mut device = Guests::new(2, 1518, Offloads::NONE)?;
+    /// device.attach(0)?;
+    /// device.plug(0, 0x1000, Box::new(Page(page.clone())))?;
+    /// device.mem_write(0, 0x1000, &[7])?;
+    /// assert_eq!(page[0].load(Ordering::Relaxed), 7);
+    /// let not = device.plug(1, 0, Box::new(Page(page.clone()))).unwrap_err();
+    /// assert_eq!(not.fault, Fault::Anothers);
+    /// drop(not);
+    /// assert_eq!(Arc::strong_count(&page), 2);
+    /// device.detach(0)?;
+    /// assert_eq!(Arc::strong_count(&page), 1);
+    /// # Ok::<(), Fault>(())
+    /// ```
+    ///
+    /// # Errors
+    /// [`Fault::Anothers`] also where the memory shows a byte of a file that a memory which was plugged for another function shows; the others
+    /// as [`map`](Guests::map) has them. The memory is handed back.
+    pub fn plug(
+        &mut self,
+        function: u8,
+        at: u64,
+        memory: Box<dyn MappedMemory>,
+    ) -> Result<(), NotPlugged> {
+        let file = memory.file();
+        let fault = if self.is_anothers(function, file) {
+            Fault::Anothers
+        } else {
+            // SAFETY: the memory's type answers for its block as long as the memory is there, and it is kept until the region is mapped no
+            // more: it is dropped behind the call that unmaps it, and behind the device.
+            match unsafe { self.map(function, at, memory.block(), memory.is_read_only()) } {
+                Ok(()) => {
+                    self.plugged.push(Plugged {
+                        function,
+                        at,
+                        file,
+                        memory,
+                    });
+                    return Ok(());
+                }
+                Err(fault) => fault,
+            }
+        };
+        Err(NotPlugged { fault, memory })
+    }
+
+    /// The memory that was plugged at the address is mapped no more, and is handed back.
+    ///
+    /// # Errors
+    /// [`Fault::NotThere`] where none was plugged there for this function.
+    pub fn unplug(&mut self, function: u8, at: u64) -> Result<Box<dyn MappedMemory>, Fault> {
+        let place = self.place_of(function, at).ok_or(Fault::NotThere)?;
+        // SAFETY: the reference leads to one live value, which only this device holds.
+        made(unsafe { raw::vfdev_unmap(&mut self.device.handle, function, at) })?;
+        Ok(self.plugged.swap_remove(place).memory)
+    }
+
+    // Whether a memory that was plugged for another function shows a byte of this part of a file.
+    fn is_anothers(&self, function: u8, file: Option<FileRange>) -> bool {
+        let others = self.plugged.iter().filter(|it| it.function != function);
+        file.is_some_and(|range| {
+            others
+                .filter_map(|it| it.file)
+                .any(|other| range.meets(&other))
+        })
+    }
+
+    fn place_of(&self, function: u8, at: u64) -> Option<usize> {
+        self.plugged
+            .iter()
+            .position(|region| (region.function, region.at) == (function, at))
     }
 
     /// Takes descriptors of a transmit queue one after another, `most` at most: what as many calls of [`serve`](Guests::serve) do, in one. It

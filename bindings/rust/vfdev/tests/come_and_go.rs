@@ -2,9 +2,10 @@
 
 use std::ptr::NonNull;
 use std::sync::atomic::{AtomicU8, Ordering};
+use std::sync::Arc;
 use std::thread;
 use vfdev::card::Offloads;
-use vfdev::{regs, Fault, Guests, Pool, Queue, Served, MOST_FRAME};
+use vfdev::{regs, Fault, FileRange, Guests, MappedMemory, Pool, Queue, Served, MOST_FRAME};
 
 const SIZE: usize = 65536;
 // Where a guest has its memory, and in that a ring to receive, one to send, and the first buffer and the frame.
@@ -195,5 +196,113 @@ fn no_block_is_two_guests() -> Result<(), Fault> {
     }
     map(1, 0, 0, 4096)?;
     map(1, 4096, 8192, 4096)?;
+    Ok(())
+}
+
+// A part of a leaked memory, which says of which file it shows 4096 bytes, and which may be read-only. A clone of the counter tells that it is
+// there.
+struct Part {
+    bytes: &'static [AtomicU8],
+    file: Option<FileRange>,
+    is_read_only: bool,
+    _there: Arc<()>,
+}
+
+// SAFETY: the memory is leaked, and everyone writes it by atomic accesses.
+unsafe impl MappedMemory for Part {
+    fn block(&self) -> NonNull<[u8]> {
+        block(self.bytes)
+    }
+
+    fn is_read_only(&self) -> bool {
+        self.is_read_only
+    }
+
+    fn file(&self) -> Option<FileRange> {
+        self.file
+    }
+}
+
+#[test]
+fn a_device_holds_memories_that_are_plugged() -> Result<(), Fault> {
+    let (memory, there) = (memory(), Arc::new(()));
+    let part = |from: usize, is_read_only| {
+        Box::new(Part {
+            bytes: &memory[from..from + 4096],
+            file: None,
+            is_read_only,
+            _there: there.clone(),
+        })
+    };
+    let held = || Arc::strong_count(&there) - 1;
+    let mut device = made()?;
+    let not = device.plug(0, 0, part(0, false)).expect_err("is vacant");
+    assert_eq!((not.fault, held()), (Fault::BadMake, 1));
+    assert_eq!(not.to_string(), Fault::BadMake.to_string());
+    assert_eq!(not.memory.block(), block(&memory[..4096]));
+    drop(not);
+    device.attach(0)?;
+    device.attach(1)?;
+    device.plug(0, 0, part(0, false))?;
+    device.plug(0, 4096, part(4096, true))?;
+    device.plug(1, 0, part(8192, false))?;
+    device.plug(1, 4096, part(12288, false))?;
+    assert_eq!(held(), 4);
+    device.mem_write(0, 4095, &[1, 2])?;
+    assert_eq!(bytes(memory, 4095, 2), [1, 0]);
+    // out of one guest, and into the other at another address
+    assert_eq!(device.unplug(0, 1).err(), Some(Fault::NotThere));
+    assert_eq!(device.unplug(2, 0).err(), Some(Fault::NotThere));
+    let out = device.unplug(0, 0)?;
+    assert_eq!(device.unplug(0, 0).err(), Some(Fault::NotThere));
+    device.plug(1, 0x10_0000, out)?;
+    let mut seen = [7];
+    device.mem_read(0, 4095, &mut seen)?;
+    assert_eq!(seen, [0]);
+    device.mem_read(1, 0x10_0FFF, &mut seen)?;
+    assert_eq!((seen, held()), ([1], 4));
+    // unmapped, with their guest, and with the device
+    device.unmap(1, 4096)?;
+    assert_eq!(held(), 3);
+    device.detach(1)?;
+    assert_eq!(held(), 1);
+    drop(device);
+    assert_eq!(held(), 0);
+    Ok(())
+}
+
+#[test]
+fn a_byte_of_a_file_is_plugged_for_one_function() -> Result<(), Fault> {
+    let memory = memory();
+    let part = |place: usize, inode, from| {
+        let file = FileRange {
+            device: 1,
+            inode,
+            from,
+            len: 4096,
+        };
+        Box::new(Part {
+            bytes: &memory[4096 * place..4096 * (place + 1)],
+            file: Some(file),
+            is_read_only: false,
+            _there: Arc::new(()),
+        })
+    };
+    let mut device = made()?;
+    device.attach(0)?;
+    device.attach(1)?;
+    device.plug(0, 0, part(0, 7, 8192))?;
+    for from in [8192, 12287, 4097] {
+        let not = device.plug(1, 0, part(1, 7, from)).expect_err("the file");
+        assert_eq!(not.fault, Fault::Anothers, "{from}");
+    }
+    device.plug(1, 0, part(1, 7, 4096))?;
+    device.plug(1, 4096, part(2, 8, 8192))?;
+    device.plug(1, 8192, part(3, 7, 12288))?;
+    // twice for one function, and for another once that one let go of it
+    device.plug(0, 4096, part(4, 7, 8192))?;
+    device.unmap(0, 0)?;
+    device.unmap(0, 4096)?;
+    device.plug(1, 12288, part(5, 7, 8192))?;
     Ok(())
 }

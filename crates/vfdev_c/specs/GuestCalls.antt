@@ -102,6 +102,7 @@ IsServed None p g h done raised = (h.device ≡ g.device) × (h.frames ≡ empti
 pub record ServesBurst (p queue most : ℕ) (g h : HeldGuests) (answer : VfdevBurst × List ℕ) : Type 0 where
   pub served : IsServed (queue_of queue) p g h answer.0 answer.1
   pub few : answer.0.taken ≤ most
+  pub flag : answer.0.goes_on ≤ 1
   pub why : answer.0.goes_on ≡ 1 → (answer.0.taken ≡ most) ⊎ (has_room h.frames ≡ false)
   pub frames : answer.0.frames ≡ length h.frames.frames
   pub spares : h.spares ≡ g.spares

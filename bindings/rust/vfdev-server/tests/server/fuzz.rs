@@ -9,7 +9,7 @@ use crate::client::{
 };
 use crate::driver::{Guest, TX_RING};
 use crate::os::{self, Memory};
-use crate::program::{wait_until, Folder, Server};
+use crate::program::{is_sanitized, wait_until, Folder, Server};
 use std::fs::{self, File};
 use std::io::{ErrorKind, Read};
 use std::os::fd::{AsFd, BorrowedFd, OwnedFd};
@@ -353,8 +353,10 @@ fn nobody_is_disturbed(server: &Server, guests: [Guest; 2], with_pages: bool) {
     let after = held(server);
     println!("{number} frames, {sent} messages; files, threads and KiB before {before:?}, after {after:?}");
     assert_eq!((before.0, before.1), (after.0, after.1), "files, threads");
+    // (a sanitizer takes memory of its own)
+    let more = if is_sanitized() { 65536 } else { 4096 };
     assert!(
-        after.2 < before.2 + 4096,
+        after.2 < before.2 + more,
         "{} KiB, then {}",
         before.2,
         after.2

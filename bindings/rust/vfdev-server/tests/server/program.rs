@@ -2,6 +2,7 @@
 
 use crate::client::Client;
 use crate::os;
+use std::env;
 use std::fs::{self, File};
 use std::io::Read;
 use std::os::unix::net::UnixStream;
@@ -47,8 +48,14 @@ impl Drop for Folder {
     }
 }
 
-/// The program with these words, with its log in a file.
+/// Whether all is built with a sanitizer, as `bench/server_sanitized` does.
+pub fn is_sanitized() -> bool {
+    env::var_os("VFDEV_SANITIZED").is_some()
+}
+
+/// The program with these words, with its log in a file. A sanitizer makes calls of the system that its filter doesn't know.
 pub fn start(folder: &Folder, words: &[&str]) -> Child {
+    let more = is_sanitized().then_some("--no-seccomp");
     let log = File::options()
         .create(true)
         .append(true)
@@ -56,6 +63,7 @@ pub fn start(folder: &Folder, words: &[&str]) -> Child {
         .expect("a log");
     Command::new(env!("CARGO_BIN_EXE_vfdev-server"))
         .args(words)
+        .args(more)
         .stdin(Stdio::null())
         .stdout(Stdio::null())
         .stderr(log)

@@ -1,6 +1,6 @@
-/* Guests that come and go, of a hypervisor that emulates the PCI functions itself. Two guests come, each with a block of memory from 1 MiB on;
- * guest 1 sends three frames to guest 0 and one to the wire, all in one burst; a block of guest 0 is refused to guest 1; then guest 0 goes, and
- * another one takes its place, who sees nothing of it.
+/* Guests that come and go, of a hypervisor that emulates the PCI functions itself. Two guests come, each with a block of 1 GiB from 1 MiB on, of
+ * which a few pages are touched; a page of guest 0 is refused to guest 1; guest 1 sends three frames to guest 0 and one to the wire, all in one
+ * burst; then guest 0 goes, and another one takes its place, who sees nothing of it.
  *
  * Build, in a clone after bindings/test: cc -Iinclude examples/guests.c bindings/native/libvfdev_c.a bindings/native/liblibc_c.a -o guests
  * docs/EMBEDDING.md has other ways. It prints what examples/guests.c.stdout has. */
@@ -10,10 +10,10 @@
 #include <stdlib.h>
 #include <string.h>
 
-/* Where a guest's memory is, and in that its rings, its buffers of 2 KiB and its frames. */
-enum { MIB = 1 << 20, SIZE = 65536, RECEIVES = 0x1000, SENDS = 0x2000, BUFFER = 0x4000, SENT = 0x8000, FRAME = 60 };
+/* Where a guest's memory is, and in that its rings, its buffers of 2 KiB and, in the last page, its frames. */
+enum { MIB = 1 << 20, SIZE = 1 << 30, RECEIVES = 0x1000, SENDS = 0x2000, BUFFER = SIZE / 2, SENT = SIZE - 4096, FRAME = 60 };
 
-static uint8_t memory[3][SIZE];
+static uint8_t *memory[3];
 static uint8_t messages[VFDEV_POOLS];
 static uint8_t out[VFDEV_MOST_FRAME];
 static vfdev device = VFDEV_NONE;
@@ -51,7 +51,7 @@ static void come(uint8_t function, uint8_t *bytes)
     step("a guest comes", vfdev_attach(&device, function));
     step("its memory is mapped", vfdev_map(&device, function, MIB, (vfdev_block){bytes, SIZE}, false));
     for (uint64_t slot = 0; slot < 8; slot++)
-        put(bytes + RECEIVES + 16 * slot, MIB + BUFFER + 2048 * slot);
+        put(bytes + RECEIVES + 16 * slot, MIB + (uint64_t)BUFFER + 2048 * slot);
     vf(function, VFDEV_RDBAL(0), MIB + RECEIVES);
     vf(function, VFDEV_RDLEN(0), 128);
     vf(function, VFDEV_SRRCTL(0), VFDEV_SRRCTL_DESCTYPE(1) | VFDEV_SRRCTL_BSIZEPACKET(2));
@@ -70,7 +70,7 @@ static void lay(uint8_t *bytes, unsigned slot, uint8_t to, uint8_t from)
     const uint8_t addresses[14] = {2, 0, 0, 0, 0, to, 2, 0, 0, 0, 0, from, 8, 0};
     memcpy(bytes + SENT + 64 * slot, addresses, sizeof addresses);
     bytes[SENT + 64 * slot + FRAME - 1] = (uint8_t)(slot + 1);
-    put(bytes + SENDS + 16 * slot, MIB + SENT + 64 * (uint64_t)slot);
+    put(bytes + SENDS + 16 * slot, MIB + (uint64_t)SENT + 64 * slot);
     put(bytes + SENDS + 16 * slot + 8, VFDEV_TXD_DEXT | VFDEV_TXD_DTYP(3) | VFDEV_TXD_EOP | VFDEV_TXD_RS | VFDEV_TXD_LENGTH(FRAME));
 }
 
@@ -82,6 +82,11 @@ static void show(const char *who, const uint8_t *bytes)
 
 int main(void)
 {
+    for (size_t guest = 0; guest < 3; guest++) {
+        memory[guest] = calloc(1, SIZE); /* (no page of it is there before it is touched) */
+        if (!memory[guest])
+            return 1;
+    }
     step("a device is made", vfdev_make_guests(&device, 2, 1518, 0));
     must(vfdev_pf_write(&device, VFDEV_PFVFRE(0), 3));
     must(vfdev_pf_write(&device, VFDEV_PFVFTE(0), 3));
@@ -117,5 +122,7 @@ int main(void)
     show("the next guest 0", memory[2]);
     show("the memory of the former", memory[0]);
     vfdev_free(&device);
+    for (size_t guest = 0; guest < 3; guest++)
+        free(memory[guest]);
     return 0;
 }

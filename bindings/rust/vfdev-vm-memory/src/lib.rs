@@ -9,21 +9,24 @@
 //! let ranges = [(GuestAddress(0), 3 << 30), (GuestAddress(4 << 30), 2 << 30)];
 //! let memory: GuestMemoryMmap = GuestMemoryMmap::from_ranges(&ranges).unwrap();
 //! let mut device = Guests::new(2, 1518, Offloads::ALL)?;
-//! vfdev_vm_memory::attach(&mut device, 0, &memory)?;
+//! // SAFETY: nobody copies to or from the memory while a call of the device runs.
+//! unsafe { vfdev_vm_memory::attach(&mut device, 0, &memory) }?;
 //! device.mem_write(0, 5 << 30, b"there")?;
 //! let mut seen = [0; 5];
 //! memory.read_slice(&mut seen, GuestAddress(5 << 30)).unwrap();
 //! assert_eq!(&seen, b"there");
 //! // nobody else is given it
-//! assert_eq!(vfdev_vm_memory::attach(&mut device, 1, &memory), Err(Fault::Anothers));
+//! // SAFETY: as above.
+//! assert_eq!(unsafe { vfdev_vm_memory::attach(&mut device, 1, &memory) }, Err(Fault::Anothers));
 //! device.detach(0)?;
-//! vfdev_vm_memory::attach(&mut device, 1, &memory)?;
+//! // SAFETY: as above.
+//! unsafe { vfdev_vm_memory::attach(&mut device, 1, &memory) }?;
 //! # Ok::<(), Fault>(())
 //! ```
 //!
 //! A region stays mapped as long as the device has it, whoever else lets it go. One that was mapped without `PROT_WRITE` is read-only. Two maps
 //! of one file are known by the file's device and inode, so a byte of a file is memory of one function. A file that becomes shorter while it is
-//! mapped ends the process by SIGBUS where its bytes were: take one that is sealed against shrinking, as `memfd_create` makes them. What the
+//! mapped ends the process by SIGBUS where its bytes were: take a memfd that is sealed against shrinking (F_SEAL_SHRINK). What the
 //! device writes is marked in no bitmap of dirty pages. Both functions here take memory of the allocator; the device's calls don't.
 #![deny(
     clippy::undocumented_unsafe_blocks,
@@ -41,11 +44,20 @@ use vm_memory::{GuestMemory, GuestMemoryMmap, GuestMemoryRegion, GuestRegionMmap
 ///
 /// # Errors
 /// As [`Guests::attach`], then as [`plug`] for the first region that is refused: then the function is vacant again.
-pub fn attach(device: &mut Guests, function: u8, memory: &GuestMemoryMmap) -> Result<(), Fault> {
+///
+/// # Safety
+/// As [`plug`], of each region.
+pub unsafe fn attach(
+    device: &mut Guests,
+    function: u8,
+    memory: &GuestMemoryMmap,
+) -> Result<(), Fault> {
     device.attach(function)?;
-    let plugged = memory
-        .iter()
-        .try_for_each(|region| plug(device, function, held(memory, region)?));
+    let plugged = memory.iter().try_for_each(|region| {
+        let region = held(memory, region)?;
+        // SAFETY: the caller answers for each region.
+        unsafe { plug(device, function, region) }
+    });
     if plugged.is_err() {
         device.detach(function)?;
     }
@@ -56,7 +68,16 @@ pub fn attach(device: &mut Guests, function: u8, memory: &GuestMemoryMmap) -> Re
 ///
 /// # Errors
 /// [`Fault::BadMake`] where the region was mapped without `PROT_READ`, or its file can't be asked for its number; else as [`Guests::plug`].
-pub fn plug(device: &mut Guests, function: u8, region: Arc<GuestRegionMmap>) -> Result<(), Fault> {
+///
+/// # Safety
+/// As long as the device has the region, no other thread of this process reads or writes it, while a call of the device runs, but by volatile or
+/// atomic accesses: vm-memory's own `load` and `store` are such, and so are its copies of up to 8 bytes. Longer ones (`read_slice`,
+/// `write_slice` and the like) are plain copies, and have to wait. A guest's processors may write at any time.
+pub unsafe fn plug(
+    device: &mut Guests,
+    function: u8,
+    region: Arc<GuestRegionMmap>,
+) -> Result<(), Fault> {
     let at = region.start_addr().0;
     device.plug(function, at, Box::new(Region::new(region)?))?;
     Ok(())
@@ -82,8 +103,8 @@ struct Region {
 unsafe impl Send for Region {}
 
 // SAFETY: the region stays mapped as long as somebody has a share of it, and this has one. It may be read, by `new`, and written unless it is
-// read-only. By vm-memory's contract only raw pointers lead to the bytes of a region, and all that it does there itself is volatile or atomic;
-// who takes a slice of them does so by `unsafe`, and answers for that. Which bytes of which file it shows is what it was mapped from.
+// read-only. For what others in this process do there meanwhile answers who plugs it. Which bytes of which file it shows is what it was
+// mapped from.
 unsafe impl MappedMemory for Region {
     fn block(&self) -> NonNull<[u8]> {
         NonNull::slice_from_raw_parts(self.start, self.region.size())

@@ -5,7 +5,6 @@ use std::os::fd::FromRawFd;
 use std::sync::Arc;
 use vfdev::card::Offloads;
 use vfdev::{regs, Fault, Guests, Queue};
-use vfdev_vm_memory::{attach, plug};
 use vm_memory::mmap::MmapRegion;
 use vm_memory::{Bytes, FileOffset, GuestAddress, GuestMemoryMmap, GuestRegionMmap};
 
@@ -22,6 +21,16 @@ fn memory(ranges: &[(u64, u64)]) -> GuestMemoryMmap {
         .map(|(at, len)| (GuestAddress(*at), *len as usize))
         .collect();
     GuestMemoryMmap::from_ranges(&ranges).unwrap()
+}
+
+fn attach(device: &mut Guests, function: u8, memory: &GuestMemoryMmap) -> Result<(), Fault> {
+    // SAFETY: each test has one thread.
+    unsafe { vfdev_vm_memory::attach(device, function, memory) }
+}
+
+fn plug(device: &mut Guests, function: u8, region: Arc<GuestRegionMmap>) -> Result<(), Fault> {
+    // SAFETY: each test has one thread.
+    unsafe { vfdev_vm_memory::plug(device, function, region) }
 }
 
 // Two vacant functions, which may receive and send, to each other too.

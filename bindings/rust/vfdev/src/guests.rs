@@ -195,9 +195,9 @@ impl Guests {
     /// device.plug(0, 0x1000, Box::new(Page(page.clone())))?;
     /// device.mem_write(0, 0x1000, &[7])?;
     /// assert_eq!(page[0].load(Ordering::Relaxed), 7);
-    /// let not = device.plug(1, 0, Box::new(Page(page.clone()))).unwrap_err();
-    /// assert_eq!(not.fault, Fault::Anothers);
-    /// drop(not);
+    /// let refused = device.plug(1, 0, Box::new(Page(page.clone()))).unwrap_err();
+    /// assert_eq!(refused.fault, Fault::Anothers);
+    /// drop(refused);
     /// assert_eq!(Arc::strong_count(&page), 2);
     /// device.detach(0)?;
     /// assert_eq!(Arc::strong_count(&page), 1);

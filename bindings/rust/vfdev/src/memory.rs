@@ -11,8 +11,8 @@ use std::ptr::NonNull;
 /// moved meanwhile:
 ///
 /// - The block stays mapped to be read, and where it isn't read-only also to be written.
-/// - In this process only raw pointers and atomics lead to it, and who reads or writes it by them does so by volatile or atomic accesses.
-///   Guests, and other processes, may write it at any time.
+/// - While a call of the device runs, only raw pointers and atomics lead to it in this process, and who reads or writes it by them does so by
+///   volatile or atomic accesses. Guests, and other processes, may write it at any time.
 /// - Where the block shows bytes of a file that other maps may show too, `file` says which.
 pub unsafe trait MappedMemory: Send {
     /// Where the block is in this process, and how many bytes it has.
@@ -37,6 +37,9 @@ pub unsafe trait MappedMemory: Send {
 /// assert!(page(0).meets(&page(4095)));
 /// assert!(!page(0).meets(&page(4096)));
 /// assert!(!page(0).meets(&FileRange { inode: 8, ..page(0) }));
+/// assert!(!page(0).meets(&FileRange { len: 0, ..page(1) }));
+/// let last = FileRange { len: 1, ..page(u64::MAX) };
+/// assert!(last.meets(&last));
 /// ```
 #[derive(Clone, Copy, Debug, PartialEq, Eq)]
 pub struct FileRange {
@@ -55,8 +58,15 @@ impl FileRange {
     #[must_use]
     pub fn meets(&self, other: &FileRange) -> bool {
         (self.device, self.inode) == (other.device, other.inode)
-            && self.from < other.from.saturating_add(other.len)
-            && other.from < self.from.saturating_add(self.len)
+            && self.len > 0
+            && other.len > 0
+            && self.from <= other.last()
+            && other.from <= self.last()
+    }
+
+    // The last byte, where there is one.
+    fn last(&self) -> u64 {
+        self.from.saturating_add(self.len - 1)
     }
 }
 
@@ -85,7 +95,40 @@ impl fmt::Display for NotPlugged {
 impl std::error::Error for NotPlugged {}
 
 impl From<NotPlugged> for Fault {
-    fn from(not: NotPlugged) -> Fault {
-        not.fault
+    fn from(refused: NotPlugged) -> Fault {
+        refused.fault
+    }
+}
+
+#[cfg(test)]
+mod tests {
+    use super::*;
+
+    #[test]
+    fn ranges_of_files_meet() {
+        // (from, len) of both, and whether they have a byte in common
+        for (one, two, meet) in [
+            ((0, 4), (4, 4), false),
+            ((0, 5), (4, 4), true),
+            ((0, 8), (4, 4), true),
+            ((4, 4), (4, 4), true),
+            ((4, 4), (3, 6), true),
+            ((4, 0), (0, 8), false),
+            ((4, 0), (4, 0), false),
+            ((0, u64::MAX), (7, 1), true),
+            ((u64::MAX, 1), (u64::MAX, 1), true),
+            ((1, u64::MAX), (u64::MAX, 1), true),
+            ((8, u64::MAX), (0, 8), false),
+        ] {
+            let of = |(from, len), inode| FileRange {
+                device: 1,
+                inode,
+                from,
+                len,
+            };
+            assert_eq!(of(one, 7).meets(&of(two, 7)), meet, "{one:?} {two:?}");
+            assert_eq!(of(two, 7).meets(&of(one, 7)), meet, "{two:?} {one:?}");
+            assert!(!of(one, 7).meets(&of(two, 8)), "{one:?} {two:?}");
+        }
     }
 }

@@ -236,11 +236,11 @@ fn a_device_holds_memories_that_are_plugged() -> Result<(), Fault> {
     };
     let held = || Arc::strong_count(&there) - 1;
     let mut device = made()?;
-    let not = device.plug(0, 0, part(0, false)).expect_err("is vacant");
-    assert_eq!((not.fault, held()), (Fault::BadMake, 1));
-    assert_eq!(not.to_string(), Fault::BadMake.to_string());
-    assert_eq!(not.memory.block(), block(&memory[..4096]));
-    drop(not);
+    let refused = device.plug(0, 0, part(0, false)).expect_err("vacant");
+    assert_eq!((refused.fault, held()), (Fault::BadMake, 1));
+    assert_eq!(refused.to_string(), Fault::BadMake.to_string());
+    assert_eq!(refused.memory.block(), block(&memory[..4096]));
+    drop(refused);
     device.attach(0)?;
     device.attach(1)?;
     device.plug(0, 0, part(0, false))?;
@@ -293,8 +293,8 @@ fn a_byte_of_a_file_is_plugged_for_one_function() -> Result<(), Fault> {
     device.attach(1)?;
     device.plug(0, 0, part(0, 7, 8192))?;
     for from in [8192, 12287, 4097] {
-        let not = device.plug(1, 0, part(1, 7, from)).expect_err("the file");
-        assert_eq!(not.fault, Fault::Anothers, "{from}");
+        let refused = device.plug(1, 0, part(1, 7, from)).expect_err("the file");
+        assert_eq!(refused.fault, Fault::Anothers, "{from}");
     }
     device.plug(1, 0, part(1, 7, 4096))?;
     device.plug(1, 4096, part(2, 8, 8192))?;

@@ -12,6 +12,7 @@ use std::time::Duration;
 use vfdev::card::{
     Access, Card, CardFault, More, NotAdmitted, Offloads, Policy, Step, WireCount, ROOM,
 };
+use vfdev::FileRange;
 
 /// A card, and for each of its functions the files that are mapped as memory of its guest. The two stand together, so that no range of a file
 /// is unmapped that the card may still reach.
@@ -35,24 +36,8 @@ struct Region {
     _mapping: Mapping,
 }
 
-/// A range of a file.
-#[derive(Clone, Copy, Debug, PartialEq, Eq)]
-struct FileRange {
-    device: u64,
-    inode: u64,
-    offset: u64,
-    size: u64,
-}
-
-impl FileRange {
-    fn overlaps(&self, other: &FileRange) -> bool {
-        (self.device, self.inode) == (other.device, other.inode)
-            && meet((self.offset, self.size), (other.offset, other.size))
-    }
-}
-
-// Whether two ranges of numbers, each by its first number and how many it has, have one in common. Each has one at least, and none goes
-// past 2^64.
+// Whether two ranges of guest addresses, each by its first address and how many it has, have one in common. Each has one at least, and none
+// goes past 2^64.
 fn meet(one: (u64, u64), two: (u64, u64)) -> bool {
     one.0 <= two.0 + (two.1 - 1) && two.0 <= one.0 + (one.1 - 1)
 }
@@ -64,7 +49,7 @@ fn is_inside(outer: (u64, u64), inner: (u64, u64)) -> bool {
 
 // Unmaps what the card has given back. Where too many others are at it, the caller waits.
 fn let_go(apart: &Apart, regions: Vec<Region>) {
-    let sizes = regions.iter().map(|region| region.range.size);
+    let sizes = regions.iter().map(|region| region.range.len);
     if sizes.fold(0, u64::saturating_add) >= MANY_BYTES {
         drop(apart.let_go(regions));
     }
@@ -236,8 +221,8 @@ impl MappedCard {
         let range = FileRange {
             device: told.dev(),
             inode: told.ino(),
-            offset,
-            size,
+            from: offset,
+            len: size,
         };
         match self.other_with(function, &range) {
             Some(other) => Err(MapError::OfAnother(other)),
@@ -250,7 +235,7 @@ impl MappedCard {
         (0u8..)
             .zip(&self.memories)
             .filter(|(other, _)| *other != function)
-            .find(|(_, regions)| regions.iter().any(|region| region.range.overlaps(range)))
+            .find(|(_, regions)| regions.iter().any(|region| region.range.meets(range)))
             .map(|(other, _)| other)
     }
 
@@ -264,14 +249,14 @@ impl MappedCard {
             return Ok(());
         };
         for region in regions.iter() {
-            let inner = (region.address, region.range.size);
+            let inner = (region.address, region.range.len);
             if size > 0 && meet(outer, inner) && !is_inside(outer, inner) {
                 return Err(MapError::InPart(region.address));
             }
         }
         while let Some(place) = regions
             .iter()
-            .position(|region| size > 0 && is_inside(outer, (region.address, region.range.size)))
+            .position(|region| size > 0 && is_inside(outer, (region.address, region.range.len)))
         {
             self.card.unmap(function, regions[place].address)?;
             let_go(&self.apart, vec![regions.swap_remove(place)]);
@@ -284,7 +269,7 @@ impl MappedCard {
     pub fn mapped(&self, function: u8) -> (u64, usize) {
         let regions = self.memories.get(usize::from(function));
         let regions = regions.map_or(&[][..], |regions| regions.as_slice());
-        let bytes = regions.iter().map(|region| region.range.size).sum();
+        let bytes = regions.iter().map(|region| region.range.len).sum();
         (bytes, regions.len())
     }
 

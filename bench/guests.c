@@ -1,8 +1,10 @@
 /* Prints the table of docs/PERFORMANCE.md on a device of guests that come and go, through the C interface: 64 guests, each with a block that is
  * mapped for it; what a frame costs alone and in a burst, and what it costs that a guest goes and another comes. The shortest of many rounds.
+ * Each descriptor names a buffer of its own, so a frame comes into memory that the nearest caches don't hold; by the word `near` they all name
+ * one, which these do hold.
  *
  *   bindings/test && cc -O2 -Iinclude bench/guests.c bindings/native/libvfdev_c.a bindings/native/liblibc_c.a -o guests
- *   LD_BIND_NOW=1 ./guests
+ *   LD_BIND_NOW=1 ./guests [near]
  */
 #include "measure.h"
 #include "vfdev.h"
@@ -17,7 +19,7 @@ enum { RECEIVE_RING = 0x1000, SEND_RING = 0x2000, TO_GUEST = 0x3000, TO_WIRE = 0
 static uint8_t memory[GUESTS][MEMORY], messages[VFDEV_POOLS], out[VFDEV_MOST_FRAME], frame[LONG], frames[BURST * LONG];
 static size_t short_ends[BURST], long_ends[BURST];
 static vfdev device = VFDEV_NONE;
-static uint32_t given[GUESTS], sent, due;
+static uint32_t given[GUESTS], sent, due, apart = 2048;
 static bool is_wrong;
 
 static void must(enum vfdev_fault answer)
@@ -50,7 +52,7 @@ static void pf_read(void) { is_wrong |= vfdev_pf_read(&device, VFDEV_PFVFRE(0)).
 static void give(uint8_t function, uint32_t count)
 {
     for (uint32_t slot = given[function]; slot < given[function] + count; slot++)
-        put(function, RECEIVE_RING, slot % SLOTS, BUFFERS + 2048 * (slot % SLOTS), 0);
+        put(function, RECEIVE_RING, slot % SLOTS, BUFFERS + apart * (slot % SLOTS), 0);
     given[function] = (given[function] + count) % SLOTS;
     vf(function, VFDEV_RDT(0), given[function]);
 }
@@ -200,8 +202,10 @@ static void lay_frames(size_t size)
         memcpy(frames + size * i, frame, 14);
 }
 
-int main(void)
+int main(int words, char **word)
 {
+    if (words > 1 && !strcmp(word[1], "near"))
+        apart = 0;
     set_up();
     printf("| Call, or a frame | ns |\n|---|---|\n");
     for (size_t i = 0; i < sizeof ROWS / sizeof *ROWS; i++) {

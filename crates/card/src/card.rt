@@ -1,7 +1,7 @@
 //! The card.
-ghost use Rattle.std.specs.Prelude.{◌≡◌, ◌≤◌, ◌&&◌, false, true, nat_le, length, map, replicate, Err, IfErr, IfOk};
-ghost use Rattle.vf_unit.specs.Unit.{interval_of, shortfalls_of};
-ghost use Rattle.device.specs.World.{function_of};
+ghost use Rattle.std.specs.Prelude.{◌≡◌, ◌≤◌, ◌&&◌, false, true, nat_le, length, map, replicate, slice_index, Err, IfErr, IfOk};
+ghost use Rattle.vf_unit.specs.Unit.{counts_of, interval_of};
+ghost use Rattle.device.specs.World.{function_of, place_of};
 ghost use Rattle.device.specs.Guests.{is_for_guests};
 ghost use Rattle.hosted.specs.Hosted.{host_of_ids};
 ghost use Rattle.card.specs.Alike.{IsCard};
@@ -11,9 +11,11 @@ use device::Vector;
 use hosted::HostedDevice;
 use irq_causes::Messages;
 use live_memory::Dma;
+use local_switch::Source;
 use offload::Offloads;
 use std::alloc::{AllocError, Global};
 use std::marker::Model;
+use vf_unit::Counts;
 use vfio_session::Session;
 use wire_frame::{Fault, FrameLimit, PoolId, Vid};
 
@@ -118,12 +120,18 @@ impl<D: Dma<K>, K> Card<D, K> {
         self.hosted.functions()
     }
 
-    /// How often something that a function's driver left to the card could not be done, as
-    /// [`HostedDevice::shortfalls`](hosted::HostedDevice::shortfalls) says.
-    pub fn shortfalls(&self, pool: PoolId) -> u32
-        ensures { result ≡ shortfalls_of (function_of pool self.now.hosted.device.world) }
+    /// What a function has counted since its guest came or it was reset, as [`HostedDevice::counts`](hosted::HostedDevice::counts) says.
+    pub fn counts(&self, pool: PoolId) -> Counts
+        ensures { result ≡ counts_of (function_of pool self.now.hosted.device.world) }
     {
-        self.hosted.shortfalls(pool)
+        self.hosted.counts(pool)
+    }
+
+    /// How many frames from a source nobody got since the card was made, as [`HostedDevice::unclaimed`](hosted::HostedDevice::unclaimed) says.
+    pub fn unclaimed(&self, from: Source) -> u32
+        ensures { result ≡ slice_index self.now.hosted.device.world.unclaimed (place_of from) }
+    {
+        self.hosted.unclaimed(from)
     }
 
     /// How many microseconds apart a function's driver wants the messages of a vector to be at least, 0 to 1022, as

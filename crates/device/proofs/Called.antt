@@ -5,6 +5,7 @@ use Rattle.std.specs.Result.{is_ok}
 use Rattle.std.proofs.lemmas.List.{get_or_past}
 use Rattle.wire_frame.specs.Bits.{with_bit}
 use Rattle.wire_frame.specs.declared.fault.Fault.{Fault}
+use Rattle.wire_frame.specs.declared.fault.Fault.TheVariants.{NoSuchVf}
 use Rattle.std.proofs.lemmas.Bool.Decides.{eqb_tells}
 use Rattle.irq_causes.specs.Messages.{no_messages}
 use Rattle.live_memory.specs.Trace.{Access}
@@ -21,7 +22,7 @@ use Rattle.device.specs.declared.event.Answer.{Answer}
 use Rattle.device.specs.Outcome.{Outcome, IsOf, Holds, HoldsIn, reply_of, reply_in, done_or_refused}
 use Rattle.device.specs.Act.{act, serve}
 use Rattle.device.specs.Guests.{prompted, prompt_messages}
-use Rattle.device.specs.World.{World, Stepped, function_of, with_function, own_step, acted, silently, flagged, all_reset, sizes_of}
+use Rattle.device.specs.World.{World, Stepped, function_of, with_function, own_step, acted, refused, silently, flagged, all_reset, sizes_of}
 use Rattle.device.specs.Live.{TracedWorld, told_functions, told_world, told_service, AreMet, AreListed}
 use Rattle.device.proofs.Arrivals.{raised_nothing}
 use Rattle.device.proofs.Inside.{reply_in_of}
@@ -37,9 +38,10 @@ pub record Base : Type 0 where
   pub settings : Settings
   pub resets : ℕ
   pub wire : List (List ℕ)
+  pub unclaimed : List ℕ
 
 abbrev pub world_with : Base → List TracedFunction → World
-world_with b us = record { profile = b.profile; settings = b.settings; resets = b.resets; functions = functions_of us; wire = b.wire }
+world_with b us = record { profile = b.profile; settings = b.settings; resets = b.resets; functions = functions_of us; wire = b.wire; unclaimed = b.unclaimed }
 
 abbrev pub device_with : Base → List TracedFunction → TracedWorld
 device_with b us = record { world = world_with b us; accesses = traces_of us }
@@ -49,11 +51,15 @@ device_with b us = record { world = world_with b us; accesses = traces_of us }
 own_there : (w : World) (p : ℕ) (e : Event) → p < length w.functions → own_step w p e ≡ acted w p (act (function_of p w) e)
 own_there w p e below = let inside : nat_lt p (length w.functions) ≡ true = grind (arith, below) in rw inside refl
 
+-- of a function that isn't there an event is refused
+pub own_absent : (w : World) (p : ℕ) (e : Event) → length w.functions ≤ p → own_step w p e ≡ refused w NoSuchVf
+own_absent w p e past = let outside : nat_lt p (length w.functions) ≡ false = grind (arith, past) in rw outside refl
+
 pub own_world : (b : Base) (us : List TracedFunction) (t : TracedWorld) (i p : ℕ) (here new : TracedFunction) (e : Event) → device_with b us ≡ t → IsHere us i p here → new.function ≡ (act here.function e).function
     → world_with b (set us i new) ≡ (own_step t.world p e).world
 own_world b us t i p here new e view h is =
     subst (λ (d : TracedWorld). world_with b (set us i new) ≡ (own_step d.world p e).world) view
-    (ap (λ (fs : List Function). record { profile = b.profile; settings = b.settings; resets = b.resets; functions = fs; wire = b.wire })
+    (ap (λ (fs : List Function). record { profile = b.profile; settings = b.settings; resets = b.resets; functions = fs; wire = b.wire; unclaimed = b.unclaimed })
     (functions_now us i p here new h ∙ ap (set (functions_of us) p) (is ∙ ap (λ (f : Function). (act f e).function) (sym (function_here us i p here h))))
     ∙ sym (ap (λ (s : Stepped). s.world) (own_there (world_with b us) p e (there us i p here h))))
 
@@ -148,7 +154,7 @@ own_told b us t i p here new e view h =
     ∙ ap (λ (f : Function). acted (world_with b us) p (act (told_of here.accesses new.accesses f) e)) (function_here us i p here h))
 
 after_is : (b : Base) (us : List TracedFunction) (i p : ℕ) (here new : TracedFunction) → IsHere us i p here → with_function (world_with b us) p new.function ≡ world_with b (set us i new)
-after_is b us i p here new h = ap (λ (fs : List Function). record { profile = b.profile; settings = b.settings; resets = b.resets; functions = fs; wire = b.wire }) (sym (functions_now us i p here new h))
+after_is b us i p here new h = ap (λ (fs : List Function). record { profile = b.profile; settings = b.settings; resets = b.resets; functions = fs; wire = b.wire; unclaimed = b.unclaimed }) (sym (functions_now us i p here new h))
 
 pub read_world : (b : Base) (us : List TracedFunction) (t : TracedWorld) (i p : ℕ) (here new : TracedFunction) (e : Event) → device_with b us ≡ t → IsHere us i p here → new.function ≡ (act (met_function here new) e).function
     → world_with b (set us i new) ≡ (own_step (told_world t.accesses (traces_of (set us i new)) t.world) p e).world
@@ -220,9 +226,9 @@ is_done_of (Err fault) ok is = is
 
 pub reset_done : (b : Base) (us : List TracedFunction) (t : TracedWorld) (i p resets : ℕ) (here new : TracedFunction) (reply : Reply) → device_with b us ≡ t → IsHere us i p here → new.function ≡ (act here.function (Flr p)).function
     → (act here.function (Flr p)).reply ≡ reply → (act here.function (Flr p)).messages ≡ 0 → is_done reply ≡ true → resets ≡ with_bit b.resets p
-    → record { profile = b.profile; settings = b.settings; resets = resets; functions = functions_of (set us i new); wire = b.wire } ≡ (flagged p (own_step t.world p (Flr p))).world
+    → record { profile = b.profile; settings = b.settings; resets = resets; functions = functions_of (set us i new); wire = b.wire; unclaimed = b.unclaimed } ≡ (flagged p (own_step t.world p (Flr p))).world
 reset_done b us t i p resets here new reply view h is reply_is silent done flag =
-    ap (λ (n : ℕ). record { profile = b.profile; settings = b.settings; resets = n; functions = functions_of (set us i new); wire = b.wire }) flag
+    ap (λ (n : ℕ). record { profile = b.profile; settings = b.settings; resets = n; functions = functions_of (set us i new); wire = b.wire; unclaimed = b.unclaimed }) flag
     ∙ ap (λ (w : World). record w { resets = with_bit w.resets p }) (own_world b us t i p here new (Flr p) view h is)
     ∙ sym (flagged_done p (own_step t.world p (Flr p)) (sym (ap (λ (a : Answer). is_done a.reply) (own_answer b us t i p here (Flr p) reply 0 view h reply_is silent)) ∙ done))
 
@@ -247,9 +253,9 @@ traces_closed [] = refl
 traces_closed (u ∷ us) = ap (λ (ts : List (List Access)). u.accesses ∷ ts) (traces_closed us)
 
 pub all_closed : (b : Base) (us vs : List TracedFunction) (t : TracedWorld) (settings : Settings) → device_with b us ≡ t → vs ≡ map closed us → settings ≡ initial_settings
-    → record { profile = b.profile; settings = settings; resets = 0; functions = functions_of vs; wire = b.wire } ≡ all_reset t.world
+    → record { profile = b.profile; settings = settings; resets = 0; functions = functions_of vs; wire = b.wire; unclaimed = b.unclaimed } ≡ all_reset t.world
 all_closed b us vs t settings view is initial =
-    (λ i. record { profile = b.profile; settings = initial i; resets = 0; functions = (ap functions_of is ∙ functions_closed us) i; wire = b.wire }) ∙ ap (λ (d : TracedWorld). all_reset d.world) view
+    (λ i. record { profile = b.profile; settings = initial i; resets = 0; functions = (ap functions_of is ∙ functions_closed us) i; wire = b.wire; unclaimed = b.unclaimed }) ∙ ap (λ (d : TracedWorld). all_reset d.world) view
 
 pub closed_kept : (b : Base) (us vs : List TracedFunction) (t : TracedWorld) → device_with b us ≡ t → vs ≡ map closed us → traces_of vs ≡ t.accesses
 closed_kept b us vs t view is = ap traces_of is ∙ traces_closed us ∙ ap (λ (d : TracedWorld). d.accesses) view

@@ -9,6 +9,7 @@ mod Called
 pub mod Confinement
 mod Deliveries
 pub mod ErasedLive
+mod Fitting
 mod Inside
 pub mod LiveLemmas
 mod LiveServes
@@ -19,6 +20,7 @@ pub mod NextSettings
 pub mod Refusals
 mod Sizes
 mod SizesStay
+mod SlotBytes
 mod SlotLemmas
 pub mod Unread
 mod Views

@@ -50,11 +50,11 @@ pub told_none : (before now : List (List Access)) (fs : List Function) → ((r :
 told_none before now fs same = sym (told_as before now fs fs refl (λ r below. sym (told_same before now fs r (same r))))
 
 pub told_world_none : (before now : List (List Access)) (w : World) → ((r : ℕ) → trace_of now r ≡ trace_of before r) → told_world before now w ≡ w
-told_world_none before now w same = ap (λ fs. record { profile = w.profile; settings = w.settings; resets = w.resets; functions = fs; wire = w.wire }) (told_none before now w.functions same)
+told_world_none before now w same = ap (λ fs. record { profile = w.profile; settings = w.settings; resets = w.resets; functions = fs; wire = w.wire; unclaimed = w.unclaimed }) (told_none before now w.functions same)
 
 pub told_world_still : (shared : Bool) (before now : List (List Access)) (w : World) → shared ≡ false → AreMet shared before now w → told_world before now w ≡ w
 told_world_still shared before now w not met =
-    ap (λ fs. record { profile = w.profile; settings = w.settings; resets = w.resets; functions = fs; wire = w.wire })
+    ap (λ fs. record { profile = w.profile; settings = w.settings; resets = w.resets; functions = fs; wire = w.wire; unclaimed = w.unclaimed })
     (sym (told_as before now w.functions w.functions refl (λ r below. sym ((met r).still not))))
 
 -- the sizes stay

@@ -21,7 +21,8 @@ use Rattle.device.specs.Outcome.{bytes_in, reply_by, answer_in, leaving}
 use Rattle.device.specs.World.{World, Stepped, step, function_of, with_function, served, service, refused, switched, all_raised, sizes_of, sent_by, silently}
 use Rattle.device.specs.Takes.{Takes}
 use Rattle.device.specs.Live.{TracedWorld, trace_of, told_functions, told_world, told_service, AreMet, AreListed, TakesLive}
-use Rattle.wire_frame.specs.declared.fault.Fault.TheVariants.{NoSuchVf}
+use Rattle.wire_frame.specs.Fault.{number_of}
+use Rattle.wire_frame.specs.declared.fault.Fault.TheVariants.{NoSuchVf, BadFrame}
 use Rattle.device.proofs.LiveLemmas.{length_told, get_told, sizes_told}
 use Rattle.device.proofs.Called.{only_here, absent_listed}
 use Rattle.device.proofs.LiveSteps.{set_told, service_told, told_service_later, told_in_turn}
@@ -114,7 +115,7 @@ sent_live shared first mid last w sender after p q frame taken raised vectors be
         ∙ ap (λ (s : Service). set (told_functions first last w.functions) p s.function) (sym later)
 
     in_turn : told_world mid last sender ≡ with_function (told_world first last w) p (told_service first last w p q).function
-    in_turn = λ i. record { profile = (world i).profile; settings = (world i).settings; resets = (world i).resets; functions = functions i; wire = (world i).wire }
+    in_turn = λ i. record { profile = (world i).profile; settings = (world i).settings; resets = (world i).resets; functions = functions i; wire = (world i).wire; unclaimed = (world i).unclaimed }
 
     told_raised : taken.messages ≡ slice_set (all_raised w.settings (set (told_functions first last w.functions) p (told_service first last w p q).function) (Pool p) frame) p (told_service first last w p q).messages
     told_raised = messages ∙ (λ i. slice_set (raised_is i) p ((vectors_are ∙ ap (λ (s : Service). s.messages) (sym later)) i)) ∙ (λ i. slice_set (all_raised (world i).settings (functions i) (Pool p) frame) p (told_service first last w p q).messages)
@@ -218,3 +219,6 @@ absent_service w p q taken past answer none_sent none_left =
 -- the frame is longer than the device takes
 pub refused_frame : (w : World) (frame : List ℕ) → w.profile.limit < length frame → (step w (Wire frame)).world ≡ w
 refused_frame w frame long = let is : nat_lt w.profile.limit (length frame) ≡ true = grind (arith, long) in rw is refl
+
+pub refused_answer : (w : World) (frame : List ℕ) → w.profile.limit < length frame → (step w (Wire frame)).answer ≡ silently (Refused (number_of BadFrame))
+refused_answer w frame long = let is : nat_lt w.profile.limit (length frame) ≡ true = grind (arith, long) in rw is refl

@@ -90,7 +90,7 @@ IsKept w s = (s.world ≡ w) × (s.answer.raised ≡ no_messages)
 put_back : (w : World) (p : ℕ) (f : Function) → f ≡ function_of p w → with_function w p f ≡ w
 put_back w p f same =
     let functions : slice_set w.functions p f ≡ w.functions = ap (slice_set w.functions p) same ∙ set-get_or w.functions p (Closed 0) in
-    λ i. record { profile = w.profile; settings = w.settings; resets = w.resets; functions = functions i; wire = w.wire }
+    λ i. record { profile = w.profile; settings = w.settings; resets = w.resets; functions = functions i; wire = w.wire; unclaimed = w.unclaimed }
 
 raised_none : (p messages : ℕ) → messages ≡ 0 → slice_set no_messages p messages ≡ no_messages
 raised_none p messages none = ap (slice_set no_messages p) none ∙ raised_nothing p

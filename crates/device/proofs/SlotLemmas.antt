@@ -1,5 +1,5 @@
 -- Frames in slots, read by an order that has each slot once: one slot more, and the first that goes to the end.
-use Rattle.std.proofs.Common.{◌≡◌, ℕ, ◌+◌, ◌-◌, ◌<◌, List, [], ◌∷◌, ◌++◌, length, get_or, drop, arith, refl, sym, ap, ◌∙◌}
+use Rattle.std.proofs.Common.{◌≡◌, ℕ, ◌+◌, ◌-◌, ◌<◌, List, [], ◌∷◌, ◌++◌, length, get_or, drop, arith, sym, ap, refl, ◌∙◌}
 use Rattle.std.proofs.lemmas.List.{places, same_lists, length-set, length-map, get_or-map, drop-append-le}
 use Rattle.std.proofs.lemmas.Grind.{get_or-set_at, get_or_after_one}
 use Rattle.std.proofs.lemmas.Option.{slice_get-get_or, slice_get-map, get_or_from_slice_get, slice_get_within}
@@ -15,11 +15,6 @@ length_frames order slots = length-map order (frame_in slots)
 get_frames : (order : List ℕ) (slots : List (List ℕ)) (k : ℕ) (d : List ℕ) → k < length order → get_or (frames_by order slots) k d ≡ get_or slots (get_or order k 0) []
 unfolding frames_by frame_in
 get_frames order slots k d below = get_or-map (frame_in slots) order k 0 d below
-
--- a frame that is laid into the slot behind the others
-pub laid_last : (xs ys : List (List ℕ)) (blank x y : List ℕ) (at : ℕ) → ys ≡ xs ++ blank ∷ [] → at ≡ length ys - 1 → y ≡ x → slice_set ys at y ≡ xs ++ x ∷ []
-laid_last xs ys blank x y at is last same =
-    rw (last, is, same) (same_lists _ _ (grind (arith, places, length-set)) (λ k d h. grind (arith, places, length-set, get_or-set_at)))
 
 -- no slot
 pub no_order : IsOrder 0 []
@@ -77,14 +72,25 @@ oldest_gone slots order x slot is all first =
     ∙ grind (arith, places, length-set, get_or-set_at, get_or_after_one, length_frames, get_frames order slots (1 + k) d, is.all, oldest, is.there 0, is.once 0 (1 + k)))
     ∙ sym (kept_but_first 1024 (frames_by order slots) x (grind (arith, length_frames, is.all)) (omega arith))
 
+-- a slot of the order is there
+pub slot_there : (slots : List (List ℕ)) (order : List ℕ) (index slot : ℕ) → IsOrder (length slots) order → slice_get order index ≡ Some slot → slot < length slots
+slot_there slots order index slot is found =
+    let there : index < length order = slice_get_within order index slot found in
+    let at : get_or order index 0 ≡ slot = get_or_from_slice_get order index slot 0 found in
+    grind (arith, at, is.there index)
+
 -- a frame, counted from the oldest
-pub frame_of : (slots : List (List ℕ)) (order : List ℕ) (index slot : ℕ) → IsOrder (length slots) order → slice_get order index ≡ Some slot → slice_get slots slot ≡ slice_get (frames_by order slots) index
+frame_of : (slots : List (List ℕ)) (order : List ℕ) (index slot : ℕ) → IsOrder (length slots) order → slice_get order index ≡ Some slot → slice_get slots slot ≡ slice_get (frames_by order slots) index
 frame_of slots order index slot is found =
     let there : index < length order = slice_get_within order index slot found in
     let at : get_or order index 0 ≡ slot = get_or_from_slice_get order index slot 0 found in
     slice_get-get_or slots slot [] (grind (arith, at, is.there index))
     ∙ ap Some (grind (arith, at, get_frames))
     ∙ sym (slice_get-get_or (frames_by order slots) index [] (grind (arith, length_frames)))
+
+pub is_frame_of : (slots : List (List ℕ)) (order : List ℕ) (index slot : ℕ) (x : List ℕ) → IsOrder (length slots) order → slice_get order index ≡ Some slot → x ≡ get_or slots slot [] → Some x ≡ slice_get (frames_by order slots) index
+is_frame_of slots order index slot x is found same =
+    ap Some same ∙ sym (slice_get-get_or slots slot [] (slot_there slots order index slot is found)) ∙ frame_of slots order index slot is found
 
 -- past the newest there is none
 pub none_past : (slots : List (List ℕ)) (order : List ℕ) (index : ℕ) → slice_get order index ≡ None → slice_get (frames_by order slots) index ≡ None

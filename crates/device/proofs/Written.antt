@@ -42,7 +42,7 @@ opening_reads_none w p r = by (eqb r p) (is_open (function_of r w)) (eqb (size_o
 -- what is told is what was there
 pub still : (before now : List (List Access)) (w : World) (e : Event) → ReadsNone w e → AreListed (accesses_by w e) before now → told_world before now w ≡ w
 still before now w e none all =
-    ap (λ fs. record { profile = w.profile; settings = w.settings; resets = w.resets; functions = fs; wire = w.wire })
+    ap (λ fs. record { profile = w.profile; settings = w.settings; resets = w.resets; functions = fs; wire = w.wire; unclaimed = w.unclaimed })
     (sym (told_as before now w.functions w.functions refl (λ r below. sym (told_unread (trace_of before r) (trace_of now r) (accesses_by w e r) (function_of r w) (all r) (none r)))))
 
 pub takes_written : (shared : Bool) (before now : List (List Access)) (w : World) (e : Event) (new : World) (taken : Response)

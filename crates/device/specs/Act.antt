@@ -9,7 +9,7 @@ use Rattle.tx_desc.specs.declared.outcome.Fetched.TheVariants.{Idle, More, Frame
 use Rattle.vf_unit.specs.declared.registers.Queue.{Queue}
 use Rattle.irq_causes.specs.Causes.{Change}
 use Rattle.live_memory.specs.Trace.{Access}
-use Rattle.vf_unit.specs.Unit.{Function, size_of, is_open, opened, opening_accesses, ended, reset, read_of, after_read_of, written, serviced, service_outcome, one_more_sent, bytes_at, memory_written, service_accesses, load_accesses, store_accesses}
+use Rattle.vf_unit.specs.Unit.{Function, size_of, is_open, opened, opening_accesses, ended, reset, read_of, after_read_of, written, serviced, service_outcome, one_more_sent, one_more_refused, bytes_at, memory_written, service_accesses, load_accesses, store_accesses}
 use Rattle.pool_filter.specs.Own.{OwnSettings, port_vlan_of}
 use Rattle.anti_spoof.specs.Permitted.{permitted}
 use Rattle.device.specs.Limits.{VF_SPACE, MOST_BYTES}
@@ -103,13 +103,13 @@ pub record Service : Type 0 where
 abbrev pub unsent : Change Function → Reply → Service
 unsent c reply = record { function = c.state; reply = reply; messages = c.messages; sent = None }
 
--- what is made of the outcome: a frame that ended is sent where the function's own settings permit it
+-- what is made of the outcome: a frame that ended is sent where the function's own settings permit it, and else counted as refused
 abbrev pub concluded : OwnSettings → Change Function → Option Fetched → Service
 concluded o c (Some Idle) = unsent c Idle
 concluded o c (Some More) = unsent c More
 concluded o c (Some (Frame frame)) = if permitted o frame
     then record { function = one_more_sent c.state; reply = Sent; messages = c.messages; sent = Some frame }
-    else unsent c Dropped
+    else unsent (record c { state = one_more_refused c.state }) Dropped
 concluded o c (Some Dropped) = unsent c Dropped
 concluded o c (Some Faulted) = unsent c Faulted
 concluded o c None = unsent c (Refused (number_of NotOpen))

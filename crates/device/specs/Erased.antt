@@ -67,7 +67,7 @@ abbrev pub IsConfined : (ℕ → Bool) → World → List Event → Type 0
 IsConfined group w [] = ⊤
 IsConfined group w (e ∷ es) = (is_groups group e ≡ true → (r : ℕ) → r < 64 → group r ≡ false → kept r w e ≡ None) × IsConfined group (step w e).world es
 
--- two worlds that differ at most in the group's functions, in the flags of resets, and in what went to the wire
+-- two worlds that differ at most in the group's functions, in the flags of resets, in what went to the wire, and in how many frames nobody got
 pub record AlikeOutside (group : ℕ → Bool) (w v : World) : Type 0 where
   pub profile : w.profile ≡ v.profile
   pub settings : w.settings ≡ v.settings

@@ -35,7 +35,7 @@ unfoldable pub told_functions : List (List Access) → List (List Access) → Li
 told_functions before now functions = map (told_at before now functions) (range_with_len 0 (length functions))
 
 abbrev pub told_world : List (List Access) → List (List Access) → World → World
-told_world before now w = record { profile = w.profile; settings = w.settings; resets = w.resets; functions = told_functions before now w.functions; wire = w.wire }
+told_world before now w = record { profile = w.profile; settings = w.settings; resets = w.resets; functions = told_functions before now w.functions; wire = w.wire; unclaimed = w.unclaimed }
 
 -- ---- one event
 

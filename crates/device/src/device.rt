@@ -1,18 +1,20 @@
 //! The device: how it is made, and what it shows.
-ghost use Rattle.std.specs.Prelude.{◌≡◌, ℕ, [], ◌<◌, ◌≤◌, ◌&&◌, true, false, length, replicate, map, slice_get, option_copied, IfOk, IfErr};
+ghost use Rattle.std.specs.Prelude.{◌≡◌, ℕ, [], ◌<◌, ◌≤◌, ◌&&◌, true, false, length, replicate, map, slice_get, slice_index, option_copied, IfOk, IfErr};
 ghost use Rattle.pool_filter.specs.Settings.{initial_settings};
-ghost use Rattle.vf_unit.specs.Unit.{Closed, size_of, shortfalls_of, interval_of, bytes_at};
-ghost use Rattle.device.specs.World.{fresh, fresh_with, is_frame_limit, is_makeable, function_of};
+ghost use Rattle.vf_unit.specs.Unit.{Closed, size_of, counts_of, interval_of, bytes_at};
+ghost use Rattle.device.specs.World.{fresh, fresh_with, is_frame_limit, is_makeable, function_of, place_of};
 
 use crate::profile::Profile;
 use crate::span::Span;
+use crate::unclaimed::Unclaimed;
 use crate::wire_out::WireOut;
 use guest_memory::is_memory_size;
 use live_memory::{Alone, Dma};
+use local_switch::Source;
 use pool_filter::Tables;
 use std::alloc::{AllocError, Global};
 use std::marker::Model;
-use vf_unit::{Vector, VfUnit};
+use vf_unit::{Counts, Vector, VfUnit};
 use wire_frame::{Fault, FrameBuf, FrameLimit, PoolId};
 
 /// A device over the memories of its guests.
@@ -25,10 +27,11 @@ pub struct Device<D: Dma<K>, K = Alone> {
     pub(crate) resets: u64,
     pub(crate) units: Vec<VfUnit<D, K>>,
     pub(crate) wire: WireOut,
+    pub(crate) unclaimed: Unclaimed,
 }
 
 impl<D: Dma<K>, K> Model for Device<D, K> {
-    ghost use Rattle.std.specs.Prelude.{map, length, ◌≤◌};
+    ghost use Rattle.std.specs.Prelude.{map, length, ◌≤◌, ◌≡◌};
     ghost use Rattle.device.specs.Live.{TracedWorld};
 
     ghost Value = { TracedWorld };
@@ -39,12 +42,13 @@ impl<D: Dma<K>, K> Model for Device<D, K> {
         settings = d.tables.value;
         resets = d.resets;
         functions = map (λ u. u.function) d.units.items;
-        wire = d.wire;
+        wire = d.wire.frames;
+        unclaimed = d.unclaimed;
       };
       accesses = map (λ u. u.accesses) d.units.items;
     } };
 
-    ghost invariant = { λ d. length d.units.items ≤ 64 };
+    ghost invariant = { λ d. (length d.units.items ≤ 64) × (d.wire.limit ≡ d.profile.limit) };
 }
 
 impl<D: Dma<K>, K> Device<D, K> {
@@ -124,7 +128,8 @@ impl<D: Dma<K>, K> Device<D, K> {
         ensures no_memory { IfErr result (λ e. e ≡ Fault.NoMemory) }
     {
         let tables = first_tables(alloc)?;
-        let wire = WireOut::new(alloc)?;
+        let wire = WireOut::new(alloc, profile.limit)?;
+        let unclaimed = Unclaimed::new(alloc)?;
         let units = close_all(alloc, memories)?;
         Ok(Device {
             profile,
@@ -132,6 +137,7 @@ impl<D: Dma<K>, K> Device<D, K> {
             resets: 0,
             units,
             wire,
+            unclaimed,
         })
     }
 
@@ -165,13 +171,21 @@ impl<D: Dma<K>, K> Device<D, K> {
         self.units[pool].memory_size()
     }
 
-    /// How often something that the driver of a virtual function that is there left to the card could not be done, modulo 2^32, since it was
-    /// opened, its guest came or it was reset: sums that a frame then lacks, or segments, where the whole frame is dropped.
-    pub fn shortfalls(&self, pool: usize) -> u32
+    /// What a virtual function that is there has counted since it was opened, its guest came or it was reset: frames that came and that it
+    /// sent, frames lost for want of room and by the check on its senders, and descriptors that stopped a queue.
+    pub fn counts(&self, pool: usize) -> Counts
         requires { pool < length self.now.world.functions }
-        ensures { result ≡ shortfalls_of (function_of pool self.now.world) }
+        ensures { result ≡ counts_of (function_of pool self.now.world) }
     {
-        self.units[pool].shortfalls()
+        self.units[pool].counts()
+    }
+
+    /// How many frames from a source nobody got since the device was made, modulo 2^32: they left for no wire, and no pool that may receive
+    /// accepted them. A reset of the device changes none of these numbers.
+    pub fn unclaimed(&self, from: Source) -> u32
+        ensures { result ≡ slice_index self.now.world.unclaimed (place_of from) }
+    {
+        self.unclaimed.of(from)
     }
 
     /// How many microseconds apart the driver of a virtual function that is there wants the messages of a vector to be at least, 0 to 1022;
@@ -191,11 +205,11 @@ impl<D: Dma<K>, K> Device<D, K> {
         self.wire.len()
     }
 
-    /// One of the frames that went to the wire, counted from the oldest that is kept.
-    pub fn wire_at(&self, index: usize) -> Option<&FrameBuf>
+    /// One of the frames that went to the wire, counted from the oldest that is kept. It is laid into `room`, and handed out from there.
+    pub fn wire_at<'f>(&self, index: usize, room: &'f mut FrameBuf) -> Option<&'f FrameBuf>
         ensures { option_copied result ≡ slice_get self.now.world.wire index }
     {
-        self.wire.at(index)
+        self.wire.at(index, room)
     }
 
     /// The settings of the physical function.

@@ -26,9 +26,11 @@ mod prompts;
 mod resets;
 mod response;
 mod service;
+mod slots;
 mod span;
 mod switching;
 mod take;
+mod unclaimed;
 pub mod wire_out;
 
 pub use bytes::{MemBytes, MemSlice};
@@ -40,4 +42,4 @@ pub use profile::Profile;
 pub use response::Response;
 pub use service::serve_queue;
 pub use span::Span;
-pub use vf_unit::{Queue, Vector};
+pub use vf_unit::{Counts, Queue, Vector};

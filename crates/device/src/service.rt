@@ -82,6 +82,7 @@ pub(crate) fn serve_queue_live<R: SenderRules, D: Dma<K>, K>(
                         unit.sent();
                         Outcome::Sent
                     } else {
+                        unit.refused();
                         Outcome::Dropped
                     }
                 }

@@ -1,5 +1,5 @@
 //! Frames that are switched: to each function that receives them, and to the wire.
-ghost use Rattle.std.specs.Prelude.{◌≡◌, ℕ, ◌<◌, ◌≤◌, length, map, slice_index, slice_index_or, slice_set};
+ghost use Rattle.std.specs.Prelude.{◌≡◌, ℕ, ◌<◌, ◌≤◌, ◌^◌, ◌==◌, ◌&&◌, not, length, map, slice_index, slice_index_or, slice_set};
 ghost use Rattle.wire_frame.specs.Bits.{has_bit};
 ghost use Rattle.local_switch.specs.Switch.{leaves};
 ghost use Rattle.device.specs.World.{is_looped, all_raised, switched, sizes_of};
@@ -26,6 +26,15 @@ fn is_looped(from: &Source) -> bool
     ensures { result ≡ is_looped from.now }
 {
     matches!(from, Source::Pool(_))
+}
+
+// Whether a frame that goes to these pools, and to the wire where it leaves, gets to nobody.
+#[inline]
+fn reaches_nobody(pools: PoolSet, leaves: bool) -> bool
+    ensures nobody { result ≡ (not leaves && (pools == 0)) }
+    ensures fits { pools < 2 ^ 64 }
+{
+    pools.is_empty() && !leaves
 }
 
 // Delivers a frame to each function in a set of pools; the messages that each pool got.
@@ -78,6 +87,7 @@ pub fn end_all<D: Dma<K>, K>(units: &mut [VfUnit<D, K>])
 impl<D: Dma<K>, K> Device<D, K> {
     // Switches a frame.
     pub(crate) fn switch(&mut self, from: Source, frame: &FrameBuf) -> Switched
+        requires { length frame.now ≤ self.old.world.profile.limit }
         ensures world { self.new.world
             ≡ switched (told_world self.old.accesses self.new.accesses self.old.world) from frame.now }
         ensures messages { result.messages
@@ -93,6 +103,8 @@ impl<D: Dma<K>, K> Device<D, K> {
         let loopback = is_looped(&from);
         let route = route(&self.tables, from, frame);
         self.wire.push_where(route.wire, frame);
+        self.unclaimed
+            .add_where(reaches_nobody(route.local, route.wire), from);
         Switched {
             messages: deliver_to_all(&mut self.units, route.local, loopback, frame),
             left: route.wire,

@@ -14,8 +14,10 @@ use wire_frame::{Fault, FrameBuf};
 
 mod calls;
 mod frames;
+mod losses;
 mod making;
 mod registers;
+mod slots;
 
 // Registers of the physical function, and what they are written: function 3 has an address and may receive and send.
 pub const SETTINGS: [(u32, u32); 5] = [

@@ -12,6 +12,8 @@ mod checksums;
 #[cfg(test)]
 mod compare;
 #[cfg(test)]
+mod counting;
+#[cfg(test)]
 mod frames;
 #[cfg(test)]
 mod function;

@@ -1,8 +1,8 @@
 //! The device with its host.
-ghost use Rattle.std.specs.Prelude.{◌≡◌, ◌≤◌, ◌&&◌, false, true, nat_le, length, map, replicate, Err, IfErr, IfOk};
+ghost use Rattle.std.specs.Prelude.{◌≡◌, ◌≤◌, ◌&&◌, false, true, nat_le, length, map, replicate, slice_index, Err, IfErr, IfOk};
 ghost use Rattle.device.specs.Guests.{is_for_guests};
-ghost use Rattle.vf_unit.specs.Unit.{interval_of, shortfalls_of};
-ghost use Rattle.device.specs.World.{function_of, world_after};
+ghost use Rattle.vf_unit.specs.Unit.{counts_of, interval_of};
+ghost use Rattle.device.specs.World.{function_of, place_of, world_after};
 ghost use Rattle.mailbox.specs.Mailbox.{blank};
 ghost use Rattle.mailbox.specs.Start.{first_writes};
 ghost use Rattle.mailbox_laws.specs.Turns.{write_events};
@@ -10,10 +10,12 @@ ghost use Rattle.hosted.specs.Hosted.{IsBegun, IsHosted, host_of_ids};
 
 use device::{Device, Vector};
 use live_memory::Dma;
+use local_switch::Source;
 use mailbox::{Host, Mailbox};
 use offload::Offloads;
 use std::alloc::{AllocError, Global};
 use std::marker::Model;
+use vf_unit::Counts;
 use wire_frame::{Fault, FrameLimit, PoolId, Vid};
 
 /// How many functions a host has mailboxes for.
@@ -88,17 +90,24 @@ impl<D: Dma<K>, K> HostedDevice<D, K> {
         self.device.functions()
     }
 
-    /// How often something that a function's driver left to the device could not be done, modulo 2^32: sums that a frame then lacks, or
-    /// segments, where the whole frame is dropped. 0 where there is no such function, or it is closed.
-    pub fn shortfalls(&self, pool: PoolId) -> u32
-        ensures { result ≡ shortfalls_of (function_of pool self.now.device.world) }
+    /// What a function has counted since it was opened, its guest came or it was reset, as [`Device::counts`](device::Device::counts) says.
+    /// Nothing where there is no such function, or it is closed.
+    pub fn counts(&self, pool: PoolId) -> Counts
+        ensures { result ≡ counts_of (function_of pool self.now.device.world) }
     {
         let index = usize::from(pool.get());
         if index < self.device.functions() {
-            self.device.shortfalls(index)
+            self.device.counts(index)
         } else {
-            0
+            Counts::none()
         }
+    }
+
+    /// How many frames from a source nobody got since the device was made, as [`Device::unclaimed`](device::Device::unclaimed) says.
+    pub fn unclaimed(&self, from: Source) -> u32
+        ensures { result ≡ slice_index self.now.device.world.unclaimed (place_of from) }
+    {
+        self.device.unclaimed(from)
     }
 
     /// How many microseconds apart a function's driver wants the messages of a vector to be at least, 0 to 1022, as

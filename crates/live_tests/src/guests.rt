@@ -85,7 +85,8 @@ fn a_guest_sends_from_above_4_gib(rt: HostRuntime) -> Result<(), Fail> {
     let answers = run_live(&mut device, alloc, &sending())?;
     let reply = answers.last().map(|answer| answer.reply.copy());
     assert_equal(&rt, reply, Some(Reply::Sent));
-    let sent = device.wire_at(0).map(|frame| frame.bytes());
+    let mut room = FrameBuf::blank();
+    let sent = device.wire_at(0, &mut room).map(|frame| frame.bytes());
     assert_equal(&rt, sent, due.as_slice().get(FRAME..FRAME + 60));
     Ok(())
 }
@@ -234,7 +235,8 @@ fn a_region_comes_while_a_guest_runs(rt: HostRuntime) -> Result<(), Fail> {
     let answers = run_live(&mut device, alloc, &after)?;
     let reply = answers.last().map(|answer| answer.reply.copy());
     assert_equal(&rt, reply, Some(Reply::Sent));
-    let sent = device.wire_at(0).map(|frame| frame.bytes());
+    let mut room = FrameBuf::blank();
+    let sent = device.wire_at(0, &mut room).map(|frame| frame.bytes());
     assert_equal(&rt, sent, due.as_slice().get(FRAME..FRAME + 60));
     Ok(())
 }

@@ -11,6 +11,7 @@ use script_support::registers::{ENABLE, PFVFTE, TDBAL0, TDLEN0, TDT0, TXDCTL0};
 use std::alloc::Global;
 use std::process::Abort;
 use std::test::Fail;
+use wire_frame::FrameBuf;
 
 // The first read of up to 64 bytes gives `next`, and each read after it `then`. A longer one gives zeros.
 #[derive(Drop)]
@@ -127,7 +128,8 @@ fn sends_one<R: Abort, D: Dma<K>, K>(
     let answers = run_live(&mut device, alloc, &events)?;
     assert_equal(rt, answers.len(), 7);
     assert_equal(rt, device.wire_len(), 1);
-    if let Some(frame) = device.wire_at(0) {
+    let mut room = FrameBuf::blank();
+    if let Some(frame) = device.wire_at(0, &mut room) {
         assert_equal(rt, frame.bytes(), due);
     }
     Ok(())

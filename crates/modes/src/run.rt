@@ -116,20 +116,25 @@ fn frames<M: GuestMem, W: Write>(
     ensures err { OnErr result (Began (W.contents writer.old) (W.contents writer.new)
         (output.old ++ frame_lines device.now.world.wire)) }
 {
+    let mut room = FrameBuf::blank();
     for index in 0..device.wire_len() {
-        let frame = frame_at(device, index);
+        let frame = frame_at(device, index, &mut room);
         output.frame(frame.bytes(), writer)?;
     }
     Ok(())
 }
 
-// A frame that went to the wire.
+// A frame that went to the wire, laid into `room`.
 #[inline]
-fn frame_at<M: GuestMem>(device: &Device<M>, index: usize) -> &FrameBuf
+fn frame_at<'f, M: GuestMem>(
+    device: &Device<M>,
+    index: usize,
+    room: &'f mut FrameBuf,
+) -> &'f FrameBuf
     requires { index < length device.now.world.wire }
     ensures { result.now ≡ slice_index_or device.now.world.wire index [] }
 {
-    match device.wire_at(index) {
+    match device.wire_at(index, room) {
         Some(frame) => frame,
         None => unreachable!(),
     }

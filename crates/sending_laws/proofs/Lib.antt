@@ -1,1 +1,2 @@
 pub mod Segmenting
+pub mod Faulting

@@ -4,6 +4,7 @@ use crate::card::{Card, FIRST, play};
 use crate::compare::assert_equal_at;
 use offload::Offloads;
 use std::test::Fail;
+use tx_desc::Misuse::{NotOffered, PastMemory, UnknownType};
 use tx_desc::Progress::{Dropped, Ended, Faulted, Idle, More};
 use tx_desc::Terms;
 use wire_frame::{FrameLimit, PortVlan};
@@ -226,5 +227,114 @@ fn none_of_it(rt: HostRuntime) -> Result<(), Fail> {
         );
         assert_equal_at(&rt, found, [due, due], word);
     }
+    Ok(())
+}
+
+/// The flags of tags, sums and segments, and a descriptor; then what it gives, and why it cannot be used: of several reasons the first
+/// counts.
+#[test]
+fn reasons(rt: HostRuntime) -> Result<(), Fail> {
+    for ((vlan, checksum, segmentation), words, outcome, misuse) in [
+        // type 1, whatever else it asks for, and wherever it lies
+        (
+            (false, false, false),
+            (FIRST, 0x2910_0012),
+            Faulted,
+            Some(UnknownType),
+        ),
+        (
+            (false, false, false),
+            (0x2_0000, 0xE910_0012),
+            Faulted,
+            Some(UnknownType),
+        ),
+        (
+            (false, true, false),
+            (0x2_0000, 0xE910_0012),
+            Faulted,
+            Some(UnknownType),
+        ),
+        (
+            (true, true, true),
+            (FIRST, 0x2910_0012),
+            Faulted,
+            Some(UnknownType),
+        ),
+        // a tag
+        (
+            (false, false, false),
+            (0x2_0000, 0x6930_0012),
+            Faulted,
+            Some(NotOffered),
+        ),
+        (
+            (false, true, true),
+            (FIRST, 0x6930_0012),
+            Faulted,
+            Some(NotOffered),
+        ),
+        (
+            (true, true, false),
+            (0x2_0000, 0x6930_0012),
+            Faulted,
+            Some(PastMemory),
+        ),
+        // segments
+        (
+            (false, false, false),
+            (FIRST, 0xA930_0012),
+            Faulted,
+            Some(NotOffered),
+        ),
+        (
+            (true, true, false),
+            (0x2_0000, 0xA930_0012),
+            Faulted,
+            Some(NotOffered),
+        ),
+        (
+            (true, true, true),
+            (0x2_0000, 0xE930_0012),
+            Faulted,
+            Some(PastMemory),
+        ),
+        // a legacy one asks for neither; its last byte is past the memory, and then in it
+        (
+            (false, false, false),
+            (0x1_FFEF, 0xC900_0012),
+            Faulted,
+            Some(PastMemory),
+        ),
+        ((false, false, false), (0x1_FFEE, 0x0900_0012), Ended, None),
+        ((true, true, true), (0x1_FFEE, 0x0900_0012), Ended, None),
+        // a context has no bytes
+        ((false, false, false), (0x2_0000, 0x2020_0400), More, None),
+        ((true, true, true), (0x2_0000, 0x2020_0400), More, None),
+    ] {
+        let mut card = Card::new(&rt, rt.alloc())?;
+        let terms = terms_of(vlan, checksum, segmentation);
+        card.describe(0, words);
+        let before = card.turn(&terms);
+        assert_equal_at(&rt, (before.outcome, before.misuse), (Idle, None), words);
+        card.hand(1);
+        let turn = card.turn(&terms);
+        assert_equal_at(&rt, (turn.outcome, turn.misuse), (outcome, misuse), words);
+    }
+    Ok(())
+}
+
+/// While a frame is being cut no descriptor is taken, so there is no reason, whatever stands at the head.
+#[test]
+fn no_reason_while_cutting(rt: HostRuntime) -> Result<(), Fail> {
+    let mut card = Card::new(&rt, rt.alloc())?;
+    let terms = terms_of(true, true, true);
+    card.describe(0, (0x1C14, 0x03E8_1410_2020_0C00));
+    card.describe(1, (FIRST, 0x01F4_0390_AB30_0806));
+    card.hand(2);
+    card.turn(&terms);
+    card.turn(&terms);
+    card.describe(1, (FIRST, 0x2910_0012));
+    let turn = card.turn(&terms);
+    assert_equal_at(&rt, (turn.outcome, turn.misuse), (Ended, None), "a segment");
     Ok(())
 }

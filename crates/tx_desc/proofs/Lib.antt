@@ -6,3 +6,4 @@ pub mod Taking
 pub mod Joining
 pub mod Offloading
 pub mod PortTagsWith
+pub mod Misused

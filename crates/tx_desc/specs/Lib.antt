@@ -6,3 +6,4 @@ pub mod Accesses
 pub mod Offloaded
 pub mod OffloadedAccesses
 pub mod Serves
+pub mod Misuses

@@ -1,12 +1,14 @@
 //! Taking the descriptor at the head of a ring.
-ghost use Rattle.std.specs.Prelude.{◌≡◌, ◌+◌, ◌^◌, ◌<◌, ◌≤◌, ◌++◌, IsTrue, [], length, if◌then◌else◌};
+ghost use Rattle.std.specs.Prelude.{◌≡◌, ◌+◌, ◌^◌, ◌<◌, ◌≤◌, ◌++◌, IsTrue, [], length, None, if◌then◌else◌};
 ghost use Rattle.guest_memory.specs.Memory.{overwrite, word_bytes};
 ghost use Rattle.live_memory.specs.Trace.{met, IsTraced};
-ghost use Rattle.rings.specs.Ring.{LiesInside, no_ring, owned};
+ghost use Rattle.rings.specs.Ring.{LiesInside, no_ring, owned, head_slot};
 ghost use Rattle.tx_desc.specs.Transmit.{fetch, taken, joined, ended, wants_report, done_word, Gathered};
 ghost use Rattle.tx_desc.specs.declared.outcome.Fetched.TheVariants.{Frame};
 ghost use Rattle.tx_desc.specs.Lent.{fetched_in, lent_after};
 ghost use Rattle.tx_desc.specs.Fetches.{Fetches, Stands, ReadsApart, KeepsApart, IsWhole, data_of};
+ghost use Rattle.offload.specs.Offloads.{no_offloads};
+ghost use Rattle.tx_desc.specs.Misuses.{misuse_there};
 ghost use Rattle.tx_desc.specs.Accesses.{fetch_accesses, taken_accesses, joined_reads, data_reads, report_write};
 
 use crate::Pending;
@@ -14,6 +16,7 @@ use crate::descriptor::{Kind, TxDescriptor};
 use crate::outcome::{Progress, Served};
 use crate::reading::{read_data, read_descriptor};
 use live_memory::{Dma, Traced};
+use offload::Offloads;
 use rings::Ring;
 use wire_frame::{FrameBuf, FrameLimit, PortVlan};
 
@@ -40,6 +43,8 @@ pub fn fetch_into<D: Dma<K>, K>(
         (fetch limit rule
         (met memory.old.accesses memory.new.accesses (D.seen memory.old.memory)) ring.old pending.old)
         result (D.seen memory.new.memory) ring.new pending.new frame.old frame.new }
+    ensures misuse { result.misuse ≡ misuse_there no_offloads
+        (met memory.old.accesses memory.new.accesses (D.seen memory.old.memory)) (head_slot ring.old) }
     ensures listed { memory.new.accesses ≡ memory.old.accesses
         ++ fetch_accesses limit
         (met memory.old.accesses memory.new.accesses (D.seen memory.old.memory)) ring.old pending.old }
@@ -60,7 +65,10 @@ pub fn fetch_into<D: Dma<K>, K>(
         Kind::Unusable => {
             ring.disable();
             pending.clear();
-            Served::unreported(Progress::Faulted)
+            Served {
+                misuse: descriptor.misuse(Offloads::none(), memory.size()),
+                ..Served::unreported(Progress::Faulted)
+            }
         }
         Kind::Data => take_data(memory, ring, pending, frame, descriptor, rule, limit),
     }
@@ -83,6 +91,7 @@ fn take_data<D: Dma<K>, K>(
         (taken Kind.Data limit rule
         (met memory.old.accesses memory.new.accesses (D.seen memory.old.memory)) ring.old pending.old descriptor)
         result (D.seen memory.new.memory) ring.new pending.new frame.old frame.new }
+    ensures misuse { result.misuse ≡ None }
     ensures listed { memory.new.accesses ≡ memory.old.accesses
         ++ taken_accesses Kind.Data limit
         (met memory.old.accesses memory.new.accesses (D.seen memory.old.memory))
@@ -95,7 +104,11 @@ fn take_data<D: Dma<K>, K>(
     let outcome = gather(memory, pending, frame, descriptor, rule, limit);
     let reported = report(memory, descriptor);
     ring.advance(1);
-    Served { outcome, reported }
+    Served {
+        outcome,
+        reported,
+        misuse: None,
+    }
 }
 
 // Writes a descriptor back where its driver asks for it, and tells whether it was.

@@ -30,7 +30,7 @@ mod terms;
 pub use any_memory::fetch;
 pub use fetching::fetch_into;
 pub use offloaded::fetch_with_offloads;
-pub use outcome::{Fetched, Progress, Served, Turn};
+pub use outcome::{Fetched, Misuse, Progress, Served, Turn};
 pub use pending::Pending;
 pub use sending::{Segments, Sending, Stage};
 pub use terms::Terms;

@@ -1,14 +1,15 @@
 //! One step of a queue whose driver leaves work to the card.
-ghost use Rattle.std.specs.Prelude.{◌≡◌, ◌+◌, ◌^◌, ◌<◌, ◌≤◌, ◌++◌, ◌&&◌, true, false, length, if◌then◌else◌};
+ghost use Rattle.std.specs.Prelude.{◌≡◌, ◌+◌, ◌^◌, ◌<◌, ◌≤◌, ◌++◌, ◌&&◌, true, false, length, None, if◌then◌else◌};
 ghost use Rattle.guest_memory.specs.Memory.{overwrite, word_bytes};
 ghost use Rattle.live_memory.specs.Trace.{met, IsTraced};
 ghost use Rattle.rings.specs.Ring.{LiesInside, owned, head_slot};
 ghost use Rattle.tx_desc.specs.Transmit.{wants_report, done_word, next, descriptor_at, fetch};
 ghost use Rattle.tx_desc.specs.Fetches.{Stands, KeepsApart};
 ghost use Rattle.tx_desc.specs.Accesses.{fetch_accesses};
-ghost use Rattle.tx_desc.specs.Offloaded.{fetch_with, plainly, served_next, next_taken, taken_with};
+ghost use Rattle.tx_desc.specs.Offloaded.{fetch_with, plainly, served_next, next_taken, taken_with, segments_of, is_plain};
 ghost use Rattle.tx_desc.specs.OffloadedAccesses.{fetch_with_accesses, step_accesses, descriptor_accesses, taken_with_accesses, done_write};
 ghost use Rattle.tx_desc.specs.Serves.{Serves};
+ghost use Rattle.tx_desc.specs.Misuses.{misuse_of, misuse_there, misuse_unless, misuse_at};
 
 use crate::descriptor::{Kind, TxDescriptor};
 use crate::fetching::{fetch_into, report};
@@ -28,7 +29,7 @@ use wire_frame::FrameBuf;
 /// the last of them. What leaves is left in `frame`, as it leaves. Where the terms have no offloads it is [`fetch_into`].
 ///
 /// What holds there of memory that others write holds here. A segment reads no memory.
-#[tactic(auto, unfolding(crate::specs::Offloaded::fetch_with, crate::specs::OffloadedAccesses::fetch_with_accesses))]
+#[tactic(auto, unfolding(crate::specs::Offloaded::fetch_with, crate::specs::OffloadedAccesses::fetch_with_accesses, crate::specs::Misuses::misuse_at))]
 pub fn fetch_with_offloads<D: Dma<K>, K>(
     memory: &mut Traced<D, K>,
     ring: &mut Ring,
@@ -41,6 +42,8 @@ pub fn fetch_with_offloads<D: Dma<K>, K>(
         (fetch_with terms.now
         (met memory.old.accesses memory.new.accesses (D.seen memory.old.memory)) ring.old sending.old)
         result (D.seen memory.new.memory) ring.new sending.new frame.old frame.new }
+    ensures misuse { result.misuse ≡ misuse_at terms.now
+        (met memory.old.accesses memory.new.accesses (D.seen memory.old.memory)) ring.old sending.old }
     ensures listed { memory.new.accesses ≡ memory.old.accesses
         ++ fetch_with_accesses terms.now
         (met memory.old.accesses memory.new.accesses (D.seen memory.old.memory)) ring.old sending.old }
@@ -65,11 +68,14 @@ fn fetch_plainly<D: Dma<K>, K>(
     frame: &mut FrameBuf,
     terms: &Terms,
 ) -> Turn
+    requires plain { is_plain terms.now.offloads ≡ true }
     requires inside { LiesInside (length (D.seen memory.old.memory)) ring.old }
     ensures serves { Serves
         (plainly sending.old (fetch terms.now.limit terms.now.rule
         (met memory.old.accesses memory.new.accesses (D.seen memory.old.memory)) ring.old sending.old.pending))
         result (D.seen memory.new.memory) ring.new sending.new frame.old frame.new }
+    ensures misuse { result.misuse ≡ misuse_there terms.now.offloads
+        (met memory.old.accesses memory.new.accesses (D.seen memory.old.memory)) (head_slot ring.old) }
     ensures listed { memory.new.accesses ≡ memory.old.accesses
         ++ fetch_accesses terms.now.limit
         (met memory.old.accesses memory.new.accesses (D.seen memory.old.memory)) ring.old sending.old.pending }
@@ -90,6 +96,7 @@ fn fetch_plainly<D: Dma<K>, K>(
         outcome: served.outcome,
         reported: served.reported,
         falls_short: false,
+        misuse: served.misuse,
     }
 }
 
@@ -106,6 +113,8 @@ fn fetch_next<D: Dma<K>, K>(
         (served_next terms.now
         (met memory.old.accesses memory.new.accesses (D.seen memory.old.memory)) ring.old sending.old (head_slot ring.old))
         result (D.seen memory.new.memory) ring.new sending.new frame.old frame.new }
+    ensures misuse { result.misuse ≡ misuse_unless (segments_of sending.old.stage) terms.now.offloads
+        (met memory.old.accesses memory.new.accesses (D.seen memory.old.memory)) (head_slot ring.old) }
     ensures listed { memory.new.accesses ≡ memory.old.accesses
         ++ step_accesses terms.now
         (met memory.old.accesses memory.new.accesses (D.seen memory.old.memory)) sending.old (head_slot ring.old) }
@@ -146,6 +155,9 @@ fn take_next<D: Dma<K>, K>(
         (met memory.old.accesses memory.new.accesses (D.seen memory.old.memory)) ring.old sending.old
         (descriptor_at at (met memory.old.accesses memory.new.accesses (D.seen memory.old.memory))))
         result (D.seen memory.new.memory) ring.new sending.new frame.old frame.new }
+    ensures misuse { result.misuse ≡ misuse_of terms.now.offloads
+        (length (met memory.old.accesses memory.new.accesses (D.seen memory.old.memory)))
+        (descriptor_at at (met memory.old.accesses memory.new.accesses (D.seen memory.old.memory))) }
     ensures listed { memory.new.accesses ≡ memory.old.accesses
         ++ descriptor_accesses terms.now
         (met memory.old.accesses memory.new.accesses (D.seen memory.old.memory)) sending.old
@@ -165,7 +177,10 @@ fn take_next<D: Dma<K>, K>(
         Kind::Unusable => {
             ring.disable();
             sending.clear();
-            Turn::unreported(Progress::Faulted)
+            Turn {
+                misuse: descriptor.misuse(terms.offloads, memory.size()),
+                ..Turn::unreported(Progress::Faulted)
+            }
         }
         Kind::Data => take_data(memory, ring, sending, frame, descriptor, terms),
     }
@@ -187,6 +202,7 @@ fn take_data<D: Dma<K>, K>(
         (taken_with Kind.Data terms.now
         (met memory.old.accesses memory.new.accesses (D.seen memory.old.memory)) ring.old sending.old descriptor)
         result (D.seen memory.new.memory) ring.new sending.new frame.old frame.new }
+    ensures misuse { result.misuse ≡ None }
     ensures listed { memory.new.accesses ≡ memory.old.accesses
         ++ taken_with_accesses Kind.Data terms.now
         (met memory.old.accesses memory.new.accesses (D.seen memory.old.memory)) sending.old descriptor }
@@ -224,6 +240,7 @@ fn conclude<D: Dma<K>, K>(
     ensures ring { ring.new ≡ (if ending.is_done then next ring.old else ring.old) }
     ensures size { length (D.seen memory.new.memory) ≡ length (D.seen memory.old.memory) }
     ensures listed { memory.new.accesses ≡ memory.old.accesses ++ done_write ending.is_done descriptor }
+    ensures misuse { result.misuse ≡ None }
 {
     let mut reported = false;
     if ending.is_done {
@@ -234,5 +251,6 @@ fn conclude<D: Dma<K>, K>(
         outcome: ending.outcome,
         reported,
         falls_short: ending.falls_short,
+        misuse: None,
     }
 }

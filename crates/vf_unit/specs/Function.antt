@@ -1,5 +1,5 @@
 -- An open virtual function: its state, what a frame that comes does, and what the service of a transmit queue does.
-use Rattle.std.specs.Prelude.{ℕ, ◌+◌, ◌*◌, ◌/◌, ◌%◌, ◌^◌, Bool, true, false, not, ◌&&◌, ◌||◌, ◌==◌, nat_le, List, [], length, IsTrue, if◌then◌else◌}
+use Rattle.std.specs.Prelude.{ℕ, ◌+◌, ◌*◌, ◌/◌, ◌%◌, ◌^◌, Bool, true, false, not, ◌&&◌, ◌||◌, ◌==◌, nat_le, List, [], length, IsTrue, Option, if◌then◌else◌}
 use Rattle.wire_frame.specs.Bits.{field}
 use Rattle.wire_frame.specs.declared.vlan.PortVlan.{PortVlan}
 use Rattle.live_memory.specs.Trace.{Access, met}
@@ -7,6 +7,8 @@ use Rattle.rings.specs.Ring.{no_ring, LiesInside}
 use Rattle.tx_desc.specs.declared.terms.Terms.{Terms}
 use Rattle.tx_desc.specs.Offloaded.{Serving, nothing_sent, fetch_with}
 use Rattle.tx_desc.specs.OffloadedAccesses.{fetch_with_accesses}
+use Rattle.tx_desc.specs.declared.outcome.Misuse.{Misuse}
+use Rattle.tx_desc.specs.Misuses.{misuse_at}
 use Rattle.rx_desc.specs.declared.placing.Placed.{Placed}
 use Rattle.rx_desc.specs.declared.placing.Placed.TheVariants.{Put, NoRoom, Faulted}
 use Rattle.rx_desc.specs.declared.placing.RxConfig.{RxConfig}
@@ -19,6 +21,8 @@ use Rattle.offload.specs.Offloads.{no_offloads}
 use Rattle.vf_unit.specs.Words.{DESCTYPE, LEGACY, BUFFER_SIZES, LEAST_BUFFER, MOST_BUFFER, RECEIVE_VECTOR_0, TRANSMIT_VECTOR_0, TRANSMIT_VECTOR_1, OTHER_VECTOR, VECTOR_SIZE}
 use Rattle.vf_unit.specs.declared.intervals.Intervals.{Intervals}
 use Rattle.vf_unit.specs.Intervals.{no_intervals}
+use Rattle.vf_unit.specs.declared.counts.Losses.{Losses}
+use Rattle.vf_unit.specs.Counts.{no_losses, turned_away, lost_placing, lost_taking}
 use Rattle.vf_unit.specs.declared.registers.Queue.{Queue}
 use Rattle.vf_unit.specs.declared.registers.Queue.TheVariants.{Q0, Q1}
 use Rattle.vf_unit.specs.declared.queues.ReceiveQueue.{ReceiveQueue}
@@ -43,6 +47,8 @@ pub record State : Type 0 where
   pub offloads : Offloads
   -- how often something that the driver left to the card could not be done, modulo 2^32
   pub shortfalls : ℕ
+  -- what was lost: frames that found no room, frames that the sender's check refused, queues that a fault stopped
+  pub losses : Losses
 
 abbrev pub initial_receive : ReceiveQueue
 initial_receive = record { ring = no_ring; buffers = 0; strips_tag = false }
@@ -66,6 +72,7 @@ initial_with offloads memory = record {
   frames_sent = 0;
   offloads = offloads;
   shortfalls = 0;
+  losses = no_losses;
 }
 
 -- and with none
@@ -144,7 +151,12 @@ announced Faulted vectors c = silent c
 abbrev pub after_placing : State → Delivery → Change State
 after_placing s d =
     with_change
-    (record s { memory = d.memory; receive_0 = record s.receive_0 { ring = d.ring }; frames_received = counted d.placed s.frames_received })
+    (record s {
+      memory = d.memory;
+      receive_0 = record s.receive_0 { ring = d.ring };
+      frames_received = counted d.placed s.frames_received;
+      losses = lost_placing d.placed s.losses;
+    })
     (announced d.placed s.queue_vectors s.causes)
 
 -- receive queue 0 has legacy descriptors
@@ -164,10 +176,14 @@ receive_config s = record {
 abbrev pub places_none : State → Bool
 places_none s = receives_legacy s && not (has_size s.receive_0)
 
+-- a frame that comes then finds no room
+abbrev pub unplaced : State → Change State
+unplaced s = silent (record s { losses = turned_away s.losses })
+
 -- a frame comes to the function, from the wire or from another pool; it goes to receive queue 0
 unfoldable pub delivered : Bool → List ℕ → State → Change State
 delivered loopback frame s =
-    if places_none s then silent s else after_placing s (deliver (receive_config s) loopback frame s.memory s.receive_0.ring)
+    if places_none s then unplaced s else after_placing s (deliver (receive_config s) loopback frame s.memory s.receive_0.ring)
 
 -- the accesses to its memory that this makes
 abbrev pub delivered_accesses : Bool → List ℕ → State → List Access
@@ -199,15 +215,22 @@ fetched_from limit rule s q = fetch_with (terms_of limit rule s) s.memory (trans
 abbrev pub fetched_accesses : ℕ → PortVlan → State → Queue → List Access
 fetched_accesses limit rule s q = fetch_with_accesses (terms_of limit rule s) s.memory (transmit_of s q).ring (transmit_of s q).sending
 
+-- why the descriptor that this takes cannot be used, if it can't
+abbrev pub misused_from : ℕ → PortVlan → State → Queue → Option Misuse
+misused_from limit rule s q = misuse_at (terms_of limit rule s) s.memory (transmit_of s q).ring (transmit_of s q).sending
+
 -- what could not be done is counted, modulo 2^32
 abbrev pub counted_short : Bool → ℕ → ℕ
 counted_short true n = (n + 1) % 2 ^ 32
 counted_short false n = n
 
 -- the state with what this left
-abbrev pub with_fetching : State → Queue → Serving → State
-with_fetching s q v =
-    with_transmit (record s { memory = v.memory; shortfalls = counted_short v.falls_short s.shortfalls }) q (record { ring = v.ring; sending = v.sending })
+abbrev pub with_fetching : State → Queue → Serving → Option Misuse → State
+with_fetching s q v why =
+    with_transmit
+    (record s { memory = v.memory; shortfalls = counted_short v.falls_short s.shortfalls; losses = lost_taking q why s.losses })
+    q
+    (record { ring = v.ring; sending = v.sending })
 
 -- the queue's cause is raised where the descriptor was written back
 abbrev pub reported : Bool → ℕ → CauseState → Change CauseState
@@ -217,4 +240,6 @@ reported false entry c = silent c
 -- the state after a service of the queue, and the messages of its report
 unfoldable pub after_fetching : ℕ → PortVlan → State → Queue → Change State
 after_fetching limit rule s q =
-    with_change (with_fetching s q (fetched_from limit rule s q)) (reported (fetched_from limit rule s q).reported (transmit_vector s.queue_vectors q) s.causes)
+    with_change
+    (with_fetching s q (fetched_from limit rule s q) (misused_from limit rule s q))
+    (reported (fetched_from limit rule s q).reported (transmit_vector s.queue_vectors q) s.causes)

@@ -10,6 +10,8 @@ use Rattle.irq_causes.specs.Causes.{Change, silent}
 use Rattle.vf_unit.specs.declared.intervals.Vector.{Vector}
 use Rattle.vf_unit.specs.Intervals.{word_for, microseconds}
 use Rattle.vf_unit.specs.declared.registers.Queue.{Queue}
+use Rattle.vf_unit.specs.declared.counts.Counts.{Counts}
+use Rattle.vf_unit.specs.Counts.{CountsOnce, sender_refused, no_counts}
 use Rattle.vf_unit.specs.Function.{State, initial, initial_with, other_raised_in, told, delivered, delivered_accesses, after_fetching, fetched_from, fetched_accesses}
 use Rattle.vf_unit.specs.Access.{word_at_offset, after_read_at, written_at}
 
@@ -128,10 +130,28 @@ abbrev pub one_more_sent : Function → Function
 one_more_sent (Closed size) = Closed size
 one_more_sent (Open s) = Open (record s { frames_sent = (s.frames_sent + 1) % 2 ^ 32 })
 
--- how often something that its driver left to the card could not be done; a closed one has no such count
-abbrev pub shortfalls_of : Function → ℕ
-shortfalls_of (Closed size) = 0
-shortfalls_of (Open s) = s.shortfalls
+-- one more frame was refused by the sender's check, modulo 2^32
+abbrev pub one_more_refused : Function → Function
+one_more_refused (Closed size) = Closed size
+one_more_refused (Open s) = Open (record s { losses = sender_refused s.losses })
+
+-- all that it has counted; a closed one has counted nothing
+abbrev pub counts_of : Function → Counts
+counts_of (Closed size) = no_counts
+counts_of (Open s) = record {
+  received = s.frames_received;
+  sent = s.frames_sent;
+  no_room = s.losses.no_room;
+  refused = s.losses.refused;
+  faults = s.losses.faults;
+  last_fault = s.losses.last_fault;
+  shortfalls = s.shortfalls;
+}
+
+-- a frame came to the function: an open one counts it once, and a closed one stays as it is
+abbrev pub IsCounted : Function → Function → Type 0
+IsCounted (Closed size) after = after ≡ Closed size
+IsCounted (Open s) after = CountsOnce (counts_of (Open s)) (counts_of after)
 
 -- ---- memory
 

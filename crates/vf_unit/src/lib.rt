@@ -8,6 +8,7 @@
 //! its [`Offloads`](offload::Offloads), it is told as its guest comes; no register changes it, and no reset.
 #![tactic(auto)]
 
+pub mod counts;
 pub mod intervals;
 pub mod offsets;
 mod open;
@@ -15,6 +16,7 @@ mod queues;
 pub mod registers;
 pub mod unit;
 
+pub use counts::{Counts, Losses, QueueFault};
 pub use intervals::{Intervals, Vector};
 pub use open::Service;
 pub use registers::{Queue, Register};

@@ -6,10 +6,13 @@ ghost use Rattle.live_memory.specs.Clearing.{clearing};
 ghost use Rattle.live_memory.specs.Trace.{Read, Wrote, IsTraced};
 ghost use Rattle.rings.specs.Ring.{ring_written};
 ghost use Rattle.tx_desc.specs.Lent.{fetched_in, lent_after};
-ghost use Rattle.vf_unit.specs.Function.{State, initial, initial_with, receive_of, transmit_of, with_receive, with_transmit, with_fetching, fetched_from, fetched_accesses, after_fetching, delivered, delivered_accesses, other_raised_in, told};
+ghost use Rattle.vf_unit.specs.Function.{State, initial, initial_with, receive_of, transmit_of, with_receive, with_transmit, with_fetching, misused_from, fetched_from, fetched_accesses, after_fetching, delivered, delivered_accesses, other_raised_in, told};
+ghost use Rattle.vf_unit.specs.Counts.{sender_refused, lost_placing};
 ghost use Rattle.vf_unit.specs.Intervals.{word_for, microseconds};
+ghost use Rattle.vf_unit.specs.Unit.{Open, counts_of};
 ghost use Rattle.vf_unit.specs.Access.{word, after_read, buffers_written, receive_switched, transmit_switched, interval_written, register_written, word_at_offset, after_read_at, written_at};
 
+use crate::counts::{Counts, Losses, QueueFault};
 use crate::intervals::{Intervals, Vector};
 use crate::offsets::{
     BUFFER_SIZES, DROP_EN, LINK_UP, OTHER_VECTOR, RECEIVE_VECTOR_0, RST, TRANSMIT_VECTOR_0,
@@ -59,6 +62,7 @@ pub struct OpenVf<D: Dma<K>, K = Alone> {
     // what the device does for its driver; no register changes it
     offloads: Offloads,
     shortfalls: u32,
+    losses: Losses,
 }
 
 impl<D: Dma<K>, K> Model for OpenVf<D, K> {
@@ -81,6 +85,7 @@ impl<D: Dma<K>, K> Model for OpenVf<D, K> {
         frames_sent = f.frames_sent;
         offloads = f.offloads;
         shortfalls = f.shortfalls;
+        losses = f.losses;
       };
       accesses = f.memory.accesses;
     } };
@@ -100,6 +105,7 @@ impl<D: Dma<K>, K> Model for OpenVf<D, K> {
           frames_sent = f.frames_sent;
           offloads = f.offloads;
           shortfalls = f.shortfalls;
+          losses = f.losses;
         }) };
 }
 
@@ -125,6 +131,7 @@ impl<D: Dma<K>, K> OpenVf<D, K> {
             frames_sent: 0,
             offloads: Offloads::none(),
             shortfalls: 0,
+            losses: Losses::none(),
         })
     }
 
@@ -145,6 +152,7 @@ impl<D: Dma<K>, K> OpenVf<D, K> {
         self.frames_received = 0;
         self.frames_sent = 0;
         self.shortfalls = 0;
+        self.losses = Losses::none();
     }
 
     /// Makes every register initial and every byte of the memory zero. It has no offloads then.
@@ -388,6 +396,7 @@ impl<D: Dma<K>, K> OpenVf<D, K> {
     {
         let is_legacy = self.receive_0.is_legacy(self.offloads.legacy_receive);
         if is_legacy && !self.receive_0.has_size() {
+            self.losses.turn_away();
             return Vectors::none();
         }
         let config = RxConfig {
@@ -408,11 +417,25 @@ impl<D: Dma<K>, K> OpenVf<D, K> {
             loopback,
         );
         if placed != Placed::Put {
+            self.lose(placed);
             return Vectors::none();
         }
         self.frames_received = self.frames_received.wrapping_add(1);
         self.causes
             .raise_by(vector_at(self.queue_vectors, RECEIVE_VECTOR_0))
+    }
+
+    // Counts a frame that came, where it was not placed.
+    fn lose(&mut self, placed: Placed)
+        ensures state { self.new.state
+            ≡ record self.old.state { losses = lost_placing placed self.old.state.losses } }
+        ensures accesses { self.new.accesses ≡ self.old.accesses }
+    {
+        match placed {
+            Placed::Put => {}
+            Placed::NoRoom => self.losses.turn_away(),
+            Placed::Faulted => self.losses.stop(QueueFault::Receive),
+        }
     }
 
     /// Takes the descriptor at the head of a transmit queue, or sends the next segment of the frame that ends with it. What leaves is left in
@@ -472,6 +495,8 @@ impl<D: Dma<K>, K> OpenVf<D, K> {
             ≡ with_fetching
             (told self.old.accesses self.new.accesses self.old.state) queue
             (fetched_from limit rule
+            (told self.old.accesses self.new.accesses self.old.state) queue)
+            (misused_from limit rule
             (told self.old.accesses self.new.accesses self.old.state) queue) }
         ensures reported { result.reported
             ≡ (fetched_from limit rule
@@ -501,6 +526,9 @@ impl<D: Dma<K>, K> OpenVf<D, K> {
         if turn.falls_short {
             self.shortfalls = self.shortfalls.wrapping_add(1);
         }
+        if let Some(why) = turn.misuse {
+            self.losses.stop(QueueFault::Transmit(queue, why));
+        }
         turn
     }
 
@@ -512,6 +540,16 @@ impl<D: Dma<K>, K> OpenVf<D, K> {
         ensures accesses { self.new.accesses ≡ self.old.accesses }
     {
         self.frames_sent = self.frames_sent.wrapping_add(1);
+    }
+
+    /// Counts one more frame that the sender's check refused, modulo 2^32.
+    pub fn refused(&mut self)
+        ensures state { self.new.state
+            ≡ record self.old.state { losses = sender_refused self.old.state.losses } }
+        ensures size { length self.new.state.memory ≡ length self.old.state.memory }
+        ensures accesses { self.new.accesses ≡ self.old.accesses }
+    {
+        self.losses.refuse();
     }
 
     /// Raises the cause "other", by the vector that VTIVAR_MISC names; the messages that this issues.
@@ -534,13 +572,19 @@ impl<D: Dma<K>, K> OpenVf<D, K> {
         self.intervals.microseconds(vector)
     }
 
-    /// How often something that the driver left to the card could not be done, modulo 2^32: sums that a frame then lacks, or segments,
-    /// where the whole frame is dropped.
-    #[inline]
-    pub fn shortfalls(&self) -> u32
-        ensures { result ≡ self.now.state.shortfalls }
+    /// All that was counted.
+    pub fn counts(&self) -> Counts
+        ensures { result ≡ counts_of (Open self.now.state) }
     {
-        self.shortfalls
+        Counts {
+            received: self.frames_received,
+            sent: self.frames_sent,
+            no_room: self.losses.no_room,
+            refused: self.losses.refused,
+            faults: self.losses.faults,
+            last_fault: self.losses.last_fault,
+            shortfalls: self.shortfalls,
+        }
     }
 
     /// The size of the memory, in bytes.

@@ -3,6 +3,7 @@ ghost use Rattle.std.specs.Prelude.{◌≡◌, ℕ, Bool, ◌+◌, ◌^◌, ◌+
 ghost use Rattle.live_memory.specs.Trace.{met, IsTraced};
 ghost use Rattle.tx_desc.specs.Offloaded.{fetch_with};
 ghost use Rattle.tx_desc.specs.OffloadedAccesses.{fetch_with_accesses};
+ghost use Rattle.tx_desc.specs.Misuses.{misuse_at};
 ghost use Rattle.tx_desc.specs.Serves.{Serves};
 ghost use Rattle.rings.specs.Ring.{LiesInside, ring_written};
 ghost use Rattle.vf_unit.specs.Words.{VME};
@@ -183,6 +184,8 @@ impl TransmitQueue {
             (fetch_with terms.now
             (met memory.old.accesses memory.new.accesses (D.seen memory.old.memory)) self.old.ring self.old.sending)
             result (D.seen memory.new.memory) self.new.ring self.new.sending frame.old frame.new }
+        ensures misuse { result.misuse ≡ misuse_at terms.now
+            (met memory.old.accesses memory.new.accesses (D.seen memory.old.memory)) self.old.ring self.old.sending }
         ensures listed { memory.new.accesses ≡ memory.old.accesses
             ++ fetch_with_accesses terms.now
             (met memory.old.accesses memory.new.accesses (D.seen memory.old.memory)) self.old.ring self.old.sending }

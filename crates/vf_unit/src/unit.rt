@@ -3,8 +3,9 @@ ghost use Rattle.std.specs.Prelude.{◌≡◌, ℕ, [], ◌++◌, length, Some, 
 ghost use Rattle.std.specs.Option.{option_map};
 ghost use Rattle.tx_desc.specs.Lent.{fetched_in};
 ghost use Rattle.vf_unit.specs.Guests.{over, moved_to, IsFormer};
-ghost use Rattle.vf_unit.specs.Unit.{Closed, IsMet, met_function, size_of, shortfalls_of, is_open, other_raised, interval_of, opened, opening_accesses, ended, reset, read_of, after_read_of, written, given, serviced, service_outcome, lent_to, one_more_sent, has_range, bytes_at, memory_written, given_accesses, service_accesses, load_accesses, store_accesses};
+ghost use Rattle.vf_unit.specs.Unit.{Closed, IsMet, IsCounted, met_function, size_of, counts_of, is_open, other_raised, interval_of, opened, opening_accesses, ended, reset, read_of, after_read_of, written, given, serviced, service_outcome, lent_to, one_more_sent, one_more_refused, has_range, bytes_at, memory_written, given_accesses, service_accesses, load_accesses, store_accesses};
 
+use crate::counts::Counts;
 use crate::intervals::Vector;
 use crate::open::{OpenVf, Service};
 use crate::registers::Queue;
@@ -57,15 +58,14 @@ impl<D: Dma<K>, K> VfUnit<D, K> {
         self.is_open
     }
 
-    /// How often something that its driver left to the card could not be done, modulo 2^32; 0 of a closed one.
-    #[inline]
-    pub fn shortfalls(&self) -> u32
-        ensures { result ≡ shortfalls_of self.now.function }
+    /// All that it has counted since it was opened, its guest came or it was reset; nothing of a closed one.
+    pub fn counts(&self) -> Counts
+        ensures { result ≡ counts_of self.now.function }
     {
         if self.is_open {
-            self.inner.shortfalls()
+            self.inner.counts()
         } else {
-            0
+            Counts::none()
         }
     }
 
@@ -203,6 +203,7 @@ impl<D: Dma<K>, K> VfUnit<D, K> {
             ≡ (given loopback frame.now
             (met_function self.old self.new)).messages }
         ensures size { size_of self.new.function ≡ size_of self.old.function }
+        ensures counted { IsCounted self.old.function self.new.function }
         ensures listed { self.new.accesses ≡ self.old.accesses
             ++ given_accesses loopback frame.now (met_function self.old self.new) }
         ensures met { IsMet D.shared self.old.function self.old.accesses self.new.accesses }
@@ -263,6 +264,17 @@ impl<D: Dma<K>, K> VfUnit<D, K> {
         }
     }
 
+    /// Counts one more frame that the sender's check refused, modulo 2^32.
+    pub fn refused(&mut self)
+        ensures function { self.new.function ≡ one_more_refused self.old.function }
+        ensures size { size_of self.new.function ≡ size_of self.old.function }
+        ensures accesses { self.new.accesses ≡ self.old.accesses }
+    {
+        if self.is_open {
+            self.inner.refused();
+        }
+    }
+
     /// Reads bytes of the memory into `out`, where it is open and they lie inside; tells whether it did. Others may
     /// write the memory meanwhile.
     #[tactic(auto, unfolding(crate::specs::Unit::bytes_at, crate::specs::Unit::told_of), using(crate::proofs::Told::told_still))]
@@ -309,6 +321,7 @@ impl<M: GuestMem> VfUnit<M> {
     pub fn deliver(&mut self, frame: &FrameBuf, loopback: bool) -> Vectors
         ensures function { self.new.function ≡ (given loopback frame.now self.old.function).state }
         ensures messages { result ≡ (given loopback frame.now self.old.function).messages }
+        ensures counted { IsCounted self.old.function self.new.function }
         ensures size { size_of self.new.function ≡ size_of self.old.function }
     {
         self.deliver_live(frame, loopback)

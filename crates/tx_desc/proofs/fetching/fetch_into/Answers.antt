@@ -6,6 +6,10 @@ use Rattle.tx_desc.specs.Lent.{fetched_in}
 use Rattle.tx_desc.specs.declared.descriptor.Kind.TheVariants.{Data}
 use Rattle.tx_desc.proofs.Listing.{accesses_none}
 use Rattle.tx_desc.proofs.Taking.{fetches_as, due_on, due_none, at_place, met_after, traced_after, listed_some}
+use Rattle.offload.specs.declared.offloads.Offloads.{Offloads}
+use Rattle.offload.specs.Offloads.{no_offloads}
+use Rattle.tx_desc.specs.Misuses.{misuse_of}
+use Rattle.tx_desc.proofs.Misused.{misused_head}
 use Rattle.tx_desc.proofs.fetching.fetch_into.Goals as goal
 
 pub returns-in_default-clause-fetches : goal.returns-in_default-clause-fetches
@@ -118,3 +122,26 @@ returns-in-Data-clause-traced g c =
 
 pub returns-in-Data-clause-size : goal.returns-in-Data-clause-size
 returns-in-Data-clause-size g c = c.take_data.ensures.size ∙ c.read_descriptor-descriptor.ensures.read.size
+
+pub returns-in-Context-clause-misuse : goal.returns-in-Context-clause-misuse
+returns-in-Context-clause-misuse g c =
+    let r = c.read_descriptor-descriptor in
+    let place = place_there c.in-Some.at (length (g.D.Dma.seen c.args.memory.now.memory)) _ c.in-Some.ensures.inside (c.requires.inside c.in-Some.ensures.on) in
+    let read = r.ensures.read in
+    misused_head no_offloads _ _ c.args.ring.now c.in-Some.at c.size.result r.result _ c.in-Some.ensures.value (sym read.met_is) r.ensures.at r.ensures.holds r.ensures.buffer r.ensures.word (omega (arith, place, read.size, r.ensures.at)) (sym c.size.ensures) (c.unreported-in-Context.ensures.misuse ∙ sym (c.in-Context.ensures.context refl))
+
+pub returns-in-Unusable-clause-misuse : goal.returns-in-Unusable-clause-misuse
+returns-in-Unusable-clause-misuse g c =
+    let r = c.read_descriptor-descriptor in
+    let place = place_there c.in-Some.at (length (g.D.Dma.seen c.args.memory.now.memory)) _ c.in-Some.ensures.inside (c.requires.inside c.in-Some.ensures.on) in
+    let read = r.ensures.read in
+    let why = c.misuse.ensures ∙ ap (λ (o : Offloads). misuse_of o c.size-in-Unusable.result r.result) c.none.ensures in
+    misused_head no_offloads _ _ c.args.ring.now c.in-Some.at c.size-in-Unusable.result r.result _ c.in-Some.ensures.value (sym read.met_is) r.ensures.at r.ensures.holds r.ensures.buffer r.ensures.word (omega (arith, place, read.size, r.ensures.at)) (sym c.size-in-Unusable.ensures) why
+
+pub returns-in-Data-clause-misuse : goal.returns-in-Data-clause-misuse
+returns-in-Data-clause-misuse g c =
+    let r = c.read_descriptor-descriptor in
+    let place = place_there c.in-Some.at (length (g.D.Dma.seen c.args.memory.now.memory)) _ c.in-Some.ensures.inside (c.requires.inside c.in-Some.ensures.on) in
+    let read = r.ensures.read in
+    let apart = at_place _ _ _ _ _ _ r.ensures.at c.take_data.ensures.apart in
+    misused_head no_offloads _ _ c.args.ring.now c.in-Some.at c.size.result r.result _ c.in-Some.ensures.value (met_after _ _ _ _ _ _ _ read apart) r.ensures.at (r.ensures.holds ∙ sym c.take_data.ensures.apart.kept) r.ensures.buffer r.ensures.word (omega (arith, place, read.size, r.ensures.at, apart.size)) (apart.size ∙ sym c.size.ensures) (c.take_data.ensures.misuse ∙ sym (c.in-Data.ensures.usable refl))

@@ -5,6 +5,7 @@ use Rattle.tx_desc.specs.Lent.{fetched_in}
 use Rattle.tx_desc.specs.declared.descriptor.Kind.TheVariants.{Data}
 use Rattle.tx_desc.proofs.Taking.{at_place, met_after, traced_after}
 use Rattle.tx_desc.proofs.Offloading.{serves_as, taken_there, listed_there}
+use Rattle.tx_desc.proofs.Misused.{misused_there}
 use Rattle.tx_desc.proofs.offloaded.take_next.Goals as goal
 
 pub returns-in-Context-clause-serves : goal.returns-in-Context-clause-serves
@@ -71,3 +72,25 @@ pub returns-in-Data-clause-traced : goal.returns-in-Data-clause-traced
 returns-in-Data-clause-traced g c =
     let r = c.read_descriptor-descriptor in
     traced_after _ _ _ _ _ _ _ _ _ r.ensures.listed r.ensures.read (at_place _ _ _ _ _ _ r.ensures.at c.take_data.ensures.apart)
+
+pub returns-in-Context-clause-misuse : goal.returns-in-Context-clause-misuse
+returns-in-Context-clause-misuse g c =
+    let r = c.read_descriptor-descriptor in
+    let read = r.ensures.read in
+    let place = c.requires.place in
+    misused_there c.args.terms.now.offloads _ _ c.args.at c.size.result r.result _ (sym read.met_is) r.ensures.at r.ensures.holds r.ensures.buffer r.ensures.word (omega (arith, place, read.size, r.ensures.at)) (sym c.size.ensures) (c.unreported.ensures.misuse ∙ sym (c.in-Context.ensures.context refl))
+
+pub returns-in-Unusable-clause-misuse : goal.returns-in-Unusable-clause-misuse
+returns-in-Unusable-clause-misuse g c =
+    let r = c.read_descriptor-descriptor in
+    let read = r.ensures.read in
+    let place = c.requires.place in
+    misused_there c.args.terms.now.offloads _ _ c.args.at c.size-in-Unusable.result r.result _ (sym read.met_is) r.ensures.at r.ensures.holds r.ensures.buffer r.ensures.word (omega (arith, place, read.size, r.ensures.at)) (sym c.size-in-Unusable.ensures) c.misuse.ensures
+
+pub returns-in-Data-clause-misuse : goal.returns-in-Data-clause-misuse
+returns-in-Data-clause-misuse g c =
+    let r = c.read_descriptor-descriptor in
+    let read = r.ensures.read in
+    let place = c.requires.place in
+    let apart = at_place _ _ _ _ _ _ r.ensures.at c.take_data.ensures.apart in
+    misused_there c.args.terms.now.offloads _ _ c.args.at c.size.result r.result _ (met_after _ _ _ _ _ _ _ read apart) r.ensures.at (r.ensures.holds ∙ sym c.take_data.ensures.apart.kept) r.ensures.buffer r.ensures.word (omega (arith, place, read.size, r.ensures.at, apart.size)) (apart.size ∙ sym c.size.ensures) (c.take_data.ensures.misuse ∙ sym (c.in-Data.ensures.usable refl))

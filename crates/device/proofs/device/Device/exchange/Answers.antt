@@ -8,7 +8,7 @@ use Rattle.device.specs.Live.{TracedWorld, trace_of}
 use Rattle.vf_unit.specs.Guests.{over}
 
 abbrev base : (g : given.Over) (c : goal.After-self-1 g) → Base
-base g c = record { profile = c.self.inside.profile; settings = c.self.inside.tables.value; resets = c.self.inside.resets; wire = c.self.inside.wire }
+base g c = record { profile = c.self.inside.profile; settings = c.self.inside.tables.value; resets = c.self.inside.resets; wire = c.self.inside.wire.frames; unclaimed = c.self.inside.unclaimed }
 
 here : (g : given.Over) (c : goal.After-self-1 g) → IsHere c.self.inside.units.items c.args.index c.args.index c.index_mut.result.now
 here g c = record {

@@ -6,7 +6,7 @@ use Rattle.device.proofs.device.Device.raise_other.Goals as goal
 use Rattle.device.proofs.device.Device.raise_other.Given as given
 
 abbrev base : (g : given.Over) (c : goal.After-self-1 g) → Base
-base g c = record { profile = c.self.inside.profile; settings = c.self.inside.tables.value; resets = c.self.inside.resets; wire = c.self.inside.wire }
+base g c = record { profile = c.self.inside.profile; settings = c.self.inside.tables.value; resets = c.self.inside.resets; wire = c.self.inside.wire.frames; unclaimed = c.self.inside.unclaimed }
 
 here : (g : given.Over) (c : goal.After-self-1 g) → IsHere c.self.inside.units.items c.from-index.result c.args.pool c.index_mut.result.now
 here g c = record { place = c.from-index.ensures; below = omega (arith, c.if-index-len.false, c.len.ensures); is = c.index_mut.ensures.value }

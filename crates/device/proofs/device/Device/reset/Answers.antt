@@ -13,10 +13,10 @@ are_closed g c =
     ∙ c.end_all.ensures.ended ∙ ap (map closed) c.deref_mut.ensures.value
 
 pub returns-clause-world : goal.returns-clause-world
-returns-clause-world g c = all_closed (record { profile = c.self.inside.profile; settings = c.self.inside.tables.value; resets = c.self.inside.resets; wire = c.self.inside.wire }) c.self.inside.units.items (with_items c.self.inside.units c.end_all.new.units).items c.args.self.now c.clear.new.self c.self.view_is (are_closed g c) c.clear.ensures
+returns-clause-world g c = all_closed (record { profile = c.self.inside.profile; settings = c.self.inside.tables.value; resets = c.self.inside.resets; wire = c.self.inside.wire.frames; unclaimed = c.self.inside.unclaimed }) c.self.inside.units.items (with_items c.self.inside.units c.end_all.new.units).items c.args.self.now c.clear.new.self c.self.view_is (are_closed g c) c.clear.ensures
 
 pub returns-clause-accesses : goal.returns-clause-accesses
-returns-clause-accesses g c = closed_kept (record { profile = c.self.inside.profile; settings = c.self.inside.tables.value; resets = c.self.inside.resets; wire = c.self.inside.wire }) c.self.inside.units.items (with_items c.self.inside.units c.end_all.new.units).items c.args.self.now c.self.view_is (are_closed g c)
+returns-clause-accesses g c = closed_kept (record { profile = c.self.inside.profile; settings = c.self.inside.tables.value; resets = c.self.inside.resets; wire = c.self.inside.wire.frames; unclaimed = c.self.inside.unclaimed }) c.self.inside.units.items (with_items c.self.inside.units c.end_all.new.units).items c.args.self.now c.self.view_is (are_closed g c)
 
 pub returns-clause-sizes : goal.returns-clause-sizes
-returns-clause-sizes g c = closed_sizes (record { profile = c.self.inside.profile; settings = c.self.inside.tables.value; resets = c.self.inside.resets; wire = c.self.inside.wire }) c.self.inside.units.items (with_items c.self.inside.units c.end_all.new.units).items c.args.self.now c.self.view_is (are_closed g c)
+returns-clause-sizes g c = closed_sizes (record { profile = c.self.inside.profile; settings = c.self.inside.tables.value; resets = c.self.inside.resets; wire = c.self.inside.wire.frames; unclaimed = c.self.inside.unclaimed }) c.self.inside.units.items (with_items c.self.inside.units c.end_all.new.units).items c.args.self.now c.self.view_is (are_closed g c)

@@ -1,9 +1,11 @@
 -- A service, with the frame that it sent switched.
-use Rattle.std.proofs.Common.{◌≡◌, ◌∙◌, Some, None, refl, ap, sym}
+use Rattle.std.proofs.Common.{◌≡◌, ◌≤◌, ◌∙◌, Some, None, length, refl, ap, subst, sym}
 use Rattle.std.specs.Prelude.{if◌then◌else◌, option_copied}
 use Rattle.local_switch.specs.declared.ways.Source.TheVariants.{Pool}
 use Rattle.local_switch.specs.Switch.{leaves}
+use Rattle.device.specs.World.{World}
 use Rattle.device.specs.Live.{told_functions, told_world}
+use Rattle.device.proofs.Fitting.{sent_fits}
 use Rattle.device.proofs.LiveServes.{unsent_live, sent_live, unsent_listed, sent_listed, others_kept, sender_kept}
 use Rattle.device.proofs.device.Device.serve_pool.Goals as goal
 use Rattle.device.proofs.device.Device.serve_pool.Goals.{then-switched, else-switched}
@@ -18,6 +20,12 @@ returns-then-not-is_sent g c =
           c.transmit-acted.ensures.reply c.transmit-acted.ensures.messages c.of.ensures none refl refl;
       listed = unsent_listed c.args.self.now.accesses now.accesses c.args.self.now.world c.args.pool c.args.queue c.requires.there none c.transmit-acted.ensures.listed;
     }
+
+-- a frame that is sent is within the limit
+pub switch-switched-requires : goal.switch-switched-requires
+switch-switched-requires g c =
+    let sent = c.transmit-acted.ensures.sent ∙ ap (λ b. if b then Some c.transmit-acted.new.frame else None) (sym c.is_sent.ensures ∙ c.if-not-is_sent.false) in
+    subst (λ (w : World). length c.transmit-acted.new.frame ≤ w.profile.limit) (sym c.transmit-acted.ensures.world) (sent_fits c.args.self.now.world.profile.limit _ _ c.args.queue c.transmit-acted.new.frame sent)
 
 pub returns : goal.returns
 returns g c =

@@ -11,7 +11,7 @@ use Rattle.device.proofs.device.Device.transmit.Goals as goal
 use Rattle.device.proofs.device.Device.transmit.Given as given
 
 abbrev base : (g : given.Over) (c : goal.After-self-1 g) → Base
-base g c = record { profile = c.self.inside.profile; settings = c.self.inside.tables.value; resets = c.self.inside.resets; wire = c.self.inside.wire }
+base g c = record { profile = c.self.inside.profile; settings = c.self.inside.tables.value; resets = c.self.inside.resets; wire = c.self.inside.wire.frames; unclaimed = c.self.inside.unclaimed }
 
 abbrev here : (g : given.Over) (c : goal.After-self-1 g) → IsHere c.self.inside.units.items c.from-index.result c.args.pool c.index_mut-unit.result.now
 here g c = record {

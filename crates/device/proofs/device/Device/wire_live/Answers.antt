@@ -2,7 +2,7 @@
 use Rattle.std.proofs.Common.{◌<◌, ◌≤◌, length, refl, sym, ap, subst, arith, ◌∙◌}
 use Rattle.device.specs.Live.{TracedWorld, told_world}
 use Rattle.device.proofs.LiveLemmas.{untouched, told_world_none}
-use Rattle.device.proofs.LiveServes.{refused_frame, refused_listed, taken_listed}
+use Rattle.device.proofs.LiveServes.{refused_frame, refused_answer, refused_listed, taken_listed}
 use Rattle.device.proofs.device.Device.wire_live.Goals as goal
 use Rattle.device.proofs.device.Device.wire_live.Given as given
 
@@ -12,6 +12,9 @@ long g c = subst (λ (d : TracedWorld). d.world.profile.limit < length c.args.fr
 pub returns-then-bytes-from-clause-world : goal.returns-then-bytes-from-clause-world
 returns-then-bytes-from-clause-world g c =
     sym (refused_frame (told_world c.args.self.now.accesses c.args.self.now.accesses c.args.self.now.world) c.args.frame.now (long g c) ∙ told_world_none c.args.self.now.accesses c.args.self.now.accesses c.args.self.now.world (λ r. refl))
+
+pub returns-then-bytes-from-clause-answer : goal.returns-then-bytes-from-clause-answer
+returns-then-bytes-from-clause-answer g c = sym (refused_answer (told_world c.args.self.now.accesses c.args.self.now.accesses c.args.self.now.world) c.args.frame.now (long g c))
 
 pub returns-then-bytes-from-clause-met : goal.returns-then-bytes-from-clause-met
 returns-then-bytes-from-clause-met g c = untouched g.D.Dma.shared c.args.self.now.accesses c.args.self.now.world

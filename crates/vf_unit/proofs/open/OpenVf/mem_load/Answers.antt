@@ -21,6 +21,7 @@ returns-clause-state g c =
       frames_sent = was.frames_sent;
       offloads = was.offloads;
       shortfalls = was.shortfalls;
+      losses = was.losses;
     } in
     subst (λ (s : TracedState). now ≡ told s.accesses c.load.new.self.accesses s.state) c.self.view_is (λ i. record {
       memory = read.met_is i;
@@ -36,4 +37,5 @@ returns-clause-state g c =
       frames_sent = was.frames_sent;
       offloads = was.offloads;
       shortfalls = was.shortfalls;
+      losses = was.losses;
     })

@@ -160,6 +160,30 @@ typedef struct vfdev_wire_result {
     size_t refused; /* how many were refused: those that are longer than the limit, and what is no frame */
 } vfdev_wire_result;
 
+/* Why a fault stopped a queue of a function. */
+enum vfdev_queue_fault {
+    VFDEV_QUEUE_NO_FAULT = 0,       /* none did */
+    VFDEV_QUEUE_RECEIVE_BUFFER = 1, /* receive queue 0: a frame came, and the buffer of a descriptor that it needed passes the end of the memory */
+    VFDEV_QUEUE_UNKNOWN_TYPE = 2,   /* a transmit queue: an advanced descriptor is neither a context nor a data descriptor (DTYP 2, 3) */
+    VFDEV_QUEUE_NOT_OFFERED = 3,    /* a transmit queue: a tag or segments are asked for (VLE, TSE), and the device was made without */
+    VFDEV_QUEUE_PAST_MEMORY = 4     /* a transmit queue: the bytes of a descriptor pass the end of the memory */
+};
+
+/* What a function has counted. The first seven are numbers modulo 2^32. They begin at 0 when the function is opened or its guest comes, and with
+ * each reset of the function or the device; `unclaimed` begins at 0 when the device is made, and goes on. A frame that comes to an open function
+ * counts once: as received, as one without room, or as a fault. One that a pool accepts while its function is closed is in no number. */
+typedef struct vfdev_function_counts {
+    uint32_t received;   /* frames that were placed in its receive queue: what VFGPRC reads */
+    uint32_t sent;       /* its frames that passed the check of senders: what VFGPTC reads */
+    uint32_t no_room;    /* frames that came while its receive queue was off, or had too few descriptors or no size of buffers (SRRCTL) */
+    uint32_t refused;    /* its frames that the check of senders refused, by their source or their VLAN (82599 datasheet, PFVFSPOOF) */
+    uint32_t unclaimed;  /* its frames that nobody got: they left for no wire, and no pool that may receive accepted them */
+    uint32_t faults;     /* how often a fault stopped a queue */
+    uint32_t shortfalls; /* how often sums or segments that its driver left to the device could not be made */
+    uint32_t last_fault; /* an enum vfdev_queue_fault: what stopped a queue the last time */
+    uint32_t last_queue; /* the transmit queue that it stopped, 0 or 1; 0 where it stopped none */
+} vfdev_function_counts;
+
 /* The archive answers numbers of 32 bits. */
 #ifdef __cplusplus
 static_assert(sizeof(enum vfdev_kind) == 4 && sizeof(enum vfdev_fault) == 4 && sizeof(enum vfdev_replayed) == 4, "enums have 32 bits");
@@ -345,6 +369,18 @@ VFDEV_LOOK size_t vfdev_frame(vfdev *device, uint32_t number, uint8_t *out, size
 vfdev_wire_result vfdev_wire_burst(vfdev *device, const uint8_t *bytes, size_t len, const size_t *ends, size_t count,
                                    uint8_t messages[VFDEV_POOLS]);
 
+/* ---- what was lost -----------------------------------------------------------------------------------------------
+ *
+ * These change nothing, and a recording has none of them: of a device whose calls are recorded they say the same. */
+
+/* What a function has counted: all of it stands in `counts`, and zeros where it isn't VFDEV_DONE. Of a closed function all are 0 but `unclaimed`.
+ * VFDEV_NO_DEVICE; VFDEV_REFUSED with VFDEV_NO_SUCH_VF. */
+vfdev_reply vfdev_counts(vfdev *device, uint8_t function, vfdev_function_counts *counts);
+
+/* How many frames from the wire nobody got, modulo 2^32, since the device was made: no pool that may receive accepted them. 0 where there is no
+ * device. Frames that vfdev_wire refuses are not among them. */
+uint32_t vfdev_unclaimed(vfdev *device);
+
 /* ---- recording and replay ----------------------------------------------------------------------------------------
  *
  * The recording of a device of vfdev_make_recorded has each event that the device is asked, with its answer: the reply with its
@@ -396,6 +432,19 @@ static inline const char *vfdev_replayed_text(enum vfdev_replayed answer)
     case VFDEV_NOT_RECORDED: return "not recorded";
     case VFDEV_NO_OTHER: return "no other device";
     default: return "no answer of this version";
+    }
+}
+
+/* Why a fault stopped a queue, in a few words. */
+static inline const char *vfdev_queue_fault_text(uint32_t fault)
+{
+    switch (fault) {
+    case VFDEV_QUEUE_NO_FAULT: return "no fault";
+    case VFDEV_QUEUE_RECEIVE_BUFFER: return "a receive buffer past the memory";
+    case VFDEV_QUEUE_UNKNOWN_TYPE: return "a descriptor of an unknown type";
+    case VFDEV_QUEUE_NOT_OFFERED: return "a tag or segments that are not offered";
+    case VFDEV_QUEUE_PAST_MEMORY: return "a transmit buffer past the memory";
+    default: return "no queue fault of this version";
     }
 }
 

@@ -259,6 +259,13 @@ bool vfdev_card_is_busy(vfdev_card *card, uint8_t function);
  * that a frame then lacks, or segments, where the whole frame is dropped. 0 where there is no such function. */
 uint32_t vfdev_card_shortfalls(vfdev_card *card, uint8_t function);
 
+/* What a function has counted, shortfalls among it: as vfdev_counts of vfdev.h. VFDEV_NO_DEVICE where the handle is empty; VFDEV_REFUSED with
+ * VFDEV_NO_SUCH_VF. */
+vfdev_reply vfdev_card_counts(vfdev_card *card, uint8_t function, vfdev_function_counts *counts);
+
+/* How many frames from the wire nobody got, as vfdev_unclaimed of vfdev.h. 0 where the handle is empty. */
+uint32_t vfdev_card_unclaimed(vfdev_card *card);
+
 /* A frame comes from the wire. VFDEV_DONE; VFDEV_REFUSED with VFDEV_BAD_FRAME; VFDEV_NO_DEVICE where the handle is empty. */
 vfdev_reply vfdev_card_wire(vfdev_card *card, const uint8_t *frame, size_t len);
 

@@ -1,5 +1,5 @@
 /* The calls of vfdev.h, by numbers worked out by hand: makers and freeing, refusals in their order, frames that come and leave,
- * recordings and their replay. It writes nothing, and ends with 0, where all is as it should be. */
+ * what was lost, recordings and their replay. It writes nothing, and ends with 0, where all is as it should be. */
 #include "vfdev.h"
 
 #include <stdio.h>
@@ -264,6 +264,10 @@ static void numbers_have_texts(void)
     for (unsigned number = 0; number <= VFDEV_OVERLAPS; number++) {
         EQUAL(strncmp(vfdev_fault_text(number), "no fault", 8) == 0, number == 8 || number == 12);
     }
+    for (unsigned number = 0; number <= VFDEV_QUEUE_PAST_MEMORY; number++) {
+        EQUAL(strncmp(vfdev_queue_fault_text(number), "no queue fault", 14) != 0, 1);
+    }
+    EQUAL(strncmp(vfdev_queue_fault_text(5), "no queue fault", 14), 0);
     for (unsigned number = 0; number <= VFDEV_NO_OTHER; number++) {
         EQUAL(strncmp(vfdev_replayed_text((enum vfdev_replayed)number), "no answer", 9) != 0, 1);
     }
@@ -286,6 +290,126 @@ static vfdev other(uint32_t functions)
     vfdev device = VFDEV_NONE;
     EQUAL(vfdev_make(&device, functions, 65536, 1518), VFDEV_OK);
     return device;
+}
+
+/* What a function has counted, in the order of the struct. */
+#define COUNTED(device, function, ...) counted(__LINE__, (device), (function), (const uint32_t[9]){__VA_ARGS__})
+
+static void counted(int line, vfdev *device, uint8_t function, const uint32_t due[9])
+{
+    vfdev_function_counts got;
+    memset(&got, 0xA5, sizeof got);
+    reply(line, vfdev_counts(device, function, &got), VFDEV_DONE, 0);
+    const uint32_t all[9] = {got.received, got.sent, got.no_room, got.refused, got.unclaimed, got.faults, got.shortfalls, got.last_fault,
+                             got.last_queue};
+    for (size_t at = 0; at < 9; at++) {
+        equal(line, all[at], due[at]);
+    }
+}
+
+/* Function 1 begins a queue anew, with one descriptor of these words, which is served. */
+static vfdev_reply sends_one(vfdev *device, uint8_t queue, uint16_t buffer, uint32_t word)
+{
+    const uint8_t bytes[16] = {[0] = buffer & 0xFF, [1] = buffer >> 8, [8] = word & 0xFF, [9] = word >> 8 & 0xFF,
+                               [10] = word >> 16 & 0xFF, [11] = word >> 24};
+    const uint32_t to = 0x40u * queue;
+    const struct write writes[] = {{0x2028 + to, 0}, {0x2018 + to, 0}, {0x2010 + to, 0}, {0x2000 + to, 0x3000},
+                                   {0x2008 + to, 128}, {0x2028 + to, 0x02000000}, {0x2018 + to, 1}};
+    REPLY(vfdev_mem_write(device, 1, 0x3000, bytes, 16), VFDEV_DONE, 0);
+    write_all(device, 1, writes, sizeof writes / sizeof *writes);
+    return vfdev_serve(device, 1, queue, out, sizeof out, NULL, messages, 64);
+}
+
+/* Each number once. A data descriptor that ends a frame of 60 bytes is 0x2930003C; the frame at 0x6000 is for the wire, that at 0x6100 for
+ * function 0. */
+static void counts_each_loss(vfdev *device)
+{
+    static const struct write third = {0x1018, 3};
+    static const uint8_t past[2] = {0xE0, 0xFF};
+    set_up(device);
+    COUNTED(device, 0, 0);
+    COUNTED(device, 1, 0);
+    /* two frames for two descriptors, one without room, and one for nobody */
+    for (int count = 0; count < 3; count++) {
+        REPLY(vfdev_wire(device, frame(0, 9), 60, messages, 64), VFDEV_DONE, 0);
+    }
+    EQUAL(vfdev_unclaimed(device), 0);
+    REPLY(vfdev_wire(device, frame(5, 9), 60, messages, 64), VFDEV_DONE, 0);
+    REPLY(vfdev_wire(device, frame(5, 9), 13, messages, 64), VFDEV_REFUSED, VFDEV_BAD_FRAME);
+    EQUAL(vfdev_unclaimed(device), 1);
+    COUNTED(device, 0, 2, 0, 1);
+    /* a third descriptor, whose buffer has 32 bytes before the end of the memory */
+    REPLY(vfdev_mem_write(device, 0, 0x1020, past, 2), VFDEV_DONE, 0);
+    write_all(device, 0, &third, 1);
+    REPLY(vfdev_wire(device, frame(0, 9), 60, messages, 64), VFDEV_DONE, 0);
+    COUNTED(device, 0, 2, 0, 1, 0, 0, 1, 0, VFDEV_QUEUE_RECEIVE_BUFFER);
+    /* function 1 sends to the wire; to function 0 while that may not receive; and while its source is checked, which isn't its own */
+    REPLY(sends_one(device, 0, 0x6000, 0x2930003C), VFDEV_SENT, 0);
+    REPLY(vfdev_pf_write(device, 0x51E0, 2), VFDEV_DONE, 0);
+    REPLY(sends_one(device, 1, 0x6100, 0x2930003C), VFDEV_SENT, 0);
+    COUNTED(device, 1, 0, 2, 0, 0, 1);
+    REPLY(vfdev_pf_write(device, 0x8200, 2), VFDEV_DONE, 0);
+    REPLY(sends_one(device, 0, 0x6000, 0x2930003C), VFDEV_DROPPED, 0);
+    COUNTED(device, 1, 0, 2, 0, 1, 1);
+    /* descriptors that can't be used: of type 1, with TSE, with VLE, and with 28 bytes past the end */
+    REPLY(sends_one(device, 0, 0x6000, 0x2910003C), VFDEV_FAULTED, 0);
+    COUNTED(device, 1, 0, 2, 0, 1, 1, 1, 0, VFDEV_QUEUE_UNKNOWN_TYPE, 0);
+    REPLY(sends_one(device, 1, 0x6000, 0xA930003C), VFDEV_FAULTED, 0);
+    COUNTED(device, 1, 0, 2, 0, 1, 1, 2, 0, VFDEV_QUEUE_NOT_OFFERED, 1);
+    REPLY(sends_one(device, 0, 0x6000, 0x6930003C), VFDEV_FAULTED, 0);
+    COUNTED(device, 1, 0, 2, 0, 1, 1, 3, 0, VFDEV_QUEUE_NOT_OFFERED, 0);
+    REPLY(sends_one(device, 1, 0xFFE0, 0x2930003C), VFDEV_FAULTED, 0);
+    COUNTED(device, 1, 0, 2, 0, 1, 1, 4, 0, VFDEV_QUEUE_PAST_MEMORY, 1);
+    COUNTED(device, 0, 2, 0, 1, 0, 0, 1, 0, VFDEV_QUEUE_RECEIVE_BUFFER);
+    /* a reset takes all but the frames that nobody got, and so does the end */
+    REPLY(vfdev_flr(device, 1), VFDEV_DONE, 0);
+    COUNTED(device, 1, 0, 0, 0, 0, 1);
+    REPLY(vfdev_end(device, 0), VFDEV_DONE, 0);
+    COUNTED(device, 0, 0);
+    REPLY(vfdev_pf_reset(device), VFDEV_DONE, 0);
+    COUNTED(device, 1, 0, 0, 0, 0, 1);
+    EQUAL(vfdev_unclaimed(device), 1);
+}
+
+/* Where there is nothing to tell the numbers are zeros. */
+static void tells_no_counts(vfdev *device, uint8_t function, uint32_t kind, uint32_t value)
+{
+    vfdev_function_counts got;
+    static const vfdev_function_counts none;
+    memset(&got, 0xA5, sizeof got);
+    REPLY(vfdev_counts(device, function, &got), kind, value);
+    EQUAL(memcmp(&got, &none, sizeof none), 0);
+}
+
+/* The same of a device over memories of its own, of one that is recorded, and of one over blocks. */
+static void counts_what_was_lost(void)
+{
+    static uint8_t blocks[2][65536];
+    vfdev devices[3] = {VFDEV_NONE, VFDEV_NONE, VFDEV_NONE};
+    tells_no_counts(&devices[0], 0, VFDEV_NO_DEVICE, 0);
+    EQUAL(vfdev_unclaimed(&devices[0]), 0);
+    EQUAL(vfdev_make(&devices[0], 2, 65536, 1518), VFDEV_OK);
+    EQUAL(vfdev_make_recorded(&devices[1], 2, 65536, 1518, 256), VFDEV_OK);
+    EQUAL(vfdev_lend(&devices[2], (vfdev_block){blocks[0], sizeof *blocks}), VFDEV_OK);
+    tells_no_counts(&devices[2], 0, VFDEV_NO_DEVICE, 0);
+    EQUAL(vfdev_lend(&devices[2], (vfdev_block){blocks[1], sizeof *blocks}), VFDEV_OK);
+    EQUAL(vfdev_make_lent(&devices[2], 1518), VFDEV_OK);
+    for (int kind = 0; kind < 3; kind++) {
+        counts_each_loss(&devices[kind]);
+        tells_no_counts(&devices[kind], 2, VFDEV_REFUSED, VFDEV_NO_SUCH_VF);
+        tells_no_counts(&devices[kind], 255, VFDEV_REFUSED, VFDEV_NO_SUCH_VF);
+    }
+    /* to ask is no call that is kept, and a replay counts the same */
+    const size_t kept = vfdev_kept(&devices[1]);
+    COUNTED(&devices[1], 1, 0, 0, 0, 0, 1);
+    EQUAL(vfdev_kept(&devices[1]), kept);
+    vfdev fresh = other(2);
+    EQUAL(vfdev_replay(&devices[1], &fresh), VFDEV_SAME);
+    COUNTED(&fresh, 1, 0, 0, 0, 0, 1);
+    vfdev_free(&fresh);
+    for (int kind = 0; kind < 3; kind++) {
+        vfdev_free(&devices[kind]);
+    }
 }
 
 static void kept_calls_replay(void)
@@ -407,6 +531,7 @@ int main(void)
     refuses_blocks_that_overlap();
     serves_where_no_frame_is_wanted();
     numbers_have_texts();
+    counts_what_was_lost();
     kept_calls_replay();
     finds_planted_differences();
     asks_no_device_of_a_full_history();

@@ -1,5 +1,5 @@
 /* The calls of vfdev_card.h, by numbers worked out by hand: makers and freeing, guests and their regions, messages of a client, frames,
- * policies, what a driver leaves to a card, the page of registers that a client may map, and what is to be done about its words. It writes
+ * policies, what a driver leaves to a card, what was lost, the page of registers that a client may map, and what is to be done about its words. It writes
  * nothing, and ends with 0, where all is as it should be. */
 #include "client.h"
 #include "vfdev_regs.h"
@@ -314,6 +314,80 @@ static void offloads(void)
     vfdev_card_free(&card);
 }
 
+/* What function 0 has counted. */
+static vfdev_function_counts counts(vfdev_card *card)
+{
+    vfdev_function_counts counts;
+    memset(&counts, 0xA5, sizeof counts);
+    const vfdev_reply reply = vfdev_card_counts(card, 0, &counts);
+    EQUAL(reply.kind, VFDEV_DONE);
+    EQUAL(reply.value, 0);
+    return counts;
+}
+
+/* Its driver has one descriptor taken, which stands at that place of the ring, and no frame leaves. */
+static void lose(vfdev_card *card, uint32_t place, uint64_t buffer, uint64_t word)
+{
+    const uint64_t words[2] = {buffer, word};
+    memcpy(memory + 0x1000 + 16 * place, words, sizeof words);
+    write_register(card, 0, VFDEV_TDT(0), place + 1);
+    EQUAL(vfdev_card_more(card, 0).frames, 0);
+}
+
+/* Each frame that is lost is counted by its reason, until the guest resets its function. */
+static void losses(void)
+{
+    const uint64_t data = VFDEV_TXD_DEXT | VFDEV_TXD_EOP | VFDEV_TXD_RS | VFDEV_TXD_LENGTH(60);
+    static const vfdev_function_counts none;
+    vfdev_function_counts got;
+    vfdev_card card = VFDEV_CARD_NONE;
+    memset(&got, 0xA5, sizeof got);
+    EQUAL(vfdev_card_counts(&card, 0, &got).kind, VFDEV_NO_DEVICE);
+    EQUAL(memcmp(&got, &none, sizeof none), 0);
+    EQUAL(vfdev_card_unclaimed(&card), 0);
+    begin_full(&card);
+    memset(&got, 0xA5, sizeof got);
+    EQUAL(vfdev_card_counts(&card, 1, &got).value, VFDEV_NO_SUCH_VF);
+    EQUAL(memcmp(&got, &none, sizeof none), 0);
+    EQUAL(vfdev_card_counts(&card, 64, &got).kind, VFDEV_REFUSED);
+    /* from the wire: to the function, which has no ring, and to nobody */
+    memcpy(frame, (uint8_t[14]){0x02, 0x82, 0x59, 0, 0, 1, 2, 0, 0, 0, 0, 9, 8, 0}, 14);
+    EQUAL(vfdev_card_wire(&card, frame, 60).kind, VFDEV_DONE);
+    EQUAL(counts(&card).no_room, 1);
+    EQUAL(vfdev_card_unclaimed(&card), 0);
+    frame[5] = 5;
+    EQUAL(vfdev_card_wire(&card, frame, 60).kind, VFDEV_DONE);
+    EQUAL(vfdev_card_unclaimed(&card), 1);
+    EQUAL(counts(&card).no_room, 1);
+    EQUAL(counts(&card).received, 0);
+    /* three segments leave, and UDP can't be cut */
+    EQUAL(cut(&card, 0, 1).frames, 3);
+    EQUAL(cut(&card, 2, 0).frames, 0);
+    EQUAL(counts(&card).sent, 3);
+    EQUAL(counts(&card).shortfalls, 1);
+    /* a frame whose source isn't the function's, a descriptor of type 1, and one whose last byte is the first past the addresses */
+    memory[0x200B] = 2;
+    lose(&card, 4, 0x2000, data | VFDEV_TXD_DTYP(3));
+    EQUAL(counts(&card).refused, 1);
+    EQUAL(counts(&card).faults, 0);
+    lose(&card, 5, 0x2000, data | VFDEV_TXD_DTYP(1));
+    EQUAL(counts(&card).faults, 1);
+    EQUAL(counts(&card).last_fault, VFDEV_QUEUE_UNKNOWN_TYPE);
+    write_register(&card, 0, VFDEV_TDH(0), 0);
+    write_register(&card, 0, VFDEV_TDT(0), 0);
+    write_register(&card, 0, VFDEV_TXDCTL(0), VFDEV_TXDCTL_ENABLE);
+    lose(&card, 0, VFDEV_CARD_SPACE - 59, data | VFDEV_TXD_DTYP(3));
+    EQUAL(counts(&card).faults, 2);
+    EQUAL(counts(&card).last_fault, VFDEV_QUEUE_PAST_MEMORY);
+    EQUAL(counts(&card).last_queue, 0);
+    EQUAL(counts(&card).unclaimed, 0);
+    EQUAL(vfdev_card_flr(&card, 0), VFDEV_OK);
+    got = counts(&card);
+    EQUAL(memcmp(&got, &none, sizeof none), 0);
+    EQUAL(vfdev_card_unclaimed(&card), 1);
+    vfdev_card_free(&card);
+}
+
 /* The flags of BAR 0, told to a client that asks with room for 64 bytes. The reply has `due` bytes. */
 static uint32_t asked(vfdev_card *card, uint8_t function, size_t due)
 {
@@ -440,6 +514,7 @@ int main(void)
     vfdev_card_free(&card);
     bursts();
     offloads();
+    losses();
     areas();
     pages();
     touches();

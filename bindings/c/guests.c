@@ -1,5 +1,5 @@
 /* Guests that come to a device of vfdev_make_guests and go, by numbers worked out by hand: makers, refusals in their order, blocks of two
- * guests that overlap, frames in bursts, and a guest that takes another's place and sees nothing of it. It writes nothing, and ends with 0,
+ * guests that overlap, frames in bursts, what was lost, and a guest that takes another's place and sees nothing of it. It writes nothing, and ends with 0,
  * where all is as it should be. */
 #include "vfdev.h"
 #include "vfdev_regs.h"
@@ -204,6 +204,71 @@ static unsigned number_in(const uint8_t *bytes, unsigned buffer)
     return bytes[BUFFERS + 2048 * buffer + FRAME - 1];
 }
 
+/* What a function has counted. */
+static vfdev_function_counts counts(vfdev *device, uint8_t function)
+{
+    vfdev_function_counts counts;
+    memset(&counts, 0xA5, sizeof counts);
+    REPLY(vfdev_counts(device, function, &counts), VFDEV_DONE, 0);
+    return counts;
+}
+
+/* A guest's numbers go with it, but how many of its function's frames nobody got. */
+static void counts_by_guest(void)
+{
+    static const vfdev_function_counts none;
+    vfdev_function_counts got;
+    vfdev device = VFDEV_NONE;
+    memset(memory, 0, sizeof memory);
+    EQUAL(vfdev_make_guests(&device, 2, 1518, VFDEV_OFFLOAD_VLAN), VFDEV_OK);
+    REPLY(vfdev_counts(&device, 2, &got), VFDEV_REFUSED, VFDEV_NO_SUCH_VF);
+    EQUAL(memcmp(&got, &none, sizeof none), 0);
+    got = counts(&device, 1); /* it is vacant */
+    EQUAL(memcmp(&got, &none, sizeof none), 0);
+    /* function 0 has an address, and may not receive; function 1 sends it a frame, and one to the wire */
+    pf(&device, VFDEV_PFVFTE(0), 2);
+    pf(&device, VFDEV_PFDTXGSWC, VFDEV_PFDTXGSWC_LBE);
+    pf(&device, VFDEV_RAL(0), 2);
+    pf(&device, VFDEV_RAH(0), VFDEV_RAH_AV);
+    pf(&device, VFDEV_MPSAR(0), 1);
+    come(&device, 0, memory[0]);
+    come(&device, 1, memory[1]);
+    send(memory[1], 0, 0, 1, 11);
+    send(memory[1], 1, 0x77, 1, 12);
+    vf(&device, 1, VFDEV_TDT(0), 2);
+    EQUAL(vfdev_serve_burst(&device, 1, 0, 9, messages).frames, 1);
+    EQUAL(counts(&device, 1).sent, 2);
+    EQUAL(counts(&device, 1).unclaimed, 1);
+    EQUAL(counts(&device, 0).unclaimed, 0);
+    EQUAL(vfdev_unclaimed(&device), 0);
+    /* now it may: eight frames for the seven descriptors that it has given */
+    pf(&device, VFDEV_PFVFRE(0), 1);
+    static uint8_t bytes[8 * FRAME];
+    static const size_t ends[] = {FRAME, 2 * FRAME, 3 * FRAME, 4 * FRAME, 5 * FRAME, 6 * FRAME, 7 * FRAME, 8 * FRAME};
+    for (unsigned at = 0; at < 8; at++) {
+        lay_frame(bytes + FRAME * at, 0, 0x77, 1);
+    }
+    EQUAL(vfdev_wire_burst(&device, bytes, sizeof bytes, ends, 8, messages).taken, 8);
+    EQUAL(counts(&device, 0).received, 7);
+    EQUAL(counts(&device, 0).no_room, 1);
+    /* segments aren't offered, a tag is */
+    send(memory[1], 2, 0x77, 1, 13);
+    memory[1][SENDS + 16 * 2 + 11] |= 0x80;
+    vf(&device, 1, VFDEV_TDT(0), 3);
+    EQUAL(vfdev_serve_burst(&device, 1, 0, 9, messages).frames, 0);
+    EQUAL(counts(&device, 1).faults, 1);
+    EQUAL(counts(&device, 1).last_fault, VFDEV_QUEUE_NOT_OFFERED);
+    EQUAL(counts(&device, 1).last_queue, 0);
+    EQUAL(vfdev_detach(&device, 1), VFDEV_OK);
+    EQUAL(vfdev_attach(&device, 1), VFDEV_OK);
+    got = counts(&device, 1);
+    EQUAL(got.unclaimed, 1);
+    got.unclaimed = 0;
+    EQUAL(memcmp(&got, &none, sizeof none), 0);
+    EQUAL(counts(&device, 0).received, 7);
+    vfdev_free(&device);
+}
+
 /* Two guests talk in bursts, one goes, and another takes its place. */
 static void guests_come_and_go(void)
 {
@@ -344,6 +409,7 @@ int main(void)
     makes_what_numbers_allow();
     refuses_in_order();
     keeps_blocks_apart();
+    counts_by_guest();
     guests_come_and_go();
     a_burst_ends_where_there_is_no_room();
     return 0;

@@ -13,7 +13,7 @@ use Rattle.device.specs.declared.event.Event.TheVariants.{Wire}
 use Rattle.device.specs.Guests.{attach_refusal, attached, detached, is_vacant}
 use Rattle.device.specs.Live.{AreListed, AreMet, told_world}
 use Rattle.device.specs.World.{World, function_of, step}
-use Rattle.vf_unit.specs.Unit.{Function, interval_of, size_of, shortfalls_of}
+use Rattle.vf_unit.specs.Unit.{Function, counts_of, interval_of, size_of}
 use Rattle.vf_unit.specs.declared.intervals.Vector.{Vector}
 use Rattle.vf_unit.specs.declared.intervals.Vector.TheVariants.{V0, V1, V2}
 use Rattle.mailbox.specs.Address.{number_of as number_of_address}
@@ -270,7 +270,7 @@ busy_at p c = nat_lt p 64 && is_busy (end_at c.card p)
 
 -- how often something could not be done that a function's driver left to the card
 abbrev pub shortfalls_at : ℕ → HeldCard → ℕ
-shortfalls_at p c = if nat_lt p 64 then shortfalls_of (function_of p c.card.hosted.device.world) else 0
+shortfalls_at p c = if nat_lt p 64 then (counts_of (function_of p c.card.hosted.device.world)).shortfalls else 0
 
 -- a vector by its number
 abbrev pub vector_numbered : ℕ → Option Vector

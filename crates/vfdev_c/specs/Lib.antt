@@ -1,5 +1,6 @@
 pub mod CardCalls
 pub mod Cards
+pub mod Counted
 pub mod GuestCalls
 pub mod GuestDevices
 pub mod Handle

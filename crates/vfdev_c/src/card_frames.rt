@@ -183,7 +183,7 @@ impl CardHeld {
         ensures { result ≡ shortfalls_at function self.now }
     {
         match PoolId::new(function) {
-            Some(pool) => self.card.shortfalls(pool),
+            Some(pool) => self.card.counts(pool).shortfalls,
             None => 0,
         }
     }

@@ -3,8 +3,10 @@ ghost use Rattle.std.specs.Prelude.{◌≡◌, ◌≤◌, true, false, length, O
 ghost use Rattle.wire_frame.specs.Frame.{is_frame};
 ghost use Rattle.device.specs.declared.event.Event.TheVariants.{MemRead, Serve, Wire};
 ghost use Rattle.device.specs.Request.{event_of};
-ghost use Rattle.vfdev_c.specs.Handle.{Held, Gives, bytes_on, left_on, frame_in, length_in, is_mem_read};
+ghost use Rattle.vfdev_c.specs.Counted.{count_reply, counted_at, none_counted, of_device, unclaimed_in};
+ghost use Rattle.vfdev_c.specs.Handle.{Held, Gives, bytes_on, left_on, frame_in, length_in, is_mem_read, no_device};
 
+use crate::counts::VfdevCounts;
 use crate::reply::VfdevReply;
 use device::{Queue, Request};
 use irq_causes::Messages;
@@ -47,4 +49,13 @@ pub trait DeviceKind {
             ≡ frame_in (left_on (held self.old) (Ok (Serve function queue)) (held self.new)) out.old }
         ensures left { left.new
             ≡ length_in (left_on (held self.old) (Ok (Serve function queue)) (held self.new)) };
+
+    /// Tells what a function has counted.
+    fn counts(&self, function: u8, counts: &mut VfdevCounts) -> VfdevReply
+        ensures replied { result ≡ of_device (held self.now) no_device (count_reply function) }
+        ensures counts { counts.new ≡ of_device (held self.now) none_counted (counted_at function) };
+
+    /// Tells how many frames from the wire nobody got.
+    fn unclaimed(&self) -> u32
+        ensures { result ≡ of_device (held self.now) 0 unclaimed_in };
 }

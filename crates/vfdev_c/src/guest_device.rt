@@ -6,6 +6,7 @@ ghost use Rattle.vfdev_c.specs.GuestDevices.{IsMadeGuests, can_make_guests};
 
 use crate::blocks::Blocks;
 use crate::card_held::{FRAME_BYTES, MOST_FRAMES, vacancies};
+use crate::counts::VfdevCounts;
 use crate::device_kind::DeviceKind;
 use crate::lent_device::LentDevice;
 use crate::reply::VfdevReply;
@@ -97,6 +98,14 @@ impl DeviceKind for GuestDevice {
         left: &mut usize,
     ) -> (VfdevReply, Messages) {
         self.lent.serve(function, queue, out, left)
+    }
+
+    fn counts(&self, function: u8, counts: &mut VfdevCounts) -> VfdevReply {
+        self.lent.counts(function, counts)
+    }
+
+    fn unclaimed(&self) -> u32 {
+        self.lent.unclaimed()
     }
 }
 

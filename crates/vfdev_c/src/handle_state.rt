@@ -9,6 +9,7 @@ ghost use Rattle.history.specs.Entries.{events, given};
 ghost use Rattle.vfdev_c.specs.Handle.{Gives, Shows, frame_in, length_in, IsolatedStep};
 
 use crate::card_held::CardHeld;
+use crate::counts::{VfdevCounts, count};
 use crate::device_kind::DeviceKind;
 use crate::guest_device::GuestDevice;
 use crate::lending::LentBlocks;
@@ -21,6 +22,7 @@ use guest_memory::FlatMem;
 use history::History;
 use irq_causes::Messages;
 use live_memory::Dma;
+use local_switch::Source;
 use std::marker::Model;
 use wire_frame::{Fault, FrameBuf, FrameLimit};
 
@@ -144,6 +146,14 @@ impl DeviceKind for Running {
         let taken = self.device.serve(function, queue, &mut self.frame);
         *left = put_frame(taken.left, out);
         (VfdevReply::of(taken.outcome), taken.messages)
+    }
+
+    fn counts(&self, function: u8, counts: &mut VfdevCounts) -> VfdevReply {
+        count(&self.device, function, counts)
+    }
+
+    fn unclaimed(&self) -> u32 {
+        self.device.unclaimed(Source::Wire)
     }
 }
 

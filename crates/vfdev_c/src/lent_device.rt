@@ -8,6 +8,7 @@ ghost use Rattle.live_run.specs.Frames.{has_room};
 ghost use Rattle.vfdev_c.specs.Handle.{Gives, is_mem_read};
 ghost use Rattle.vfdev_c.specs.LentWorld.{untouched};
 
+use crate::counts::{VfdevCounts, count};
 use crate::device_kind::DeviceKind;
 use crate::handle_state::{
     HandleState, done_or_refused, isolates, issued, lay, put_frame, value_or_refused,
@@ -18,6 +19,7 @@ use device::{Device, MemSlice, Queue, Request};
 use irq_causes::Messages;
 use live_memory::Shared;
 use live_run::{Burst, Frames, WireBurst, serve_burst, wire_burst};
+use local_switch::Source;
 use mapped_memory::LiveMem;
 use std::alloc::Global;
 use std::marker::Model;
@@ -151,6 +153,14 @@ impl DeviceKind for LentDevice {
         let taken = device.serve_live(function, queue, frame);
         *left = put_frame(taken.left, out);
         (VfdevReply::of(taken.outcome), taken.messages)
+    }
+
+    fn counts(&self, function: u8, counts: &mut VfdevCounts) -> VfdevReply {
+        count(&self.device, function, counts)
+    }
+
+    fn unclaimed(&self) -> u32 {
+        self.device.unclaimed(Source::Wire)
     }
 }
 

@@ -22,6 +22,7 @@ pub mod card_making;
 pub mod card_messages;
 pub mod card_policies;
 pub mod card_step;
+pub mod counts;
 mod device_kind;
 pub mod events;
 pub mod guest_bursts;

@@ -5,6 +5,7 @@ ghost use Rattle.history.specs.Entries.{events, given, is_cap};
 ghost use Rattle.history.specs.Recording.{made_like};
 ghost use Rattle.vfdev_c.specs.Recorded.{is_full, recorded};
 
+use crate::counts::{VfdevCounts, count};
 use crate::device_kind::DeviceKind;
 use crate::handle_state::{HandleState, Running, isolates, issued, lay, put_frame};
 use crate::reply::VfdevReply;
@@ -12,6 +13,7 @@ use device::{Device, Queue, Request};
 use guest_memory::FlatMem;
 use history::{Caller, History, Recording};
 use irq_causes::Messages;
+use local_switch::Source;
 use std::alloc::Global;
 use std::marker::Model;
 use wire_frame::{Fault, FrameBuf};
@@ -138,6 +140,14 @@ impl DeviceKind for Recorder {
         let taken = self.recording.record(CALLER, request, &mut self.frame);
         *left = put_frame(taken.left, out);
         (VfdevReply::of(taken.outcome), taken.messages)
+    }
+
+    fn counts(&self, function: u8, counts: &mut VfdevCounts) -> VfdevReply {
+        count(self.recording.device(), function, counts)
+    }
+
+    fn unclaimed(&self) -> u32 {
+        self.recording.device().unclaimed(Source::Wire)
     }
 }
 

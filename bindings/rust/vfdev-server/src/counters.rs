@@ -1,6 +1,7 @@
 //! What is counted, and its text for Prometheus. The text is bounded: a card has 64 functions at most, and a name 64 bytes.
 
 use std::fmt::{self, Write};
+use vfdev::{Counts, Queue, QueueFault};
 
 /// What is counted of one function.
 #[derive(Clone, Debug, Default)]
@@ -42,6 +43,8 @@ pub struct Totals {
     pub received_frames: u64,
     /// Those of them that the card refused, as too long or as no frame.
     pub refused_frames: u64,
+    /// Those of them that no function accepted.
+    pub unclaimed_frames: u32,
     /// How often the program woke.
     pub turns: u64,
 }
@@ -57,8 +60,8 @@ pub struct Shown<'a> {
     pub is_attached: bool,
     /// How many bytes of its guest's memory are mapped, and in how many regions.
     pub mapped: (u64, usize),
-    /// What its driver left to the card and could not be done, since its guest came or it was reset.
-    pub shortfalls: u32,
+    /// What the card counts of it.
+    pub counts: Counts,
     /// What was counted.
     pub counters: &'a Counters,
 }
@@ -67,7 +70,7 @@ pub struct Shown<'a> {
 type Number = fn(&Shown<'_>) -> u64;
 
 // The name, the kind and the meaning of each number.
-const NUMBERS: [(&str, &str, &str, Number); 12] = [
+const NUMBERS: [(&str, &str, &str, Number); 16] = [
     ("attached", "gauge", "Whether a client is attached.", |f| {
         f.is_attached.into()
     }),
@@ -114,7 +117,31 @@ const NUMBERS: [(&str, &str, &str, Number); 12] = [
         "shortfalls_total",
         "counter",
         "Sums and segments of frames that could not be made, since the guest came or was reset.",
-        |f| f.shortfalls.into(),
+        |f| f.counts.shortfalls.into(),
+    ),
+    (
+        "dropped_no_room_total",
+        "counter",
+        "Frames for the guest that found no room, since it came or was reset.",
+        |f| f.counts.no_room.into(),
+    ),
+    (
+        "refused_total",
+        "counter",
+        "Frames of the guest that the check of senders refused, since it came or was reset.",
+        |f| f.counts.refused.into(),
+    ),
+    (
+        "unclaimed_total",
+        "counter",
+        "Frames of the function that nobody got.",
+        |f| f.counts.unclaimed.into(),
+    ),
+    (
+        "queue_faults_total",
+        "counter",
+        "Faults that stopped a queue, since the guest came or was reset.",
+        |f| f.counts.faults.into(),
     ),
     (
         "wire_sent_frames_total",
@@ -173,7 +200,45 @@ fn write_functions(out: &mut String, functions: &[Shown<'_>]) -> fmt::Result {
             )?;
         }
     }
+    write_last_faults(out, functions)
+}
+
+fn write_last_faults(out: &mut String, functions: &[Shown<'_>]) -> fmt::Result {
+    head(
+        out,
+        "last_queue_fault",
+        "gauge",
+        "1 for the last fault that stopped a queue, since the guest came or was reset.",
+    )?;
+    for f in functions {
+        let Some(fault) = f.counts.last_fault else {
+            continue;
+        };
+        let (place, called) = (f.number, &f.name);
+        let (queue, reason) = (queue_word(fault), reason_word(fault));
+        writeln!(
+            out,
+            "vfdev_last_queue_fault{{function=\"{place}\",name=\"{called}\",queue=\"{queue}\",reason=\"{reason}\"}} 1"
+        )?;
+    }
     Ok(())
+}
+
+fn queue_word(fault: QueueFault) -> &'static str {
+    match fault.queue() {
+        None => "receive",
+        Some(Queue::Q0) => "transmit 0",
+        Some(Queue::Q1) => "transmit 1",
+    }
+}
+
+fn reason_word(fault: QueueFault) -> &'static str {
+    match fault {
+        QueueFault::ReceiveBuffer | QueueFault::PastMemory(_) => "buffer",
+        QueueFault::UnknownType(_) => "type",
+        QueueFault::NotOffered(_) => "not offered",
+        _ => "other",
+    }
 }
 
 fn write_totals(out: &mut String, totals: &Totals) -> fmt::Result {
@@ -187,6 +252,11 @@ fn write_totals(out: &mut String, totals: &Totals) -> fmt::Result {
             "wire_refused_frames_total",
             "Frames from the wire that the card refused.",
             totals.refused_frames,
+        ),
+        (
+            "wire_unclaimed_frames_total",
+            "Frames from the wire that no function accepted.",
+            totals.unclaimed_frames.into(),
         ),
         ("turns_total", "Turns of the program's loop.", totals.turns),
     ] {
@@ -218,16 +288,33 @@ mod tests {
             name: "web".to_owned(),
             is_attached: true,
             mapped: (4096, 1),
-            shortfalls: 5,
+            counts: Counts {
+                no_room: 6,
+                faults: 2,
+                last_fault: Some(QueueFault::NotOffered(Queue::Q1)),
+                shortfalls: 5,
+                ..Counts::default()
+            },
             counters: &counters,
         };
-        let text = text(&[shown], &Totals::default());
+        let totals = Totals {
+            unclaimed_frames: 9,
+            ..Totals::default()
+        };
+        let text = text(&[shown], &totals);
         for line in [
             "# TYPE vfdev_attached gauge",
             "vfdev_attached{function=\"3\",name=\"web\"} 1",
             "vfdev_mapped_bytes{function=\"3\",name=\"web\"} 4096",
             "vfdev_messages_total{function=\"3\",name=\"web\"} 7",
             "vfdev_shortfalls_total{function=\"3\",name=\"web\"} 5",
+            "vfdev_dropped_no_room_total{function=\"3\",name=\"web\"} 6",
+            "vfdev_refused_total{function=\"3\",name=\"web\"} 0",
+            "vfdev_unclaimed_total{function=\"3\",name=\"web\"} 0",
+            "vfdev_queue_faults_total{function=\"3\",name=\"web\"} 2",
+            "vfdev_last_queue_fault{function=\"3\",name=\"web\",queue=\"transmit 1\",reason=\"not offered\"} 1",
+            "vfdev_wire_unclaimed_frames_total 9",
+            "vfdev_wire_lost_frames_total{function=\"3\",name=\"web\"} 0",
             "vfdev_ended_total{function=\"3\",name=\"web\",reason=\"closed\"} 2",
             "vfdev_turns_total 0",
         ] {
@@ -238,24 +325,41 @@ mod tests {
         }
     }
 
-    // What a socket takes at once: its buffer has 212,992 bytes where nobody changed that.
+    // What a socket takes at once: its buffer has 212,992 bytes where nobody changed that. A million of something each second are fewer than
+    // 10^15 in 30 years.
     #[test]
     fn the_text_is_bounded() {
+        const MOST: u64 = 999_999_999_999_999;
         let counters = Counters {
-            ended: vec![("protocol", u64::MAX); 9],
-            ..Counters::default()
+            attached: MOST,
+            ended: vec![("protocol", MOST); 8],
+            messages: MOST,
+            looks: MOST,
+            services: MOST,
+            interrupts: MOST,
+            sent_frames: MOST,
+            sent_bytes: MOST,
+            lost_frames: MOST,
         };
         let name = "n".repeat(64);
         let shown = |number| Shown {
             number,
             name: name.clone(),
             is_attached: true,
-            mapped: (u64::MAX, 64),
-            shortfalls: u32::MAX,
+            mapped: (1 << 46, 64),
+            counts: Counts {
+                no_room: u32::MAX,
+                refused: u32::MAX,
+                unclaimed: u32::MAX,
+                faults: u32::MAX,
+                last_fault: Some(QueueFault::NotOffered(Queue::Q0)),
+                shortfalls: u32::MAX,
+                ..Counts::default()
+            },
             counters: &counters,
         };
         let functions: Vec<_> = (0..64).map(shown).collect();
         let length = text(&functions, &Totals::default()).len();
-        assert!(length < 180_000, "{length}");
+        assert!(length < 210_000, "{length}");
     }
 }

@@ -27,7 +27,7 @@ use std::time::{Duration, Instant};
 use tracing::{debug, error, info, warn};
 use vfdev::card::{CardFault, NotAdmitted, Order, Step, ROOM, VECTORS};
 use vfdev::page::Touched;
-use vfdev::MOST_FRAME;
+use vfdev::{Counts, MOST_FRAME};
 
 /// How many messages of one client are handled in a turn at most.
 pub const MOST_MESSAGES: usize = 32;
@@ -324,6 +324,14 @@ impl Server {
             true => warn!(function, %name, reason = %ended, "the connection is ended"),
             false => info!(function, %name, reason = %ended, "detached"),
         }
+        if let Ok(Counts {
+            faults,
+            last_fault: Some(fault),
+            ..
+        }) = self.card.counts(function)
+        {
+            info!(function, %name, faults, last = %fault, "faults had stopped its queues");
+        }
         self.functions[place].counters.count_end(ended.word());
         if let Err(fault) = self.card.detach(function) {
             error!(function, %fault, "the card can't let the guest go");
@@ -588,7 +596,10 @@ impl Server {
                 return self.poller.forget(&self.metrics);
             }
         };
-        let totals = self.totals.clone();
+        let totals = Totals {
+            unclaimed_frames: self.card.unclaimed(),
+            ..self.totals.clone()
+        };
         let text = counters::text(&self.shown(), &totals);
         let told = client.set_nonblocking(true);
         if let Err(error) = told.and_then(|()| client.write_all(text.as_bytes())) {
@@ -599,15 +610,18 @@ impl Server {
 
     fn shown(&mut self) -> Vec<Shown<'_>> {
         let count = 0..self.count();
-        let shortfalls: Vec<u32> = count.map(|number| self.card.shortfalls(number)).collect();
+        // (each function is one of the card's)
+        let counts: Vec<Counts> = count
+            .map(|number| self.card.counts(number).unwrap_or_default())
+            .collect();
         (0u8..)
-            .zip(self.functions.iter().zip(shortfalls))
-            .map(|(number, (function, shortfalls))| Shown {
+            .zip(self.functions.iter().zip(counts))
+            .map(|(number, (function, counts))| Shown {
                 number,
                 name: self.name(number),
                 is_attached: function.client.is_some(),
                 mapped: self.card.mapped(number),
-                shortfalls,
+                counts,
                 counters: &function.counters,
             })
             .collect()

@@ -26,6 +26,7 @@
 //! # Ok::<(), Box<dyn std::error::Error>>(())
 //! ```
 
+use crate::counts::Counts;
 pub use crate::guests::WireCount;
 use crate::kinds::Fault;
 use crate::raw;
@@ -606,6 +607,28 @@ impl Card {
     pub fn shortfalls(&mut self, function: u8) -> u32 {
         // SAFETY: the reference leads to one live value, which only this card holds.
         unsafe { raw::vfdev_card_shortfalls(&mut self.handle, function) }
+    }
+
+    /// What a function has counted, since its guest came or it was reset, but for [`unclaimed`](Counts::unclaimed), which goes on.
+    ///
+    /// # Errors
+    /// [`Fault::NoSuchVf`].
+    pub fn counts(&mut self, function: u8) -> Result<Counts, CardFault> {
+        let mut counts = raw::FunctionCounts::default();
+        // SAFETY: the references lead to two live values, the one of which only this card holds.
+        let reply = unsafe { raw::vfdev_card_counts(&mut self.handle, function, &mut counts) };
+        match reply.kind {
+            0 => Ok(counts.into()),
+            _ => Err(CardFault::of(reply.value)),
+        }
+    }
+
+    /// How many frames from the wire nobody got, modulo 2^32, since the card was made: no function that may receive accepted them. Frames that
+    /// [`Card::wire`] refuses are not among them.
+    #[must_use]
+    pub fn unclaimed(&mut self) -> u32 {
+        // SAFETY: the reference leads to one live value, which only this card holds.
+        unsafe { raw::vfdev_card_unclaimed(&mut self.handle) }
     }
 
     /// A frame comes from the wire: 14 to 9018 bytes without FCS, at least 18 where it has a VLAN tag.

@@ -1,5 +1,6 @@
 //! A device over the archive.
 
+use crate::counts::Counts;
 use crate::kinds::{Fault, Messages, Queue, Replayed, Served, MOST_FRAME};
 use crate::raw;
 use std::ptr::NonNull;
@@ -329,6 +330,25 @@ impl<'m> Device<'m> {
         // SAFETY: each pointer and length are those of one live slice, and the handle is this device's alone.
         done(unsafe { raw::vfdev_wire(&mut self.handle, start, count, at, len) })?;
         Ok(messages)
+    }
+
+    /// What a function has counted. Of a closed function all is 0 but [`unclaimed`](Counts::unclaimed). A recording has none of these calls.
+    ///
+    /// # Errors
+    /// [`Fault::NoSuchVf`].
+    pub fn counts(&mut self, function: u8) -> Result<Counts, Fault> {
+        let mut counts = raw::FunctionCounts::default();
+        // SAFETY: the references lead to two live values, the one of which only this device holds.
+        done(unsafe { raw::vfdev_counts(&mut self.handle, function, &mut counts) })?;
+        Ok(counts.into())
+    }
+
+    /// How many frames from the wire nobody got, modulo 2^32, since the device was made: no pool that may receive accepted them. Frames that
+    /// [`wire`](Device::wire) refuses are not among them.
+    #[must_use]
+    pub fn unclaimed(&mut self) -> u32 {
+        // SAFETY: the reference leads to one live value, which only this device holds.
+        unsafe { raw::vfdev_unclaimed(&mut self.handle) }
     }
 
     /// How many calls are recorded; 0 of a device that records none.

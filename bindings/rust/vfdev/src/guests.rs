@@ -1,6 +1,7 @@
 //! A device to which guests come, and from which they go.
 
 use crate::card::Offloads;
+use crate::counts::Counts;
 use crate::device::{made, Device};
 use crate::kinds::{Fault, Messages, Queue, Served, MOST_FRAME};
 use crate::memory::{FileRange, MappedMemory, NotPlugged};
@@ -412,6 +413,21 @@ impl Guests {
     /// None.
     pub fn pf_reset(&mut self) -> Result<(), Fault> {
         self.device.pf_reset()
+    }
+
+    /// What a function has counted, as [`Device::counts`] tells it. With the next guest it begins anew, but for
+    /// [`unclaimed`](Counts::unclaimed).
+    ///
+    /// # Errors
+    /// As [`Device::counts`].
+    pub fn counts(&mut self, function: u8) -> Result<Counts, Fault> {
+        self.device.counts(function)
+    }
+
+    /// How many frames from the wire nobody got, as [`Device::unclaimed`] tells it.
+    #[must_use]
+    pub fn unclaimed(&mut self) -> u32 {
+        self.device.unclaimed()
     }
 
     /// A frame comes from the wire. Answers the messages that this issues.

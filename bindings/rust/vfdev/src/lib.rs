@@ -42,6 +42,7 @@
 )]
 
 pub mod card;
+mod counts;
 mod device;
 mod guests;
 mod kinds;
@@ -52,6 +53,7 @@ mod raw;
 pub mod regs;
 mod shared;
 
+pub use counts::{Counts, QueueFault};
 pub use device::Device;
 pub use guests::{Burst, Guests, WireCount};
 pub use kinds::{Fault, Messages, Pool, Queue, Replayed, Served, MOST_BYTES, MOST_FRAME, POOLS};

@@ -1,5 +1,6 @@
 //! The calls of a device that issue no messages.
 
+use crate::counts::Counts;
 use crate::device::Device;
 use crate::kinds::{Fault, Replayed};
 use crate::regs;
@@ -96,6 +97,20 @@ impl<'a, 'm> Quiet<'a, 'm> {
     /// As [`Device::pf_reset`].
     pub fn pf_reset(&mut self) -> Result<(), Fault> {
         self.device.pf_reset()
+    }
+
+    /// What a function has counted: [`Device::counts`].
+    ///
+    /// # Errors
+    /// As [`Device::counts`].
+    pub fn counts(&mut self, function: u8) -> Result<Counts, Fault> {
+        self.device.counts(function)
+    }
+
+    /// How many frames from the wire nobody got: [`Device::unclaimed`].
+    #[must_use]
+    pub fn unclaimed(&mut self) -> u32 {
+        self.device.unclaimed()
     }
 
     /// How many calls are recorded; 0 of a device that records none.

@@ -124,6 +124,21 @@ pub struct Burst {
     pub goes_on: u32,
 }
 
+/// What a function has counted.
+#[repr(C)]
+#[derive(Clone, Copy, Default)]
+pub struct FunctionCounts {
+    pub received: u32,
+    pub sent: u32,
+    pub no_room: u32,
+    pub refused: u32,
+    pub unclaimed: u32,
+    pub faults: u32,
+    pub shortfalls: u32,
+    pub last_fault: u32,
+    pub last_queue: u32,
+}
+
 /// The version of the interface that is declared here.
 pub const VERSION: u32 = 2;
 
@@ -217,6 +232,8 @@ extern "C" {
         count: usize,
         messages: &mut [u8; 64],
     ) -> Wired;
+    pub fn vfdev_counts(d: &mut Vfdev, function: u8, counts: &mut FunctionCounts) -> Reply;
+    pub fn vfdev_unclaimed(d: &mut Vfdev) -> u32;
     pub fn vfdev_kept(d: &mut Vfdev) -> usize;
     pub fn vfdev_replay(d: &mut Vfdev, other: &mut Vfdev) -> u32;
 
@@ -255,6 +272,9 @@ extern "C" {
     pub fn vfdev_card_frame(c: &mut VfdevCard, number: u32, out: *mut u8, out_len: usize) -> usize;
     pub fn vfdev_card_is_busy(c: &mut VfdevCard, function: u8) -> bool;
     pub fn vfdev_card_shortfalls(c: &mut VfdevCard, function: u8) -> u32;
+    pub fn vfdev_card_counts(c: &mut VfdevCard, function: u8, counts: &mut FunctionCounts)
+        -> Reply;
+    pub fn vfdev_card_unclaimed(c: &mut VfdevCard) -> u32;
     pub fn vfdev_card_wire(c: &mut VfdevCard, frame: *const u8, len: usize) -> Reply;
     pub fn vfdev_card_wire_burst(
         c: &mut VfdevCard,

@@ -12,7 +12,7 @@ use std::time::Duration;
 use vfdev::card::{
     Access, Card, CardFault, More, NotAdmitted, Offloads, Policy, Step, WireCount, ROOM,
 };
-use vfdev::FileRange;
+use vfdev::{Counts, FileRange};
 
 /// A card, and for each of its functions the files that are mapped as memory of its guest. The two stand together, so that no range of a file
 /// is unmapped that the card may still reach.
@@ -302,9 +302,17 @@ impl MappedCard {
         self.card.is_busy(function)
     }
 
-    /// As [`Card::shortfalls`].
-    pub fn shortfalls(&mut self, function: u8) -> u32 {
-        self.card.shortfalls(function)
+    /// As [`Card::counts`].
+    ///
+    /// # Errors
+    /// As [`Card::counts`].
+    pub fn counts(&mut self, function: u8) -> Result<Counts, CardFault> {
+        self.card.counts(function)
+    }
+
+    /// As [`Card::unclaimed`].
+    pub fn unclaimed(&mut self) -> u32 {
+        self.card.unclaimed()
     }
 
     /// As [`Card::wire_burst`].

@@ -1,6 +1,6 @@
 //! What the card does for its guests' drivers, and what becomes of it where it doesn't.
 
-use crate::driver::Guest;
+use crate::driver::{Guest, COUNT};
 use crate::program::{Folder, Server, PATIENCE};
 use std::os::unix::net::UnixDatagram;
 use std::time::{Duration, Instant};
@@ -135,12 +135,52 @@ fn sums_are_put_in() {
 // A card that cuts nothing can't use such a descriptor: the queue goes off.
 #[test]
 fn segments_that_nobody_makes_stop_the_queue() {
-    let (_server, _cable, mut guest) = guest_at_wire("vlan,checksum");
+    let (server, _cable, mut guest) = guest_at_wire("vlan,checksum");
     let frame = tcp_frame(&guest, 1201);
     guest.send_by(tcp_context(), regs::TXD_TSE, &frame);
     guest.settle();
     assert_eq!(guest.client.read(regs::txdctl(0)) & regs::TXDCTL_ENABLE, 0);
     assert_eq!(guest.client.read(regs::VFGPTC), 0);
+    server.wait_for_counter("queue_faults_total", 0, 1);
+    assert_eq!(server.counter(&last_fault("not offered")), 1);
+}
+
+// What the last fault of function 0's first transmit queue is called.
+fn last_fault(reason: &str) -> String {
+    const FAULT: &str = "vfdev_last_queue_fault{function=\"0\",name=\"vf0\"";
+    format!("{FAULT},queue=\"transmit 0\",reason=\"{reason}\"}}")
+}
+
+// A frame for nobody, five more than the guest has descriptors for, one whose source isn't the guest's, and a buffer past its addresses.
+#[test]
+fn what_is_lost_is_counted_by_its_reason() {
+    let (server, cable, mut guest) = guest_at_wire("all");
+    let wire = server.folder.at("wire");
+    let come = |to: [u8; 6]| {
+        let mut frame = [&to[..], &[2, 0, 0, 0, 0, 0x99, 0x88, 0xB5]].concat();
+        frame.resize(60, 0);
+        cable.send_to(&frame, &wire).expect("a datagram");
+    };
+    come([2, 0, 0, 0, 0, 0x55]);
+    for _ in 0..COUNT - 1 + 5 {
+        come(guest.mac);
+    }
+    server.wait_for_counter("dropped_no_room_total", 0, 5);
+    assert_eq!(server.counter("vfdev_wire_unclaimed_frames_total"), 1);
+    let mut frame = guest.frame([2, 0, 0, 0, 0, 0x99], b"anothers");
+    frame[11] ^= 1;
+    guest.send(&frame);
+    server.wait_for_counter("refused_total", 0, 1);
+    guest.send_from(1 << 46, 60);
+    server.wait_for_counter("queue_faults_total", 0, 1);
+    assert_eq!(server.counter(&last_fault("buffer")), 1);
+    assert_eq!(
+        server.counter("vfdev_unclaimed_total{function=\"0\",name=\"vf0\"}"),
+        0
+    );
+    drop(guest);
+    let last = "a transmit buffer past the memory";
+    server.wait_for_line(&["faults had stopped its queues", "function=0", last]);
 }
 
 // A frame that can't be cut is dropped, and one whose sum can't be made leaves as it is. Both are counted, and the queue goes on.

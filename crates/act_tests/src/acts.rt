@@ -5,7 +5,7 @@ use device::{Answer, Device, Event, MemBytes, Request};
 use device_lock::{LockedDevice, Share, Shares};
 use guest_memory::FlatMem;
 use lock_support::{answer, line_of, locked};
-use script::{Room, Script};
+use script::{Scratch, Script};
 use script_support::seeded;
 use std::alloc::Global;
 use std::marker::Brand;
@@ -47,10 +47,10 @@ fn event_of(request: Request<'_>) -> Result<Event, Fault> {
 
 // The events of a script.
 fn events_of(alloc: Global, script: &Script) -> Result<Vec<Event>, Fail> {
-    let mut room = Room::new();
+    let mut scratch = Scratch::new();
     let mut events = Vec::with_capacity(alloc, script.len())?;
     for index in 0..script.len() {
-        events.push(event_of(script.request(index, &mut room))?)?;
+        events.push(event_of(script.request(index, &mut scratch))?)?;
     }
     Ok(events)
 }
@@ -160,10 +160,10 @@ fn kind_of(request: Request<'_>, pool: u8) -> Option<usize> {
 
 // The events of a script that a guest makes.
 fn own_events(alloc: Global, script: &Script, pool: u8) -> Result<Vec<Event>, Fail> {
-    let mut room = Room::new();
+    let mut scratch = Scratch::new();
     let mut own = Vec::new(alloc);
     for index in 0..script.len() {
-        let request = script.request(index, &mut room);
+        let request = script.request(index, &mut scratch);
         if kind_of(request, pool).is_some() {
             own.push(event_of(request)?)?;
         }

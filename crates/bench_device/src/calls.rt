@@ -1,21 +1,21 @@
 //! The two ways of an event: [`Device::take`], and the call by its name.
-use device::{Device, MemSlice, Outcome, Queue, Request};
+use device::{Device, MemSlice, Outcome, Queue, Request, Room};
 use guest_memory::GuestMem;
 use wire_frame::{FrameBuf, PoolSet};
 
-/// Room for what an event gives out.
+/// What an event gives out.
 #[derive(Drop)]
-pub struct Room {
-    /// For a frame that is sent.
-    pub frame: FrameBuf,
-    /// For bytes that are read.
+pub struct Out {
+    /// What is lent to each event.
+    pub room: Room,
+    /// Bytes that the call by name reads.
     pub bytes: [u8; 2048],
 }
 
 /// An event, and what is to come of it.
 pub trait Call<M: GuestMem> {
     /// Takes the event; whether that came of it.
-    fn call(&self, device: &mut Device<M>, room: &mut Room) -> bool;
+    fn call(&self, device: &mut Device<M>, out: &mut Out) -> bool;
 }
 
 /// Any event, by [`Device::take`].
@@ -31,19 +31,15 @@ pub struct Take<'a> {
 
 impl<'a, M: GuestMem> Call<M> for Take<'a> {
     #[inline]
-    fn call(&self, device: &mut Device<M>, room: &mut Room) -> bool {
-        let taken = device.take(self.request, &mut room.frame);
-        let is_right = match taken.outcome {
+    fn call(&self, device: &mut Device<M>, out: &mut Out) -> bool {
+        let response = device.take(self.request, &mut out.room);
+        let is_right = match response.outcome {
             Outcome::Done | Outcome::Sent => true,
             Outcome::Value(value) => value == self.value,
-            Outcome::Bytes(span) => {
-                let bytes = &mut room.bytes[..];
-                device.read_span(span, &mut bytes[..span.count()]);
-                true
-            }
+            Outcome::Bytes(read) => read.count() == out.bytes.len(),
             _ => false,
         };
-        is_right && taken.messages.pools() == self.pools
+        is_right && response.messages.pools() == self.pools
     }
 }
 
@@ -60,7 +56,7 @@ pub struct VfRead {
 
 impl<M: GuestMem> Call<M> for VfRead {
     #[inline]
-    fn call(&self, device: &mut Device<M>, _room: &mut Room) -> bool {
+    fn call(&self, device: &mut Device<M>, _out: &mut Out) -> bool {
         match device.vf_read(self.pool, self.offset) {
             Ok(value) => value == self.value,
             Err(_) => false,
@@ -81,7 +77,7 @@ pub struct VfWrite {
 
 impl<M: GuestMem> Call<M> for VfWrite {
     #[inline]
-    fn call(&self, device: &mut Device<M>, _room: &mut Room) -> bool {
+    fn call(&self, device: &mut Device<M>, _out: &mut Out) -> bool {
         match device.vf_write(self.pool, self.offset, self.value) {
             Ok(messages) => messages.pools().is_empty(),
             Err(_) => false,
@@ -100,7 +96,7 @@ pub struct PfRead {
 
 impl<M: GuestMem> Call<M> for PfRead {
     #[inline]
-    fn call(&self, device: &mut Device<M>, _room: &mut Room) -> bool {
+    fn call(&self, device: &mut Device<M>, _out: &mut Out) -> bool {
         match device.pf_read(self.offset) {
             Ok(value) => value == self.value,
             Err(_) => false,
@@ -119,7 +115,7 @@ pub struct PfWrite {
 
 impl<M: GuestMem> Call<M> for PfWrite {
     #[inline]
-    fn call(&self, device: &mut Device<M>, _room: &mut Room) -> bool {
+    fn call(&self, device: &mut Device<M>, _out: &mut Out) -> bool {
         device.pf_write(self.offset, self.value).is_ok()
     }
 }
@@ -135,8 +131,8 @@ pub struct MemRead {
 
 impl<M: GuestMem> Call<M> for MemRead {
     #[inline]
-    fn call(&self, device: &mut Device<M>, room: &mut Room) -> bool {
-        device.mem_read(self.pool, self.at, &mut room.bytes).is_ok()
+    fn call(&self, device: &mut Device<M>, out: &mut Out) -> bool {
+        device.mem_read(self.pool, self.at, &mut out.bytes).is_ok()
     }
 }
 
@@ -153,7 +149,7 @@ pub struct MemWrite<'a> {
 
 impl<'a, M: GuestMem> Call<M> for MemWrite<'a> {
     #[inline]
-    fn call(&self, device: &mut Device<M>, _room: &mut Room) -> bool {
+    fn call(&self, device: &mut Device<M>, _out: &mut Out) -> bool {
         device.mem_write(self.pool, self.at, self.written).is_ok()
     }
 }
@@ -169,7 +165,7 @@ pub struct Wire<'a> {
 
 impl<'a, M: GuestMem> Call<M> for Wire<'a> {
     #[inline]
-    fn call(&self, device: &mut Device<M>, _room: &mut Room) -> bool {
+    fn call(&self, device: &mut Device<M>, _out: &mut Out) -> bool {
         match device.wire(self.frame) {
             Ok(messages) => messages.pools() == self.pools,
             Err(_) => false,
@@ -190,8 +186,8 @@ pub struct Serve {
 
 impl<M: GuestMem> Call<M> for Serve {
     #[inline]
-    fn call(&self, device: &mut Device<M>, room: &mut Room) -> bool {
-        let taken = device.serve(self.pool, self.queue, &mut room.frame);
-        taken.outcome.is_sent() && taken.messages.pools() == self.pools
+    fn call(&self, device: &mut Device<M>, out: &mut Out) -> bool {
+        let response = device.serve(self.pool, self.queue, &mut out.room);
+        response.outcome.is_sent() && response.messages.pools() == self.pools
     }
 }

@@ -1,11 +1,11 @@
 //! A workload done, and timed.
 use crate::calls::{
-    Call, MemRead, MemWrite, PfRead, PfWrite, Room, Serve, Take, VfRead, VfWrite, Wire,
+    Call, MemRead, MemWrite, Out, PfRead, PfWrite, Serve, Take, VfRead, VfWrite, Wire,
 };
 use crate::setup::{GIVEN, frame_of, give, set_up};
 use crate::workload::{SENDER, Workload};
 use anyhow::{Result, anyhow};
-use device::{Device, MemSlice, Queue, Request};
+use device::{Device, MemSlice, Queue, Request, Room};
 use guest_memory::GuestMem;
 use pool_filter::registers::{BAM, PF_VT_CTL, VMOLR};
 use std::time::Instant;
@@ -43,8 +43,8 @@ pub struct Measured {
 
 // Does one turn. It is a call of its own, so that the compiler knows no event beforehand.
 #[inline(never)]
-fn turn<M: GuestMem, C: Call<M>>(device: &mut Device<M>, call: &C, room: &mut Room) -> bool {
-    call.call(device, room)
+fn turn<M: GuestMem, C: Call<M>>(device: &mut Device<M>, call: &C, out: &mut Out) -> bool {
+    call.call(device, out)
 }
 
 // Does a round; how many turns did what they should.
@@ -53,14 +53,14 @@ fn round<M: GuestMem, C: Call<M>>(
     device: &mut Device<M>,
     call: &C,
     plan: Plan,
-    room: &mut Room,
+    out: &mut Out,
 ) -> u32 {
     let mut done = 0u32;
     for count in 0..plan.turns {
         if count % GIVEN == 0 {
             give(device, plan.workload, count);
         }
-        if turn(device, call, room) {
+        if turn(device, call, out) {
             done = done.wrapping_add(1);
         }
     }
@@ -74,8 +74,8 @@ fn rounds<M: GuestMem, C: Call<M>>(
     call: &C,
     plan: Plan,
 ) -> Result<Measured> {
-    let mut room = Room {
-        frame: FrameBuf::blank(),
+    let mut out = Out {
+        room: Room::new(),
         bytes: [0; 2048],
     };
     let mut best = Measured {
@@ -84,7 +84,7 @@ fn rounds<M: GuestMem, C: Call<M>>(
     };
     for _ in 0..plan.rounds {
         let start = Instant::now(rt)?;
-        let done = round(device, call, plan, &mut room);
+        let done = round(device, call, plan, &mut out);
         let nanos = start.elapsed(rt)?.as_nanos();
         best = Measured {
             done,

@@ -3,8 +3,8 @@ ghost use Rattle.std.specs.Prelude.{◌≡◌};
 
 use addr_tables::registers::{MPSAR, RAH, RAL};
 use anyhow::{Result, anyhow};
-use device::{Device, Request};
-use device_lock::{LockedDevice, Recorded, Share};
+use device::{Device, Request, Room};
+use device_lock::{LockedDevice, Recorded, Share, WhenFull};
 use guest_memory::GuestMem;
 use irq_line::make;
 use pool_filter::registers::PFVFRE;
@@ -81,15 +81,14 @@ fn ask<R: Wait, M: GuestMem, L: Ledger>(
     device: &LockedDevice<M, L>,
     share: &mut Share<L>,
     request: Request<'_>,
-    room: &mut FrameBuf,
+    room: &mut Room,
 ) -> bool {
-    match request {
-        Request::MemRead(_, _, _) => false,
-        _ if share.may(request) => device
-            .act_request(rt, share, request, room, &mut [])
-            .is_some(),
-        _ => false,
+    if !share.may(request) {
+        return false;
     }
+    device
+        .act_request(rt, share, request, room, WhenFull::Refuse)
+        .is_some()
 }
 
 // Makes the calls of a round; how many were kept.
@@ -101,7 +100,7 @@ fn round<R: Wait, M: GuestMem, L: Ledger>(
     request: Request<'_>,
     turns: u32,
 ) -> u32 {
-    let mut room = FrameBuf::blank();
+    let mut room = Room::new();
     let mut done = 0u32;
     for turn in 0..turns {
         if turn % GIVEN == 0 {
@@ -125,7 +124,7 @@ fn set_up<R: Wait, M: GuestMem, L: Ledger>(
     device: &LockedDevice<M, L>,
     share: &mut Share<L>,
 ) {
-    let mut room = FrameBuf::blank();
+    let mut room = Room::new();
     ask(rt, device, share, Request::Open(0), &mut room);
     for (offset, value) in RECEIVE {
         ask(

@@ -23,7 +23,7 @@ use Rattle.device.proofs.LiveLemmas.{length_told}
 use Rattle.device.proofs.LiveWrites.{written_by_each}
 use Rattle.device.proofs.Shape.{step_shape}
 use Rattle.live_run.specs.Bursts.{goes_on, may_have_more, services, united}
-use Rattle.live_run.specs.Frames.{Room}
+use Rattle.live_run.specs.Frames.{FramesState}
 use Rattle.live_run.specs.Live.{AllMet, Noted, last_of, live_after, live_answers, with_writes}
 use Rattle.mailbox_laws.specs.Turns.{sets_registers}
 use Rattle.hosted.specs.Hosted.{with_world}
@@ -215,7 +215,7 @@ ends_same c p q [] inside busy = ap (slice_set c.ends p) (still q busy) ∙ set-
     still Q1 is = λ i. record (end_at c p) { busy_1 = sym is i }
 ends_same c p q (a ∷ rest) inside busy = refl
 
-served_lives : (shared : Bool) (p : ℕ) (q : Queue) (old : CardState) (room : Room) (new : CardState) (filled : Room) → p < length old.ends → AreSets old.raised → busy_of (end_at old p) q ≡ true → IsServed shared p q old room new filled → HasServed shared p q old new
+served_lives : (shared : Bool) (p : ℕ) (q : Queue) (old : CardState) (room : FramesState) (new : CardState) (filled : FramesState) → p < length old.ends → AreSets old.raised → busy_of (end_at old p) q ≡ true → IsServed shared p q old room new filled → HasServed shared p q old new
 served_lives shared p q old room new filled inside sets busy is = record {
   count = is.done.taken;
   noted = is.burst.run.noted;
@@ -238,7 +238,7 @@ served_lives shared p q old room new filled inside sets busy is = record {
     many_services : (n : ℕ) → length (services n p q) ≡ n
     many_services n = length-replicate n (Serve p q)
 
-left_lives : (shared : Bool) (p : ℕ) (q : Queue) (old : CardState) (room : Room) (new : CardState) (filled : Room) → IsLeft old room new filled → HasServed shared p q old new
+left_lives : (shared : Bool) (p : ℕ) (q : Queue) (old : CardState) (room : FramesState) (new : CardState) (filled : FramesState) → IsLeft old room new filled → HasServed shared p q old new
 unfolding with_writes AllMet last_of
 left_lives shared p q old room new filled is = record { count = 0; noted = []; each = refl; met = tt; last = ap (λ (c : CardState). c.hosted.device.accesses) is.card; lived = ap (λ (c : CardState). with_notes c old.hosted.device.accesses) is.card }
 
@@ -248,7 +248,7 @@ record Serves (shared : Bool) (p : ℕ) (q : Queue) (old new : CardState) : Type
   pub ends : length new.ends ≡ length old.ends
   pub sets : AreSets new.raised
 
-serves : (b shared : Bool) (p : ℕ) (q : Queue) (old : CardState) (room : Room) (new : CardState) (filled : Room) → busy_of (end_at old p) q ≡ b → p < length old.ends → AreSets old.raised → IsServedIfBusy b shared p q old room new filled → Serves shared p q old new
+serves : (b shared : Bool) (p : ℕ) (q : Queue) (old : CardState) (room : FramesState) (new : CardState) (filled : FramesState) → busy_of (end_at old p) q ≡ b → p < length old.ends → AreSets old.raised → IsServedIfBusy b shared p q old room new filled → Serves shared p q old new
 serves true shared p q old room new filled busy inside sets is = record {
   served = served_lives shared p q old room new filled inside sets busy is;
   ends = ap length is.ends ∙ length-set old.ends p (with_busy (end_at old p) q is.done.goes_on);
@@ -260,7 +260,7 @@ serves false shared p q old room new filled idle inside sets is = record {
   sets = subst (λ (c : CardState). AreSets c.raised) (sym is.card) sets;
 }
 
-pub more_lives : (shared : Bool) (p : ℕ) (old : CardState) (room : Room) (new : CardState) (filled : Room) → AreServed shared p old room new filled → p < 64 → length old.ends ≡ 64 → length old.raised ≡ 64 → ((k : ℕ) → slice_index old.raised k < 8)
+pub more_lives : (shared : Bool) (p : ℕ) (old : CardState) (room : FramesState) (new : CardState) (filled : FramesState) → AreServed shared p old room new filled → p < 64 → length old.ends ≡ 64 → length old.raised ≡ 64 → ((k : ℕ) → slice_index old.raised k < 8)
     → HaveServed shared p old new
 more_lives shared p old room new filled is below many raised small = record { between = is.between; first = first.served; second = second.served }
   where

@@ -5,7 +5,7 @@ use Rattle.vf_unit.specs.declared.registers.Queue.{Queue}
 use Rattle.vf_unit.specs.declared.registers.Queue.TheVariants.{Q0, Q1}
 use Rattle.live_run.specs.Arrivals.{IsWireBurst}
 use Rattle.live_run.specs.Bursts.{IsBurst}
-use Rattle.live_run.specs.Frames.{Room, has_room}
+use Rattle.live_run.specs.Frames.{FramesState, has_room}
 use Rattle.live_run.specs.declared.bursts.Burst.{Burst}
 use Rattle.live_run.specs.declared.wire_bursts.WireBurst.{WireBurst}
 use Rattle.wire_frame.specs.declared.fault.Fault.{Fault}
@@ -30,7 +30,7 @@ with_busy e Q0 b = record e { busy_0 = b }
 with_busy e Q1 b = record e { busy_1 = b }
 
 -- a burst of the queue was done, and all of its messages are among those that wait
-pub record IsServed (shared : Bool) (p : ℕ) (q : Queue) (old : CardState) (room : Room) (new : CardState) (filled : Room) : Type 0 where
+pub record IsServed (shared : Bool) (p : ℕ) (q : Queue) (old : CardState) (room : FramesState) (new : CardState) (filled : FramesState) : Type 0 where
   pub done : Burst
   pub burst : IsBurst shared p q old.hosted.device room new.hosted.device filled done
   pub most : done.taken ≤ MOST_SERVICES
@@ -42,19 +42,19 @@ pub record IsServed (shared : Bool) (p : ℕ) (q : Queue) (old : CardState) (roo
   pub raised : new.raised ≡ both old.raised done.messages
 
 -- nothing was done
-pub record IsLeft (old : CardState) (room : Room) (new : CardState) (filled : Room) : Type 0 where
+pub record IsLeft (old : CardState) (room : FramesState) (new : CardState) (filled : FramesState) : Type 0 where
   pub card : new ≡ old
   pub frames : filled ≡ room
 
 -- the one where the queue is busy, the other where it isn't
-abbrev pub IsServedIfBusy : Bool → Bool → ℕ → Queue → CardState → Room → CardState → Room → Type 0
+abbrev pub IsServedIfBusy : Bool → Bool → ℕ → Queue → CardState → FramesState → CardState → FramesState → Type 0
 IsServedIfBusy true shared p q old room new filled = IsServed shared p q old room new filled
 IsServedIfBusy false shared p q old room new filled = IsLeft old room new filled
 
 -- first queue 0, then queue 1
-pub record AreServed (shared : Bool) (p : ℕ) (old : CardState) (room : Room) (new : CardState) (filled : Room) : Type 0 where
+pub record AreServed (shared : Bool) (p : ℕ) (old : CardState) (room : FramesState) (new : CardState) (filled : FramesState) : Type 0 where
   pub between : CardState
-  pub half : Room
+  pub half : FramesState
   pub first : IsServedIfBusy (end_at old p).busy_0 shared p Q0 old room between half
   pub second : IsServedIfBusy (end_at between p).busy_1 shared p Q1 between half new filled
 

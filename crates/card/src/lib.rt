@@ -49,8 +49,8 @@
 //! assert!(rt; count == Some(114));
 //! // descriptors, and the frames that leave for the wire
 //! let mut frames = Frames::new(alloc, 64, 65536)?;
-//! let mut frame = FrameBuf::blank();
-//! assert!(rt; !card.more(pool, &mut frames, &mut frame));
+//! let mut sending = Room::new();
+//! assert!(rt; !card.more(pool, &mut frames, &mut sending));
 //! // and the vectors whose files are to be written
 //! assert!(rt; card.signal(pool, Vectors::from_bits(7)).is_empty());
 //! ```
@@ -65,6 +65,6 @@ pub mod serving;
 pub mod step;
 
 pub use card::{Card, End};
-pub use device::Vector;
+pub use device::{Room, Vector};
 pub use serving::{MOST_SERVICES, WireCount};
 pub use step::{Order, Step};

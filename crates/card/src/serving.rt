@@ -13,7 +13,7 @@ ghost use Rattle.card.specs.Served.{ALL_VECTORS, AreServed, AreWired, IsServed, 
 ghost use Rattle.card.specs.Wired.{HasLivedThrough};
 
 use crate::card::{Card, End};
-use device::Queue;
+use device::{Queue, Room};
 use irq_causes::Vectors;
 use live_memory::Dma;
 use live_run::Frames;
@@ -35,28 +35,28 @@ pub struct WireCount {
 impl<D: Dma<K>, K> Card<D, K> {
     /// Takes descriptors of a function's busy transmit queues, [`MOST_SERVICES`] of each at most, first those of queue 0, and tells whether
     /// one may have more. A frame that leaves for the wire stands behind those that are in `frames`; where these have no room for one, no
-    /// descriptor is taken. Each frame is put together in `frame`.
-    pub fn more(&mut self, pool: PoolId, frames: &mut Frames, frame: &mut FrameBuf) -> bool
+    /// descriptor is taken. Each frame is put together in `room`.
+    pub fn more(&mut self, pool: PoolId, frames: &mut Frames, room: &mut Room) -> bool
         ensures served { AreServed D.shared pool self.old frames.old self.new frames.new }
         ensures lived { HaveServed D.shared pool self.old self.new }
         ensures busy { result ≡ is_busy (end_at self.new pool) }
     {
         self.raised.masks_are_small();
-        self.serve_busy(pool, frames, frame);
+        self.serve_busy(pool, frames, room);
         self.is_busy(pool)
     }
 
     // Takes descriptors of the busy queues.
-    fn serve_busy(&mut self, pool: PoolId, frames: &mut Frames, frame: &mut FrameBuf)
+    fn serve_busy(&mut self, pool: PoolId, frames: &mut Frames, room: &mut Room)
         ensures served { AreServed D.shared pool self.old frames.old self.new frames.new }
         ensures ends { length self.old.ends ≡ 64 }
         ensures below { pool < 64 }
     {
         if self.ends[usize::from(pool.get())].busy_0 {
-            self.serve(pool, Queue::Q0, frames, frame);
+            self.serve(pool, Queue::Q0, frames, room);
         }
         if self.ends[usize::from(pool.get())].busy_1 {
-            self.serve(pool, Queue::Q1, frames, frame);
+            self.serve(pool, Queue::Q1, frames, room);
         }
     }
 
@@ -69,12 +69,12 @@ impl<D: Dma<K>, K> Card<D, K> {
     }
 
     // Takes descriptors of one queue.
-    fn serve(&mut self, pool: PoolId, queue: Queue, frames: &mut Frames, frame: &mut FrameBuf)
+    fn serve(&mut self, pool: PoolId, queue: Queue, frames: &mut Frames, room: &mut Room)
         ensures { IsServed D.shared pool queue self.old frames.old self.new frames.new }
     {
         let done = self
             .hosted
-            .serve_burst(pool.get(), queue, MOST_SERVICES, frames, frame);
+            .serve_burst(pool.get(), queue, MOST_SERVICES, frames, room);
         self.raised.unite(&done.messages);
         set_busy(&mut self.ends[usize::from(pool.get())], queue, done.goes_on);
     }

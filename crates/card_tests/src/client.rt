@@ -1,6 +1,6 @@
 //! The clients of a card, and the drivers behind them. Nothing here has a contract: a test's next lines are checked without what the card
 //! promises of each call.
-use card::{Card, Order, Step, Vector};
+use card::{Card, Order, Room, Step, Vector};
 use irq_causes::Vectors;
 use live_memory::Shared;
 use live_run::Frames;
@@ -142,8 +142,8 @@ impl<'a> Clients<'a> {
         self.card.flr(pool);
     }
 
-    pub fn more(&mut self, pool: PoolId, frames: &mut Frames, frame: &mut FrameBuf) -> bool {
-        self.card.more(pool, frames, frame)
+    pub fn more(&mut self, pool: PoolId, frames: &mut Frames) -> bool {
+        self.card.more(pool, frames, &mut Room::new())
     }
 
     pub fn is_busy(&self, pool: PoolId) -> bool {

@@ -1,12 +1,12 @@
 //! The example of the documentation of card, which docs/check compares with this.
-use card::{Card, Step};
+use card::{Card, Room, Step};
 use irq_causes::Vectors;
 use live_run::Frames;
 use mapped_memory::LiveMem;
 use offload::Offloads;
 use std::test::Fail;
 use vfio_session::{ROOM, Settled};
-use wire_frame::{FrameBuf, FrameLimit, PoolId, Vid};
+use wire_frame::{FrameLimit, PoolId, Vid};
 
 #[test]
 fn example_of_card(rt: HostRuntime) -> Result<(), Fail> {
@@ -41,8 +41,8 @@ fn example_of_card(rt: HostRuntime) -> Result<(), Fail> {
     assert!(rt; count == Some(114));
     // descriptors, and the frames that leave for the wire
     let mut frames = Frames::new(alloc, 64, 65536)?;
-    let mut frame = FrameBuf::blank();
-    assert!(rt; !card.more(pool, &mut frames, &mut frame));
+    let mut sending = Room::new();
+    assert!(rt; !card.more(pool, &mut frames, &mut sending));
     // and the vectors whose files are to be written
     assert!(rt; card.signal(pool, Vectors::from_bits(7)).is_empty());
     Ok(())

@@ -10,7 +10,7 @@ use script_support::registers::{
 use std::alloc::Global;
 use std::test::Fail;
 use vfio_session::Breach;
-use wire_frame::{FrameBuf, PoolId};
+use wire_frame::PoolId;
 
 // RESET, and the reply that grants it.
 const RESET: u32 = 1;
@@ -162,8 +162,7 @@ fn a_function_without_a_guest(rt: HostRuntime) -> Result<(), Fail> {
         assert_equal(&rt, clients.read(vacant, VFLINKS), Some(0));
         assert_equal(&rt, clients.write(vacant, TDT0, 1), true);
         let mut frames = Frames::new(alloc, 1, 9018)?;
-        let mut frame = FrameBuf::blank();
-        assert_equal(&rt, clients.more(vacant, &mut frames, &mut frame), false);
+        assert_equal(&rt, clients.more(vacant, &mut frames), false);
     }
     assert_equal(
         &rt,

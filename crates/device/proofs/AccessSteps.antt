@@ -13,11 +13,11 @@ use Rattle.local_switch.specs.declared.ways.Source.{Source}
 use Rattle.local_switch.specs.declared.ways.Source.TheVariants.{Wire as FromWire, Pool}
 use Rattle.local_switch.specs.Switch.{is_for_pool, receives}
 use Rattle.device.specs.Events.{Event}
-use Rattle.device.specs.declared.event.Event.TheVariants.{Open, End, VfRead, VfWrite, MemRead, MemWrite, Serve, Flr, PfRead, PfWrite, PfReset, Wire}
+use Rattle.device.specs.declared.event.Event.TheVariants.{Open, MemRead, MemWrite, Serve, PfWrite, PfReset, Wire}
 use Rattle.device.specs.Act.{act_accesses, serve_accesses}
 use Rattle.device.specs.World.{World, function_of, is_looped, sent_by, step}
 use Rattle.device.specs.Accesses.{accesses_by, arrived_accesses, sent_accesses}
-use Rattle.device.specs.Lone.{Item, OwnEvent, NewSettings, Offer, Lone, lone_of, kept, kept_frame, kept_sent, changed_settings}
+use Rattle.device.specs.Lone.{Item, OwnEvent, NewSettings, Offer, Lone, lone_of, is_own, kept, kept_frame, kept_sent, changed_settings}
 use Rattle.device.specs.LoneAccesses.{made_by_own, made_by, lone_made}
 use Rattle.device.proofs.LiveServes.{not_for_sender}
 
@@ -111,17 +111,13 @@ wire_made p w frame = by (nat_lt w.profile.limit (length frame))
 
 event_made : (p : ℕ) (w : World) (e : Event) → accesses_by w e p ≡ made (lone_of p w) (kept p w e)
 event_made p w (Open q) = ap (λ (b : Bool). if b then act_accesses (function_of p w) (Open q) else []) (flip p q) ∙ mine_made (lone_of p w) (Open q) (eqb q p)
-event_made p w (End q) = quiet (lone_of p w) (End q) (eqb q p) refl
-event_made p w (VfRead q offset) = quiet (lone_of p w) (VfRead q offset) (eqb q p) refl
-event_made p w (VfWrite q offset x) = quiet (lone_of p w) (VfWrite q offset x) (eqb q p) refl
 event_made p w (MemRead q at count) = ap (λ (b : Bool). if b then act_accesses (function_of p w) (MemRead q at count) else []) (flip p q) ∙ mine_made (lone_of p w) (MemRead q at count) (eqb q p)
 event_made p w (MemWrite q at bytes) = ap (λ (b : Bool). if b then act_accesses (function_of p w) (MemWrite q at bytes) else []) (flip p q) ∙ mine_made (lone_of p w) (MemWrite q at bytes) (eqb q p)
 event_made p w (Serve q queue) = serve_made p w q queue
-event_made p w (Flr q) = quiet (lone_of p w) (Flr q) (eqb q p) refl
-event_made p w (PfRead offset) = refl
 event_made p w (PfWrite offset x) = settings_made (lone_of p w) (own w.settings p) (own (step w (PfWrite offset x)).world.settings p)
 event_made p w PfReset = refl
 event_made p w (Wire frame) = wire_made p w frame
+event_made p w e = quiet (lone_of p w) e (is_own p e) refl
 
 pub accesses_follow : (p : ℕ) (w : World) (e : Event) → accesses_by w e p ≡ lone_made (lone_of p w) (cons_option (kept p w e) [])
 accesses_follow p w e = event_made p w e ∙ made_of (lone_of p w) (kept p w e)

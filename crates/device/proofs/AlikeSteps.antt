@@ -7,7 +7,7 @@ use Rattle.pool_filter.specs.Own.{own}
 use Rattle.local_switch.specs.declared.ways.Source.TheVariants.{Wire as FromWire, Pool}
 use Rattle.local_switch.specs.Switch.{is_for_pool}
 use Rattle.device.specs.Events.{Event}
-use Rattle.device.specs.declared.event.Event.TheVariants.{Open, End, VfRead, VfWrite, MemRead, MemWrite, Serve, Flr, PfRead, PfWrite, PfReset, Wire}
+use Rattle.device.specs.declared.event.Event.TheVariants.{Serve, PfWrite, Wire}
 use Rattle.device.specs.Act.{serve}
 use Rattle.device.specs.World.{World, function_of, sent_by, step}
 use Rattle.device.specs.Lone.{Item, OwnEvent, Offer, Observation, Lone, lone_of, kept, kept_sent, changed_settings, seen_of}
@@ -59,24 +59,16 @@ kept_sent_alike w v q p None same = refl
 kept_sent_alike w v q p (Some frame) same = ap (λ s. if is_for_pool s (Pool q) frame p then Some (Offer frame true) else None) same
 
 pub kept_alike : (group : ℕ → Bool) (w v : World) (e : Event) (p : ℕ) → AlikeOutside group w v → is_groups group e ≡ false → kept p w e ≡ kept p v e
-kept_alike group w v (Open q) p a is = refl
-kept_alike group w v (End q) p a is = refl
-kept_alike group w v (VfRead q offset) p a is = refl
-kept_alike group w v (VfWrite q offset x) p a is = refl
-kept_alike group w v (MemRead q at count) p a is = refl
-kept_alike group w v (MemWrite q at bytes) p a is = refl
 kept_alike group w v (Serve q k) p a is =
     ap (λ o. if q == p then Some (OwnEvent (Serve q k)) else o)
     (ap (kept_sent w q p) (sent_alike group w v q k _ a is refl) ∙ kept_sent_alike w v q p (sent_by v (Serve q k)) a.settings)
-kept_alike group w v (Flr q) p a is = refl
-kept_alike group w v (PfRead offset) p a is = refl
 kept_alike group w v (PfWrite offset x) p a is =
     let after : (step w (PfWrite offset x)).world.settings ≡ (step v (PfWrite offset x)).world.settings =
     settings_stepped w (PfWrite offset x) ∙ ap (λ s. settings_then s (PfWrite offset x)) a.settings ∙ sym (settings_stepped v (PfWrite offset x)) in
     λ i. changed_settings (own (a.settings i) p) (own (after i) p)
-kept_alike group w v PfReset p a is = refl
 kept_alike group w v (Wire frame) p a is =
     λ i. if ltb (a.profile i).limit (length frame) then None else (if is_for_pool (a.settings i) FromWire frame p then Some (Offer frame false) else None)
+kept_alike group w v _ p a is = refl
 
 pub alike_others : (group : ℕ → Bool) (w v : World) (e : Event) → length w.functions ≤ 64 → AlikeOutside group w v → is_groups group e ≡ false → AlikeOutside group (step w e).world (step v e).world
 alike_others group w v e few a is =

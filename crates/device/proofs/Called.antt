@@ -19,14 +19,13 @@ use Rattle.device.specs.declared.event.Event.TheVariants.{Flr}
 use Rattle.device.specs.Units.{closed}
 use Rattle.device.specs.Replies.{Reply, is_done}
 use Rattle.device.specs.declared.event.Answer.{Answer}
-use Rattle.device.specs.Outcome.{Outcome, IsOf, Holds, HoldsIn, reply_of, reply_in, done_or_refused}
+use Rattle.device.specs.Outcome.{Outcome, reply_of, done_or_refused}
 use Rattle.device.specs.Act.{act, serve}
 use Rattle.device.specs.Guests.{prompted, prompt_messages}
 use Rattle.device.specs.World.{World, Stepped, function_of, with_function, own_step, acted, refused, silently, flagged, all_reset, sizes_of}
 use Rattle.device.specs.Live.{TracedWorld, told_functions, told_world, told_service, AreMet, AreListed}
 use Rattle.device.proofs.Arrivals.{raised_nothing}
-use Rattle.device.proofs.Inside.{reply_in_of}
-use Rattle.device.proofs.Loads.{there_step, answer_is, holds_in}
+use Rattle.device.proofs.Loads.{there_step, answer_is}
 use Rattle.device.proofs.LiveLemmas.{get_told, length_told, none_listed}
 use Rattle.device.proofs.LiveSteps.{all_met, all_listed, told_is, told_service_by}
 use Rattle.device.proofs.SizesStay.{size_set, sizes_ended}
@@ -78,13 +77,6 @@ pub own_silent : (b : Base) (us : List TracedFunction) (t : TracedWorld) (i p : 
     → (act here.function e).reply ≡ reply → (act here.function e).messages ≡ 0 → silently reply ≡ (own_step t.world p e).answer
 own_silent b us t i p here e reply view h reply_is silent =
     ap (λ (ms : List ℕ). record { reply = reply; raised = ms }) (sym (raised_nothing p)) ∙ own_answer b us t i p here e reply 0 view h reply_is silent
-
--- bytes that it found
-pub own_found : (b : Base) (us : List TracedFunction) (t : TracedWorld) (i p : ℕ) (here : TracedFunction) (e : Event) (o : Outcome) → device_with b us ≡ t → IsHere us i p here
-    → IsOf p o → (act here.function e).reply ≡ reply_of here.function o → (act here.function e).messages ≡ 0 → silently (reply_in t.world o) ≡ (own_step t.world p e).answer
-own_found b us t i p here e o view h mine reply_is silent =
-    ap silently (subst (λ (d : TracedWorld). reply_in d.world o ≡ reply_of here.function o) view (reply_in_of (world_with b us) p o mine ∙ ap (λ (f : Function). reply_of f o) (function_here us i p here h)))
-    ∙ own_silent b us t i p here e (reply_of here.function o) view h reply_is silent
 
 pub own_sizes : (b : Base) (us : List TracedFunction) (t : TracedWorld) (i p : ℕ) (here new : TracedFunction) → device_with b us ≡ t → IsHere us i p here → size_of new.function ≡ size_of here.function
     → map size_of (functions_of (set us i new)) ≡ sizes_of t.world
@@ -161,16 +153,12 @@ pub read_world : (b : Base) (us : List TracedFunction) (t : TracedWorld) (i p : 
 read_world b us t i p here new e view h is =
     sym (after_is b us i p here new h) ∙ ap (with_function (world_with b us) p) is ∙ sym (ap (λ (s : Stepped). s.world) (own_told b us t i p here new e view h))
 
-pub read_answer : (b : Base) (us : List TracedFunction) (t : TracedWorld) (i p : ℕ) (here new : TracedFunction) (e : Event) (o : Outcome) → device_with b us ≡ t → IsHere us i p here → IsOf p o
-    → (act (met_function here new) e).reply ≡ reply_of new.function o → (act (met_function here new) e).messages ≡ 0
-    → silently (reply_in (world_with b (set us i new)) o) ≡ (own_step (told_world t.accesses (traces_of (set us i new)) t.world) p e).answer
-read_answer b us t i p here new e o view h mine reply silent =
-    ap (λ (w : World). silently (reply_in w o)) (sym (after_is b us i p here new h))
-    ∙ answer_is (world_with b us) p new.function o (act (met_function here new) e) (there us i p here h) mine reply silent
+pub read_answer : (b : Base) (us : List TracedFunction) (t : TracedWorld) (i p : ℕ) (here new : TracedFunction) (e : Event) (cells : List ℕ) (o : Outcome) → device_with b us ≡ t → IsHere us i p here
+    → (act (met_function here new) e).reply ≡ reply_of cells o → (act (met_function here new) e).messages ≡ 0
+    → silently (reply_of cells o) ≡ (own_step (told_world t.accesses (traces_of (set us i new)) t.world) p e).answer
+read_answer b us t i p here new e cells o view h reply silent =
+    answer_is (world_with b us) p cells o (act (met_function here new) e) reply silent
     ∙ sym (ap (λ (s : Stepped). s.answer) (own_told b us t i p here new e view h))
-
-pub read_holds : (b : Base) (us : List TracedFunction) (i p : ℕ) (here new : TracedFunction) (cells : List ℕ) (o : Outcome) → IsHere us i p here → IsOf p o → Holds cells new.function o → HoldsIn cells (world_with b (set us i new)) o
-read_holds b us i p here new cells o h mine held = subst (λ (w : World). HoldsIn cells w o) (after_is b us i p here new h) (holds_in cells (world_with b us) p new.function o (there us i p here h) mine held)
 
 -- ---- a service of its queue
 

@@ -6,7 +6,7 @@ use Rattle.std.specs.Option.{unwrap_or}
 use Rattle.wire_frame.specs.declared.vlan.PortVlan.{PortVlan}
 use Rattle.wire_frame.specs.declared.vlan.PortVlan.TheVariants.{Descriptor, Always, Never}
 use Rattle.tx_desc.specs.declared.outcome.Fetched.{Fetched}
-use Rattle.tx_desc.specs.declared.outcome.Fetched.TheVariants.{Idle, More, Frame, Dropped, Faulted}
+use Rattle.tx_desc.specs.declared.outcome.Fetched.TheVariants.{Idle, Frame}
 use Rattle.tx_desc.proofs.PortTagsWith.{bears_port_tag_with as fetched_bears_port_tag}
 use Rattle.irq_causes.specs.Causes.{Change}
 use Rattle.vf_unit.specs.declared.registers.Queue.{Queue}
@@ -17,12 +17,13 @@ use Rattle.anti_spoof.specs.Permitted.{permitted}
 use Rattle.local_switch.specs.declared.ways.Source.TheVariants.{Pool}
 use Rattle.local_switch.specs.Switch.{is_for_pool}
 use Rattle.device.specs.Events.{Event}
-use Rattle.device.specs.declared.event.Event.TheVariants.{Open, End, VfRead, VfWrite, MemRead, MemWrite, Serve, Flr, PfRead, PfWrite, PfReset, Wire}
+use Rattle.device.specs.declared.event.Event.TheVariants.{Serve, PfRead, PfWrite, PfReset, Wire}
 use Rattle.device.specs.Act.{Service, serve, concluded}
 use Rattle.device.specs.World.{World, function_of, sent_by, step}
 use Rattle.device.specs.Lone.{OwnEvent, Offer, kept, kept_sent}
 use Rattle.device.specs.Erased.{is_groups, bears_port_tag, may_send, IsApart, StaysApart, IsConfined}
 use Rattle.device.proofs.NextSettings.{settings_stepped}
+use Rattle.device.proofs.Owners.{owner}
 use Rattle.device.proofs.Shape.{step_shape}
 
 -- ---- a service
@@ -44,12 +45,8 @@ frame_unkept w q r o c frame false is away = rw is refl
 concluded_unkept : (w : World) (q r : ℕ) (o : OwnSettings) (c : Change Function) (t : Option Fetched)
     → ((frame : List ℕ) → t ≡ Some (Frame frame) → permitted o frame ≡ true → is_for_pool w.settings (Pool q) frame r ≡ false)
     → kept_sent w q r (concluded o c t).sent ≡ None
-concluded_unkept w q r o c (Some Idle) away = refl
-concluded_unkept w q r o c (Some More) away = refl
 concluded_unkept w q r o c (Some (Frame frame)) away = frame_unkept w q r o c frame _ refl (away frame refl)
-concluded_unkept w q r o c (Some Dropped) away = refl
-concluded_unkept w q r o c (Some Faulted) away = refl
-concluded_unkept w q r o c None away = refl
+concluded_unkept w q r o c _ away = refl
 
 if_unkept : (w : World) (q r : ℕ) (b : Bool) (x y : Service) → (b ≡ true → kept_sent w q r x.sent ≡ None) → kept_sent w q r y.sent ≡ None → kept_sent w q r (if b then x else y).sent ≡ None
 if_unkept w q r true x y one other = one refl
@@ -93,20 +90,14 @@ others_unkept : (group : ℕ → Bool) (q r : ℕ) (e : Event) → group q ≡ t
 others_unkept group q r e here there = ap (λ b. if b then Some (OwnEvent e) else None) (not_own group q r here there)
 
 unkept : (group : ℕ → Bool) (w : World) (e : Event) (r : ℕ) → length w.functions ≤ 64 → r < 64 → is_groups group e ≡ true → group r ≡ false → IsApart group w.settings → kept r w e ≡ None
-unkept group w (Open q) r few small is there apart = others_unkept group q r (Open q) is there
-unkept group w (End q) r few small is there apart = others_unkept group q r (End q) is there
-unkept group w (VfRead q offset) r few small is there apart = others_unkept group q r (VfRead q offset) is there
-unkept group w (VfWrite q offset x) r few small is there apart = others_unkept group q r (VfWrite q offset x) is there
-unkept group w (MemRead q at count) r few small is there apart = others_unkept group q r (MemRead q at count) is there
-unkept group w (MemWrite q at bytes) r few small is there apart = others_unkept group q r (MemWrite q at bytes) is there
 unkept group w (Serve q k) r few small is there apart =
     ap (λ b. if b then Some (OwnEvent (Serve q k)) else kept_sent w q r (sent_by w (Serve q k))) (not_own group q r is there)
     ∙ sent_unkept group w q r k _ few small refl is there apart
-unkept group w (Flr q) r few small is there apart = others_unkept group q r (Flr q) is there
 unkept group w (PfRead offset) r few small is there apart = absurd (true≢false (sym is))
 unkept group w (PfWrite offset x) r few small is there apart = absurd (true≢false (sym is))
 unkept group w PfReset r few small is there apart = absurd (true≢false (sym is))
 unkept group w (Wire frame) r few small is there apart = absurd (true≢false (sym is))
+unkept group w e r few small is there apart = others_unkept group (owner e) r e is there
 
 pub confined : (group : ℕ → Bool) (w : World) (events : List Event) → length w.functions ≤ 64 → StaysApart group w.settings events → IsConfined group w events
 confined group w [] few stays = stays

@@ -7,7 +7,8 @@ use Rattle.vf_unit.specs.Unit.{Function, Closed, Open, told_of}
 use Rattle.device.specs.Events.{Event}
 use Rattle.device.specs.declared.event.Answer.{Answer}
 use Rattle.device.specs.declared.response.Response.{Response}
-use Rattle.device.specs.Outcome.{answer_in}
+use Rattle.device.specs.declared.room.Room.{Room}
+use Rattle.device.specs.Outcome.{answer_of}
 use Rattle.device.specs.World.{World, function_of, answers, world_after}
 use Rattle.device.specs.Accesses.{accesses_by, run_accesses}
 use Rattle.device.specs.Lone.{kept, lone_of, seen_by}
@@ -63,10 +64,10 @@ untouched_outside group p before now old e listed small few there is stays =
     ∙ (λ i. trace_of before p ++ (accesses_follow p met e ∙ (λ j. lone_made (lone_of p met) (cons_option (none j) []))) i)
     ∙ append-nil (trace_of before p)
 
-pub live_seen_without : (group : ℕ → Bool) (shared : Bool) (p : ℕ) (before now other_before other_now : List (List Access)) (old new other : World) (e : Event) (taken : Response) → TakesLive shared before now old e new taken
+pub live_seen_without : (group : ℕ → Bool) (shared : Bool) (p : ℕ) (before now other_before other_now : List (List Access)) (old new other : World) (e : Event) (taken : Response) (room : Room) → TakesLive shared before now old e new taken room
     → p < length old.functions → length old.functions ≤ 64 → group p ≡ false → AlikeOutside group old other → AnsweredAlike group before now other_before other_now → StaysApart group old.settings (e ∷ [])
-    → seen_by p (e ∷ []) (answer_in new taken ∷ []) ≡ seen_by p (erase group (e ∷ [])) (answers (told_world other_before other_now other) (erase group (e ∷ [])))
-live_seen_without group shared p before now other_before other_now old new other e taken takes below few there a same stays =
+    → seen_by p (e ∷ []) (answer_of room taken ∷ []) ≡ seen_by p (erase group (e ∷ [])) (answers (told_world other_before other_now other) (erase group (e ∷ [])))
+live_seen_without group shared p before now other_before other_now old new other e taken room takes below few there a same stays =
     ap (λ (given : Answer). seen_by p (e ∷ []) (given ∷ [])) takes.takes.answer
     ∙ seen_without group p (told_world before now old) (told_world other_before other_now other) (e ∷ []) (here_told before now old p below) (few_told before now old few) there
     (alike_told group before now other_before other_now old other few same a) (confined_there group before now old e few stays)
@@ -79,10 +80,10 @@ live_accesses_without group p before now other_before other_now old other e belo
     ∙ accesses_without group p (told_world before now old) (told_world other_before other_now other) (e ∷ []) (here_told before now old p below) (few_told before now old few) there
     (alike_told group before now other_before other_now old other few same a) (confined_there group before now old e few stays)
 
-pub live_alike_without : (group : ℕ → Bool) (shared : Bool) (before now other_before other_now : List (List Access)) (old new other : World) (e : Event) (taken : Response) → TakesLive shared before now old e new taken
+pub live_alike_without : (group : ℕ → Bool) (shared : Bool) (before now other_before other_now : List (List Access)) (old new other : World) (e : Event) (taken : Response) (room : Room) → TakesLive shared before now old e new taken room
     → length old.functions ≤ 64 → AlikeOutside group old other → AnsweredAlike group before now other_before other_now → StaysApart group old.settings (e ∷ [])
     → AlikeOutside group new (world_after (told_world other_before other_now other) (erase group (e ∷ [])))
-live_alike_without group shared before now other_before other_now old new other e taken takes few a same stays =
+live_alike_without group shared before now other_before other_now old new other e taken room takes few a same stays =
     subst (λ (w : World). AlikeOutside group w (world_after (told_world other_before other_now other) (erase group (e ∷ [])))) (sym takes.takes.world)
     (alike_without group (told_world before now old) (told_world other_before other_now other) (e ∷ []) (few_told before now old few)
     (alike_told group before now other_before other_now old other few same a) (confined_there group before now old e few stays))

@@ -17,12 +17,12 @@ mod LiveSteps
 mod Loads
 pub mod LiveWrites
 pub mod NextSettings
+pub mod Owners
 pub mod Refusals
 mod Sizes
 mod SizesStay
 mod SlotBytes
 mod SlotLemmas
-pub mod Unread
 mod Views
 pub mod Written
 pub mod Steps

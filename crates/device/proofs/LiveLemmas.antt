@@ -10,6 +10,7 @@ use Rattle.vf_unit.specs.Unit.{Function, Closed, size_of, told_of}
 use Rattle.vf_unit.proofs.Told.{told_still, met_nothing, size_told}
 use Rattle.device.specs.Events.{Event}
 use Rattle.device.specs.declared.response.Response.{Response}
+use Rattle.device.specs.declared.room.Room.{Room}
 use Rattle.device.specs.World.{World, sizes_of, function_of, offered}
 use Rattle.device.proofs.Arrivals.{closed_silent}
 use Rattle.device.specs.Takes.{Takes}
@@ -74,9 +75,9 @@ sizes_told shared before now w met =
 pub untouched : (shared : Bool) (traces : List (List Access)) (w : World) → AreMet shared traces traces w
 untouched shared traces w = λ p. met_nothing shared (function_of p w) (trace_of traces p)
 
-pub takes_untouched : (shared : Bool) (before now : List (List Access)) (old : World) (event : Event) (new : World) (taken : Response) → now ≡ before → Takes old event new taken → TakesLive shared before now old event new taken
-takes_untouched shared before now old event new taken same takes = subst (λ (t : List (List Access)). TakesLive shared before t old event new taken) (sym same) (record {
-  takes = subst (λ w. Takes w event new taken) (sym (told_world_none before before old (λ r. refl))) takes;
+pub takes_untouched : (shared : Bool) (before now : List (List Access)) (old : World) (event : Event) (new : World) (taken : Response) (room : Room) → now ≡ before → Takes old event new taken room → TakesLive shared before now old event new taken room
+takes_untouched shared before now old event new taken room same takes = subst (λ (t : List (List Access)). TakesLive shared before t old event new taken room) (sym same) (record {
+  takes = subst (λ w. Takes w event new taken room) (sym (told_world_none before before old (λ r. refl))) takes;
   met = untouched shared before old;
 })
 
@@ -85,8 +86,8 @@ pub none_listed : (before now : List (List Access)) (own : ℕ → List Access) 
 none_listed before now own same none = λ p. ap (λ (t : List (List Access)). trace_of t p) same ∙ sym (append-nil (trace_of before p)) ∙ ap (λ (t : List Access). trace_of before p ++ t) (sym (none p))
 
 -- and where no memory is shared
-pub takes_alone : (shared : Bool) (before now : List (List Access)) (old : World) (event : Event) (new : World) (taken : Response) → shared ≡ false → TakesLive shared before now old event new taken → Takes old event new taken
-takes_alone shared before now old event new taken not takes = subst (λ w. Takes w event new taken) (told_world_still shared before now old not takes.met) takes.takes
+pub takes_alone : (shared : Bool) (before now : List (List Access)) (old : World) (event : Event) (new : World) (taken : Response) (room : Room) → shared ≡ false → TakesLive shared before now old event new taken room → Takes old event new taken room
+takes_alone shared before now old event new taken room not takes = subst (λ w. Takes w event new taken room) (told_world_still shared before now old not takes.met) takes.takes
 
 -- ---- a pool that was taken
 

@@ -14,10 +14,10 @@ use Rattle.pool_filter.specs.Settings.{Settings}
 use Rattle.device.specs.declared.event.Event.TheVariants.{Serve, Wire}
 use Rattle.device.specs.declared.event.Reply.TheVariants.{Refused}
 use Rattle.device.specs.declared.response.Response.{Response}
-use Rattle.device.specs.declared.span.Span.{Span}
+use Rattle.device.specs.declared.room.Room.{Room}
 use Rattle.device.specs.Act.{Service, serve_accesses}
 use Rattle.device.specs.Accesses.{accesses_by, arrived_accesses, sent_accesses, own_service_accesses}
-use Rattle.device.specs.Outcome.{bytes_in, reply_by, answer_in, leaving}
+use Rattle.device.specs.Outcome.{reply_of, answer_of, sent_of, left_of, leaving}
 use Rattle.device.specs.World.{World, Stepped, step, function_of, with_function, served, service, refused, switched, all_raised, sizes_of, sent_by, silently}
 use Rattle.device.specs.Takes.{Takes}
 use Rattle.device.specs.Live.{TracedWorld, trace_of, told_functions, told_world, told_service, AreMet, AreListed, TakesLive}
@@ -46,15 +46,15 @@ sends before now w p q below =
     ∙ ap (λ (s : Service). s.sent) (service_told before now w p q)
 
 -- no frame was sent
-pub unsent_live : (shared : Bool) (before now : List (List Access)) (w after : World) (p : ℕ) (q : Queue) (taken : Response) (vectors : ℕ) → p < length w.functions
+pub unsent_live : (shared : Bool) (before now : List (List Access)) (w after : World) (p : ℕ) (q : Queue) (taken : Response) (room : Room) (vectors : ℕ) → p < length w.functions
     → ((r : ℕ) → r ≢ p → trace_of now r ≡ trace_of before r) → AreMet shared before now w → after ≡ with_function w p (told_service before now w p q).function → sizes_of after ≡ sizes_of w
-    → ((bytes : Span → List ℕ) → reply_by bytes taken.outcome ≡ (told_service before now w p q).reply) → vectors ≡ (told_service before now w p q).messages → taken.messages ≡ slice_set no_messages p vectors
-    → (told_service before now w p q).sent ≡ None → option_copied taken.sent ≡ None → option_copied taken.left ≡ None → TakesLive shared before now w (Serve p q) after taken
-unsent_live shared before now w after p q taken vectors below others traced world sizes reply vectors_are messages sent none_sent none_left =
+    → ((cells : List ℕ) → reply_of cells taken.outcome ≡ (told_service before now w p q).reply) → vectors ≡ (told_service before now w p q).messages → taken.messages ≡ slice_set no_messages p vectors
+    → (told_service before now w p q).sent ≡ None → sent_of room taken ≡ None → left_of room taken ≡ None → TakesLive shared before now w (Serve p q) after taken room
+unsent_live shared before now w after p q taken room vectors below others traced world sizes reply vectors_are messages sent none_sent none_left =
     record {
       takes = record {
         world = world ∙ sym (ap (λ (t : Stepped). t.world) is ∙ hidden);
-        answer = (λ i. record { reply = reply (λ span. bytes_in (function_of span.pool after) span) i; raised = (messages ∙ ap (slice_set no_messages p) vectors_are) i }) ∙ sym (ap (λ (t : Stepped). t.answer) is);
+        answer = (λ i. record { reply = reply room.bytes i; raised = (messages ∙ ap (slice_set no_messages p) vectors_are) i }) ∙ sym (ap (λ (t : Stepped). t.answer) is);
         sent = none_sent ∙ sym (sends before now w p q below ∙ sent);
         left = none_left ∙ sym (ap (leaving (told_world before now w) p) (sends before now w p q below ∙ sent));
         sizes = sizes ∙ sym (sizes_told shared before now w traced);
@@ -79,18 +79,18 @@ two_traced shared first mid last w p f others same one two = λ r. at r (eqb_tel
         subst (λ (t : List Access). IsMet shared (function_of r w) t (trace_of last r)) (others r other.1)
         (subst (λ (g : Function). IsMet shared g (trace_of mid r) (trace_of last r)) (get_or-set_other w.functions p r f (Closed 0) other.1) (two r))
 
-pub sent_live : (shared : Bool) (first mid last : List (List Access)) (w sender after : World) (p : ℕ) (q : Queue) (frame : List ℕ) (taken : Response) (raised : List ℕ) (vectors : ℕ) → p < length w.functions
+pub sent_live : (shared : Bool) (first mid last : List (List Access)) (w sender after : World) (p : ℕ) (q : Queue) (frame : List ℕ) (taken : Response) (room : Room) (raised : List ℕ) (vectors : ℕ) → p < length w.functions
     → ((r : ℕ) → r ≢ p → trace_of mid r ≡ trace_of first r) → trace_of last p ≡ trace_of mid p → AreMet shared first mid w → AreMet shared mid last sender
     → sender ≡ with_function w p (told_service first mid w p q).function → after ≡ switched (told_world mid last sender) (Pool p) frame → sizes_of sender ≡ sizes_of w → sizes_of after ≡ sizes_of sender
-    → ((bytes : Span → List ℕ) → reply_by bytes taken.outcome ≡ (told_service first mid w p q).reply) → vectors ≡ (told_service first mid w p q).messages
+    → ((cells : List ℕ) → reply_of cells taken.outcome ≡ (told_service first mid w p q).reply) → vectors ≡ (told_service first mid w p q).messages
     → raised ≡ all_raised sender.settings (told_functions mid last sender.functions) (Pool p) frame → taken.messages ≡ slice_set raised p vectors
-    → (told_service first mid w p q).sent ≡ Some frame → option_copied taken.sent ≡ Some frame → option_copied taken.left ≡ (if leaves sender.settings (Pool p) frame then Some frame else None)
-    → TakesLive shared first last w (Serve p q) after taken
-sent_live shared first mid last w sender after p q frame taken raised vectors below others same one two world switched_is sizes_one sizes_two reply vectors_are raised_is messages sent sent_is left_is =
+    → (told_service first mid w p q).sent ≡ Some frame → sent_of room taken ≡ Some frame → left_of room taken ≡ (if leaves sender.settings (Pool p) frame then Some frame else None)
+    → TakesLive shared first last w (Serve p q) after taken room
+sent_live shared first mid last w sender after p q frame taken room raised vectors below others same one two world switched_is sizes_one sizes_two reply vectors_are raised_is messages sent sent_is left_is =
     record {
       takes = record {
         world = switched_is ∙ ap (λ (v : World). switched v (Pool p) frame) in_turn ∙ sym (ap (λ (t : Stepped). t.world) is);
-        answer = (λ i. record { reply = (reply (λ span. bytes_in (function_of span.pool after) span) ∙ ap (λ (s : Service). s.reply) (sym later)) i; raised = told_raised i }) ∙ sym (ap (λ (t : Stepped). t.answer) is);
+        answer = (λ i. record { reply = (reply room.bytes ∙ ap (λ (s : Service). s.reply) (sym later)) i; raised = told_raised i }) ∙ sym (ap (λ (t : Stepped). t.answer) is);
         sent = sent_is ∙ sym (sends first last w p q below ∙ sent_later);
         left = left_is ∙ ap (λ (v : World). if leaves v.settings (Pool p) frame then Some frame else None) world ∙ sym (ap (leaving (told_world first last w) p) (sends first last w p q below ∙ sent_later));
         sizes = sizes_two ∙ sizes_one ∙ sym (sizes_told shared first last w traced);
@@ -206,8 +206,8 @@ pub taken_listed : (before now : List (List Access)) (w : World) (frame : List �
 taken_listed before now w frame short all = let is : nat_lt w.profile.limit (length frame) ≡ false = grind (arith, short) in λ r. rw is (all r)
 
 -- the function isn't there
-pub absent_service : (w : World) (p : ℕ) (q : Queue) (taken : Response) → length w.functions ≤ p → answer_in w taken ≡ silently (Refused 1) → option_copied taken.sent ≡ None → option_copied taken.left ≡ None → Takes w (Serve p q) w taken
-absent_service w p q taken past answer none_sent none_left =
+pub absent_service : (w : World) (p : ℕ) (q : Queue) (taken : Response) (room : Room) → length w.functions ≤ p → answer_of room taken ≡ silently (Refused 1) → sent_of room taken ≡ None → left_of room taken ≡ None → Takes w (Serve p q) w taken room
+absent_service w p q taken room past answer none_sent none_left =
     let gone : nat_lt p (length w.functions) ≡ false = grind (arith, past) in record {
       world = rw gone refl;
       answer = answer ∙ rw gone refl;

@@ -12,14 +12,13 @@ use Rattle.vf_unit.specs.Unit.{Function, TracedFunction, Closed, Open, size_of, 
 use Rattle.vf_unit.proofs.Told.{told_nothing, open_told, size_told}
 use Rattle.device.specs.Events.{Event}
 use Rattle.device.specs.declared.event.Event.TheVariants.{MemRead}
-use Rattle.device.specs.declared.event.Reply.TheVariants.{Done, Value, Bytes, Idle, More, Sent, Dropped, Faulted, Refused}
-use Rattle.device.specs.declared.span.Span.{Span}
+use Rattle.device.specs.declared.event.Reply.TheVariants.{Bytes, Refused}
 use Rattle.device.specs.Act.{Acted, quietly, refusal, act, act_accesses}
-use Rattle.device.specs.Outcome.{Outcome, IsOf, bytes_in, reply_of, reply_in, Holds, HoldsIn}
-use Rattle.device.specs.World.{World, function_of, with_function, own_step, acted, refused, silently}
+use Rattle.device.specs.Outcome.{Outcome, reply_of}
+use Rattle.device.specs.World.{World, function_of, own_step, acted, refused, silently}
 use Rattle.device.specs.Live.{trace_of, told_world}
 use Rattle.device.proofs.Arrivals.{raised_nothing}
-use Rattle.device.proofs.Inside.{read_over_zeros, reply_in_of}
+use Rattle.device.proofs.Inside.{read_over_zeros}
 use Rattle.device.proofs.LiveSteps.{own_step_told}
 
 refusal_told : (before now : List Access) (f : Function) (e : Event) → ReadOnce (size_of f) (since before now) → refusal (told_of before now f) e ≡ refusal f e
@@ -42,18 +41,13 @@ pub done_read : (before now : List Access) (f after : Function) (p at count : �
 unfolding act
 done_read before now f after p at count is once allowed = rw (refusal_told before now f (MemRead p at count) once ∙ allowed) (ap (λ (g : Function). quietly g (Bytes (bytes_at g at (replicate count 0)))) (sym is))
 
--- the bytes of a span, by its numbers
-pub in_span : (f : Function) (span : Span) (at count : ℕ) → span.at ≡ at → span.count ≡ count → bytes_at f at (replicate count 0) ≡ bytes_in f span
-in_span f span at count is_at is_count = λ i. bytes_at f (sym is_at i) (replicate (sym is_count i) 0)
-
 -- what was read stands in the first cells
-pub held : (before now : List Access) (f after : Function) (span : Span) (at count : ℕ) (read had rest : List ℕ) → span.at ≡ at → span.count ≡ count → after ≡ told_of before now f → ReadOnce (size_of f) (since before now) → has_range f at count ≡ true
-    → length had ≡ count → length read ≡ count → read ≡ bytes_at after at had → take span.count (read ++ rest) ≡ bytes_in after span
-held before now f after span at count read had rest is_at is_count is once within few as_many stands =
-    take_at read rest span.count (as_many ∙ sym is_count) ∙ stands
+pub held : (before now : List Access) (f after : Function) (at count n : ℕ) (read had rest : List ℕ) → n ≡ count → after ≡ told_of before now f → ReadOnce (size_of f) (since before now) → has_range f at count ≡ true
+    → length had ≡ count → length read ≡ count → read ≡ bytes_at after at had → bytes_at after at (replicate count 0) ≡ take n (read ++ rest)
+held before now f after at count n read had rest is_count is once within few as_many stands =
+    sym (take_at read rest n (as_many ∙ sym is_count) ∙ stands
     ∙ read_over_zeros after at had (ap (has_range after at) few ∙ ap (λ (g : Function). has_range g at count) is ∙ range_told before now f at count once ∙ within)
-    ∙ ap (λ (n : ℕ). bytes_at after at (replicate n 0)) few
-    ∙ in_span after span at count is_at is_count
+    ∙ ap (λ (k : ℕ). bytes_at after at (replicate k 0)) few)
 
 -- ---- of a device
 
@@ -65,26 +59,12 @@ there_step before now w p e trace mine below within begun became =
     let there : nat_lt p (length w.functions) ≡ true = grind (arith, below) in
     own_step_told before now w p e trace mine within begun became ∙ rw there refl
 
-function_in : (w : World) (p : ℕ) (f : Function) → p < length w.functions → function_of p (with_function w p f) ≡ f
-function_in w p f below = get_or-set_same w.functions p f (Closed 0) below
-
 -- the answer is that of the function
-pub answer_is : (w : World) (p : ℕ) (f : Function) (o : Outcome) (a : Acted) → p < length w.functions → IsOf p o → a.reply ≡ reply_of f o → a.messages ≡ 0 → silently (reply_in (with_function w p f) o) ≡ (acted w p a).answer
-answer_is w p f o a below mine reply silent = λ i. record {
-  reply = (reply_in_of (with_function w p f) p o mine ∙ ap (λ (g : Function). reply_of g o) (function_in w p f below) ∙ sym reply) i;
+pub answer_is : (w : World) (p : ℕ) (cells : List ℕ) (o : Outcome) (a : Acted) → a.reply ≡ reply_of cells o → a.messages ≡ 0 → silently (reply_of cells o) ≡ (acted w p a).answer
+answer_is w p cells o a reply silent = λ i. record {
+  reply = sym reply i;
   raised = (sym (raised_nothing p) ∙ ap (slice_set no_messages p) (sym silent)) i;
 }
-
-pub holds_in : (cells : List ℕ) (w : World) (p : ℕ) (f : Function) (o : Outcome) → p < length w.functions → IsOf p o → Holds cells f o → HoldsIn cells (with_function w p f) o
-holds_in cells w p f (Bytes span) below mine held = held ∙ ap (λ (g : Function). bytes_in g span) (sym (ap (λ (k : ℕ). function_of k (with_function w p f)) mine ∙ function_in w p f below))
-holds_in cells w p f Done below mine held = tt
-holds_in cells w p f (Value x) below mine held = tt
-holds_in cells w p f Idle below mine held = tt
-holds_in cells w p f More below mine held = tt
-holds_in cells w p f Sent below mine held = tt
-holds_in cells w p f Dropped below mine held = tt
-holds_in cells w p f Faulted below mine held = tt
-holds_in cells w p f (Refused fault) below mine held = tt
 
 -- ---- the accesses
 

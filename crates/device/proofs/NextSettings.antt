@@ -4,11 +4,12 @@ use Rattle.vf_unit.specs.declared.registers.Queue.{Queue}
 use Rattle.pool_filter.specs.Settings.{Settings}
 use Rattle.device.specs.Limits.{PF_SPACE}
 use Rattle.device.specs.Events.{Event}
-use Rattle.device.specs.declared.event.Event.TheVariants.{Open, End, VfRead, VfWrite, MemRead, MemWrite, Serve, Flr, PfRead, PfWrite, PfReset, Wire}
+use Rattle.device.specs.declared.event.Event.TheVariants.{Serve, Flr, PfRead, PfWrite, PfReset, Wire}
 use Rattle.device.specs.Replies.{is_done}
 use Rattle.device.specs.Act.{Service, is_bad_offset}
 use Rattle.device.specs.World.{World, Stepped, own_step, served, service, flagged, step}
 use Rattle.device.specs.Erased.{is_groups, settings_then}
+use Rattle.device.proofs.Owners.{owner}
 
 own_settings : (w : World) (q : ℕ) (e : Event) (inside : Bool) → ltb q (length w.functions) ≡ inside → (own_step w q e).world.settings ≡ w.settings
 own_settings w q e true is = rw is refl
@@ -39,30 +40,16 @@ wire_settings w frame true is = rw is refl
 wire_settings w frame false is = rw is refl
 
 pub settings_stepped : (w : World) (e : Event) → (step w e).world.settings ≡ settings_then w.settings e
-settings_stepped w (Open q) = own_settings w q (Open q) _ refl
-settings_stepped w (End q) = own_settings w q (End q) _ refl
-settings_stepped w (VfRead q offset) = own_settings w q (VfRead q offset) _ refl
-settings_stepped w (VfWrite q offset x) = own_settings w q (VfWrite q offset x) _ refl
-settings_stepped w (MemRead q at count) = own_settings w q (MemRead q at count) _ refl
-settings_stepped w (MemWrite q at bytes) = own_settings w q (MemWrite q at bytes) _ refl
 settings_stepped w (Serve r q) = serve_settings w r q _ refl
 settings_stepped w (Flr q) = flagged_settings q (own_step w q (Flr q)) _ refl ∙ own_settings w q (Flr q) _ refl
 settings_stepped w (PfRead offset) = pf_read_settings w offset _ refl
 settings_stepped w (PfWrite offset x) = pf_write_settings w offset x _ refl
 settings_stepped w PfReset = refl
 settings_stepped w (Wire frame) = wire_settings w frame _ refl
+settings_stepped w e = own_settings w (owner e) e _ refl
 
 -- no event of a group's own changes them
 pub groups_leave_settings : (group : ℕ → Bool) (s : Settings) (e : Event) → is_groups group e ≡ true → settings_then s e ≡ s
-groups_leave_settings group s (Open q) is = refl
-groups_leave_settings group s (End q) is = refl
-groups_leave_settings group s (VfRead q offset) is = refl
-groups_leave_settings group s (VfWrite q offset x) is = refl
-groups_leave_settings group s (MemRead q at count) is = refl
-groups_leave_settings group s (MemWrite q at bytes) is = refl
-groups_leave_settings group s (Serve r q) is = refl
-groups_leave_settings group s (Flr q) is = refl
-groups_leave_settings group s (PfRead offset) is = refl
 groups_leave_settings group s (PfWrite offset x) is = absurd (true≢false (sym is))
 groups_leave_settings group s PfReset is = absurd (true≢false (sym is))
-groups_leave_settings group s (Wire frame) is = refl
+groups_leave_settings group s _ is = refl

@@ -5,7 +5,7 @@ use Rattle.std.specs.Prelude.{slice_set, if◌then◌else◌}
 use Rattle.irq_causes.specs.Messages.{no_messages}
 use Rattle.wire_frame.specs.declared.fault.Fault.{Fault}
 use Rattle.tx_desc.specs.declared.outcome.Fetched.{Fetched}
-use Rattle.tx_desc.specs.declared.outcome.Fetched.TheVariants.{Idle, More, Frame, Dropped, Faulted}
+use Rattle.tx_desc.specs.declared.outcome.Fetched.TheVariants.{Frame}
 use Rattle.vf_unit.specs.declared.registers.Queue.{Queue}
 use Rattle.irq_causes.specs.Causes.{Change}
 use Rattle.vf_unit.specs.Unit.{Function, Closed, Open, serviced}
@@ -13,12 +13,13 @@ use Rattle.pool_filter.specs.Own.{OwnSettings, own, port_vlan_of}
 use Rattle.anti_spoof.specs.Permitted.{permitted}
 use Rattle.device.specs.Limits.{PF_SPACE}
 use Rattle.device.specs.Events.{Event}
-use Rattle.device.specs.declared.event.Event.TheVariants.{Open, End, VfRead, VfWrite, MemRead, MemWrite, Serve, Flr, PfRead, PfWrite, PfReset, Wire}
+use Rattle.device.specs.declared.event.Event.TheVariants.{MemRead, Serve, Flr, PfRead, PfWrite, PfReset, Wire}
 use Rattle.device.specs.Replies.{Reply, is_done}
-use Rattle.device.specs.declared.event.Reply.TheVariants.{Done, Value, Bytes, Idle, More, Sent, Dropped, Faulted, Refused}
+use Rattle.device.specs.declared.event.Reply.TheVariants.{Done, Idle, Refused}
 use Rattle.device.specs.Act.{Service, performed, unless_refused, refusal, act, concluded, unserved, serve, is_bad_offset}
 use Rattle.device.specs.World.{World, Stepped, function_of, with_function, own_step, flagged, service, served, step}
 use Rattle.device.proofs.Arrivals.{raised_nothing}
+use Rattle.device.proofs.Owners.{owner}
 
 abbrev is_refused : Reply → Bool
 is_refused (Refused n) = true
@@ -30,18 +31,8 @@ not_refused r other is = absurd (true≢false (sym is ∙ other))
 -- ---- one function's own events
 
 performed_replies : (f : Function) (e : Event) → is_refused (performed f e).reply ≡ false
-performed_replies f (Open p) = refl
-performed_replies f (End p) = refl
-performed_replies f (VfRead p offset) = refl
-performed_replies f (VfWrite p offset x) = refl
 performed_replies f (MemRead p at count) = refl
-performed_replies f (MemWrite p at bytes) = refl
-performed_replies f (Serve p q) = refl
-performed_replies f (Flr p) = refl
-performed_replies f (PfRead offset) = refl
-performed_replies f (PfWrite offset x) = refl
-performed_replies f PfReset = refl
-performed_replies f (Wire frame) = refl
+performed_replies f _ = refl
 
 unless_refused_keeps : (why : Option Fault) (f : Function) (e : Event) → is_refused (unless_refused why f e).reply ≡ true
     → ((unless_refused why f e).function ≡ f) × ((unless_refused why f e).messages ≡ 0)
@@ -59,11 +50,8 @@ sent_or_dropped o c frame true is = rw is refl
 sent_or_dropped o c frame false is = rw is refl
 
 concluded_replies : (o : OwnSettings) (c : Change Function) (came : Fetched) → is_refused (concluded o c (Some came)).reply ≡ false
-concluded_replies o c Idle = refl
-concluded_replies o c More = refl
 concluded_replies o c (Frame frame) = sent_or_dropped o c frame _ refl
-concluded_replies o c Dropped = refl
-concluded_replies o c Faulted = refl
+concluded_replies o c _ = refl
 
 -- and no more is it where the function may not transmit
 attempt_replies : (may : Bool) (o : OwnSettings) (c : Change Function) (came : Fetched) (f : Function) → is_refused (if may then concluded o c (Some came) else unserved f Idle).reply ≡ false
@@ -103,15 +91,8 @@ own_keeps w p e false here = rw here (λ is. (refl, refl))
 
 -- what is flagged is done, and so not refused
 done_is_no_refusal : (r : Reply) → is_done r ≡ true → is_refused r ≡ false
-done_is_no_refusal Done done = refl
-done_is_no_refusal (Value x) done = refl
-done_is_no_refusal (Bytes bytes) done = refl
-done_is_no_refusal Idle done = refl
-done_is_no_refusal More done = refl
-done_is_no_refusal Sent done = refl
-done_is_no_refusal Dropped done = refl
-done_is_no_refusal Faulted done = refl
 done_is_no_refusal (Refused n) done = sym done
+done_is_no_refusal _ done = refl
 
 flagged_keeps : (w : World) (p : ℕ) (s : Stepped) (done : Bool) → is_done s.answer.reply ≡ done → (is_refused s.answer.reply ≡ true → IsKept w s)
     → is_refused (flagged p s).answer.reply ≡ true → IsKept w (flagged p s)
@@ -143,18 +124,13 @@ wire_keeps w frame true is = rw is (λ _. (refl, refl))
 wire_keeps w frame false is = rw is (not_refused Done refl)
 
 step_keeps : (w : World) (e : Event) → is_refused (step w e).answer.reply ≡ true → IsKept w (step w e)
-step_keeps w (Open p) = own_keeps w p (Open p) _ refl
-step_keeps w (End p) = own_keeps w p (End p) _ refl
-step_keeps w (VfRead p offset) = own_keeps w p (VfRead p offset) _ refl
-step_keeps w (VfWrite p offset x) = own_keeps w p (VfWrite p offset x) _ refl
-step_keeps w (MemRead p at count) = own_keeps w p (MemRead p at count) _ refl
-step_keeps w (MemWrite p at bytes) = own_keeps w p (MemWrite p at bytes) _ refl
 step_keeps w (Serve p q) = serve_step_keeps w p q _ refl
 step_keeps w (Flr p) = flagged_keeps w p (own_step w p (Flr p)) _ refl (own_keeps w p (Flr p) _ refl)
 step_keeps w (PfRead offset) = pf_read_keeps w offset _ refl
 step_keeps w (PfWrite offset x) = pf_write_keeps w offset x _ refl
 step_keeps w PfReset = not_refused Done refl
 step_keeps w (Wire frame) = wire_keeps w frame _ refl
+step_keeps w e = own_keeps w (owner e) e _ refl
 
 -- ---- the law
 

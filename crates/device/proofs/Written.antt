@@ -1,4 +1,4 @@
--- An event that writes a function's memory and reads nothing of it: a write of the memory, or the function's opening.
+-- An event that writes a function's memory and reads nothing of it: a write of the memory, or the function's opening. And one that touches none.
 use Rattle.std.proofs.Common.{◌≡◌, ℕ, Bool, true, false, List, [], ◌∷◌, ◌++◌, length, replicate, eqb, arith, refl, sym, ap, subst}
 use Rattle.std.specs.Prelude.{if◌then◌else◌}
 use Rattle.std.proofs.lemmas.List.{length-replicate}
@@ -9,12 +9,14 @@ use Rattle.vf_unit.proofs.Told.{told_unread}
 use Rattle.device.specs.Events.{Event}
 use Rattle.device.specs.declared.event.Event.TheVariants.{Open as Opening, MemWrite}
 use Rattle.device.specs.declared.response.Response.{Response}
+use Rattle.device.specs.declared.room.Room.{Room}
+use Rattle.device.specs.Request.{Request, event_of}
 use Rattle.device.specs.Act.{act_accesses}
 use Rattle.device.specs.World.{World, function_of}
 use Rattle.device.specs.Accesses.{accesses_by}
 use Rattle.device.specs.Takes.{Takes}
 use Rattle.device.specs.Live.{trace_of, told_world, AreMet, AreListed, TakesLive}
-use Rattle.device.proofs.LiveLemmas.{told_as}
+use Rattle.device.proofs.LiveLemmas.{told_as, takes_untouched, none_listed}
 
 -- the event reads no function's memory
 abbrev pub ReadsNone : World → Event → Type 0
@@ -45,15 +47,38 @@ still before now w e none all =
     ap (λ fs. record { profile = w.profile; settings = w.settings; resets = w.resets; functions = fs; wire = w.wire; unclaimed = w.unclaimed })
     (sym (told_as before now w.functions w.functions refl (λ r below. sym (told_unread (trace_of before r) (trace_of now r) (accesses_by w e r) (function_of r w) (all r) (none r)))))
 
-pub takes_written : (shared : Bool) (before now : List (List Access)) (w : World) (e : Event) (new : World) (taken : Response)
-    → ReadsNone w e → Takes w e new taken → AreListed (accesses_by w e) before now → AreMet shared before now w → TakesLive shared before now w e new taken
-takes_written shared before now w e new taken none takes all met = record {
-  takes = subst (λ (v : World). Takes v e new taken) (sym (still before now w e none all)) takes;
+pub takes_written : (shared : Bool) (before now : List (List Access)) (w : World) (e : Event) (new : World) (taken : Response) (room : Room)
+    → ReadsNone w e → Takes w e new taken room → AreListed (accesses_by w e) before now → AreMet shared before now w → TakesLive shared before now w e new taken room
+takes_written shared before now w e new taken room none takes all met = record {
+  takes = subst (λ (v : World). Takes v e new taken room) (sym (still before now w e none all)) takes;
   met = met;
 }
 
 pub written_listed : (before now : List (List Access)) (w : World) (e : Event) → ReadsNone w e → AreListed (accesses_by w e) before now → AreListed (accesses_by (told_world before now w) e) before now
 written_listed before now w e none all = subst (λ (v : World). AreListed (accesses_by v e) before now) (sym (still before now w e none all)) all
+
+-- ---- by its request
+
+-- the event that the request stands for was taken, and its accesses are listed
+pub record TakesListed (shared : Bool) (before now : List (List Access)) (w : World) (r : Request) (new : World) (taken : Response) (room : Room) : Type 0 where
+  pub takes : TakesLive shared before now w (event_of r) new taken room
+  pub listed : AreListed (accesses_by (told_world before now w) (event_of r)) before now
+
+pub asked_taken : (shared : Bool) (before now : List (List Access)) {w new : World} {r s : Request} {taken : Response} {room : Room} → r ≡ s → TakesLive shared before now w (event_of s) new taken room
+    → AreListed (accesses_by (told_world before now w) (event_of s)) before now → TakesListed shared before now w r new taken room
+asked_taken shared before now {w = w} {new = new} {taken = taken} {room = room} is takes listed = subst (λ (q : Request). TakesListed shared before now w q new taken room) (sym is) (record { takes = takes; listed = listed })
+
+-- one that touches no memory
+pub untouched_taken : (shared : Bool) (before now : List (List Access)) {w new : World} {r s : Request} {taken : Response} {room : Room} → r ≡ s → Takes w (event_of s) new taken room
+    → now ≡ before → ((v : World) (p : ℕ) → accesses_by v (event_of s) p ≡ []) → TakesListed shared before now w r new taken room
+untouched_taken shared before now {w = w} {new = new} {s = s} {taken = taken} {room = room} is takes same none =
+    asked_taken shared before now is (takes_untouched shared before now w (event_of s) new taken room same takes) (none_listed before now (accesses_by (told_world before now w) (event_of s)) same (none (told_world before now w)))
+
+-- one that writes a memory
+pub written_taken : (shared : Bool) (before now : List (List Access)) {w new : World} {r s : Request} {taken : Response} {room : Room} → r ≡ s → Takes w (event_of s) new taken room
+    → AreListed (accesses_by w (event_of s)) before now → AreMet shared before now w → ReadsNone w (event_of s) → TakesListed shared before now w r new taken room
+written_taken shared before now {w = w} {new = new} {s = s} {taken = taken} {room = room} is takes all met none =
+    asked_taken shared before now is (takes_written shared before now w (event_of s) new taken room none takes all met) (written_listed before now w (event_of s) none all)
 
 -- zero was written over the memory of a function that was opened
 pub met_opening : (shared : Bool) (f : Function) (p : ℕ) (before now : List Access) → now ≡ before ++ act_accesses f (Opening p) → IsMet shared f before now

@@ -39,11 +39,6 @@ accesses_by w (Serve q queue) p = own_service_accesses w q queue p ++ sent_acces
 accesses_by w (Wire frame) p = if nat_lt w.profile.limit (length frame) then [] else arrived_accesses w.settings w.functions FromWire frame p
 accesses_by w _ p = []
 
--- the same, where the bytes of a read are looked at elsewhere
-abbrev pub accesses_but_read : World → Event → ℕ → List Access
-accesses_but_read w (MemRead q at count) p = []
-accesses_but_read w e p = accesses_by w e p
-
 -- ---- a list of events
 
 abbrev pub run_accesses : World → List Event → ℕ → List Access

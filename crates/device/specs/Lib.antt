@@ -15,4 +15,5 @@ pub mod Resets
 pub mod Slots
 pub mod Takes
 pub mod Units
+pub mod Whose
 pub mod World

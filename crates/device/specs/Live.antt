@@ -6,6 +6,7 @@ use Rattle.vf_unit.specs.Unit.{Function, Closed, IsMet, told_of}
 use Rattle.device.specs.Events.{Event}
 use Rattle.device.specs.declared.event.Event.TheVariants.{MemWrite}
 use Rattle.device.specs.declared.response.Response.{Response}
+use Rattle.device.specs.declared.room.Room.{Room}
 use Rattle.pool_filter.specs.Own.{own}
 use Rattle.vf_unit.specs.declared.registers.Queue.{Queue}
 use Rattle.device.specs.Act.{Service, serve}
@@ -49,8 +50,8 @@ abbrev pub AreMet : Bool → List (List Access) → List (List Access) → World
 AreMet shared before now w = (p : ℕ) → IsMet shared (function_of p w) (trace_of before p) (trace_of now p)
 
 -- the device took the event in the world in which its functions' memories hold what was read from them
-pub record TakesLive (shared : Bool) (before now : List (List Access)) (old : World) (event : Event) (new : World) (taken : Response) : Type 0 where
-  pub takes : Takes (told_world before now old) event new taken
+pub record TakesLive (shared : Bool) (before now : List (List Access)) (old : World) (event : Event) (new : World) (response : Response) (room : Room) : Type 0 where
+  pub takes : Takes (told_world before now old) event new response room
   pub met : AreMet shared before now old
 
 -- ---- as events

@@ -2,17 +2,19 @@
 //!
 //! Each refusal is decided here, but for a function that is not there. The first that fits of a function that is closed, one
 //! that is open already, a bad offset, an access that is too long and one past the end of the memory is told.
-ghost use Rattle.std.specs.Prelude.{◌≡◌, ◌+◌, ◌≤◌, ◌++◌, ℕ, drop, length, replicate, nat_lt, true, IfNone, OnErr, if◌then◌else◌};
-ghost use Rattle.vf_unit.specs.Unit.{size_of, is_open, has_range, bytes_at, met_function, IsMet};
+ghost use Rattle.std.specs.Prelude.{◌≡◌, ◌+◌, ◌≤◌, ◌++◌, ℕ, length, nat_lt, true, false, IfNone, OnErr, if◌then◌else◌};
+ghost use Rattle.vf_unit.specs.Unit.{size_of, is_open, has_range, met_function, IsMet};
 ghost use Rattle.device.specs.declared.event.Event.{Event};
 ghost use Rattle.device.specs.Act.{is_bad_offset, refusal, act, act_accesses};
-ghost use Rattle.device.specs.Outcome.{IsOf, Holds, bytes_asked, bytes_told, HasCount, issued, reply_of, done_or_refused, value_or_refused, bytes_or_refused};
+ghost use Rattle.device.specs.Replies.{is_sent};
+ghost use Rattle.device.specs.Outcome.{issued, reply_of, done_or_refused, value_or_refused, bytes_or_refused};
 ghost use Rattle.device.specs.Request.{event_of};
 
 use crate::bytes::{MOST_BYTES, MemSlice};
 use crate::event::Request;
 use crate::outcome::{Acted, Outcome};
-use crate::span::Span;
+use crate::read_count::ReadCount;
+use crate::room::Room;
 use guest_memory::GuestMem;
 use irq_causes::Vectors;
 use live_memory::Dma;
@@ -165,21 +167,6 @@ fn passes_end(size: u64, at: u64, count: u64) -> bool
     at > size || count > size - at
 }
 
-// Finds the bytes of the memory that an event reads.
-#[inline]
-#[tactic(auto, unfolding(crate::specs::Act::act))]
-pub(crate) fn find<D: Dma<K>, K>(unit: &VfUnit<D, K>, pool: u8, at: u64, count: u16) -> Outcome
-    ensures function { (act unit.now.function (Event.MemRead pool at count)).function ≡ unit.now.function }
-    ensures reply { (act unit.now.function (Event.MemRead pool at count)).reply ≡ reply_of unit.now.function result }
-    ensures silent { (act unit.now.function (Event.MemRead pool at count)).messages ≡ 0 }
-    ensures own { IsOf pool result }
-{
-    match read_refusal(unit, at, usize::from(count)) {
-        Some(fault) => Outcome::Refused(fault),
-        None => Outcome::Bytes(Span::new(pool, at, count)),
-    }
-}
-
 // Copies bytes of the memory into `out`.
 #[inline]
 #[tactic(auto, unfolding(crate::specs::Act::act))]
@@ -201,38 +188,32 @@ pub(crate) fn mem_read<M: GuestMem>(unit: &VfUnit<M>, at: u64, out: &mut [u8]) -
     }
 }
 
-// Reads bytes of the memory into the first cells of `out`, as many as the event asks for.
+// Reads bytes of the memory into the first cells, as many as the event asks for.
 #[inline]
 #[tactic(auto, unfolding(crate::specs::Act::act, vf_unit::specs::Unit::told_of))]
 pub(crate) fn load<D: Dma<K>, K>(
     unit: &mut VfUnit<D, K>,
-    pool: u8,
     at: u64,
     count: u16,
-    out: &mut [u8],
+    cells: &mut [u8; MOST_BYTES],
 ) -> Outcome
-    requires { bytes_asked (Event.MemRead pool at count) ≤ length out.old }
-    ensures function { unit.new.function
-        ≡ (act (met_function unit.old unit.new)
-        (Event.MemRead pool at count)).function }
-    ensures reply { (act (met_function unit.old unit.new)
-        (Event.MemRead pool at count)).reply ≡ reply_of unit.new.function result }
-    ensures silent { (act (met_function unit.old unit.new)
-        (Event.MemRead pool at count)).messages ≡ 0 }
-    ensures own { IsOf pool result }
-    ensures count { HasCount count result }
-    ensures bytes { Holds out.new unit.new.function result }
-    ensures rest { drop (bytes_told result) out.new ≡ drop (bytes_told result) out.old }
+    ensures function { (p : ℕ) → unit.new.function
+        ≡ (act (met_function unit.old unit.new) (Event.MemRead p at count)).function }
+    ensures reply { (p : ℕ) → (act (met_function unit.old unit.new)
+        (Event.MemRead p at count)).reply ≡ reply_of cells.new result }
+    ensures silent { (p : ℕ) → (act (met_function unit.old unit.new)
+        (Event.MemRead p at count)).messages ≡ 0 }
+    ensures unsent { is_sent result ≡ false }
     ensures size { size_of unit.new.function ≡ size_of unit.old.function }
     ensures met { IsMet D.shared unit.old.function unit.old.accesses unit.new.accesses }
-    ensures listed { unit.new.accesses ≡ unit.old.accesses
-        ++ act_accesses (met_function unit.old unit.new) (Event.MemRead pool at count) }
+    ensures listed { (p : ℕ) → unit.new.accesses ≡ unit.old.accesses
+        ++ act_accesses (met_function unit.old unit.new) (Event.MemRead p at count) }
 {
     match read_refusal(unit, at, usize::from(count)) {
         Some(fault) => Outcome::Refused(fault),
         None => {
-            unit.mem_load(at, &mut out[..usize::from(count)]);
-            Outcome::Bytes(Span::new(pool, at, count))
+            unit.mem_load(at, &mut cells[..usize::from(count)]);
+            Outcome::Bytes(ReadCount::new(count))
         }
     }
 }
@@ -264,23 +245,12 @@ pub(crate) fn mem_write<D: Dma<K>, K>(
     }
 }
 
-/// Fills `out` with bytes of a function's memory from an address on, and with zeros where it is closed or they pass the end
-/// of the memory.
-#[inline]
-#[tactic(auto, using(crate::proofs::Inside::read_over_zeros, crate::proofs::Inside::read_nowhere))]
-pub fn read_or_zero<M: GuestMem>(unit: &VfUnit<M>, at: u64, out: &mut [u8])
-    ensures { out.new ≡ bytes_at unit.now.function at (replicate {A = ℕ} (length out.old) 0) }
-{
-    if !unit.mem_read(at, out) {
-        out.fill(0);
-    }
-}
-
-/// What an event of its own, but for a service, does to a function. Any other event does nothing to it.
-#[tactic(auto, unfolding(crate::specs::Act::act, crate::specs::Act::refusal))]
-pub fn act<D: Dma<K>, K>(unit: &mut VfUnit<D, K>, request: Request<'_>) -> Acted
+/// What an event of its own, but for a service, does to a function. Any other event does nothing to it. Bytes that are read stand in the
+/// room.
+#[tactic(auto, unfolding(crate::specs::Act::act, crate::specs::Act::refusal), using(vf_unit::proofs::Told::met_alone))]
+pub fn act<M: GuestMem>(unit: &mut VfUnit<M>, request: Request<'_>, room: &mut Room) -> Acted
     ensures function { unit.new.function ≡ (act unit.old.function (event_of request.entry)).function }
-    ensures reply { reply_of unit.new.function result.outcome
+    ensures reply { reply_of room.new.bytes result.outcome
         ≡ (act unit.old.function (event_of request.entry)).reply }
     ensures messages { result.vectors ≡ (act unit.old.function (event_of request.entry)).messages }
     ensures size { size_of unit.new.function ≡ size_of unit.old.function }
@@ -300,7 +270,7 @@ pub fn act<D: Dma<K>, K>(unit: &mut VfUnit<D, K>, request: Request<'_>) -> Acted
             },
             Err(fault) => Acted::silent(Outcome::Refused(fault)),
         },
-        Request::MemRead(pool, at, count) => Acted::silent(find(unit, pool, at, count)),
+        Request::MemRead(_, at, count) => Acted::silent(load(unit, at, count, &mut room.bytes)),
         Request::MemWrite(_, at, written) => Acted::done_or_refused(mem_write(unit, at, written)),
         _ => Acted::silent(if unit.is_open() {
             Outcome::Idle

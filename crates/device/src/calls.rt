@@ -1,26 +1,26 @@
 //! The calls by name, one for each kind of event, for who embeds a device.
-ghost use Rattle.std.specs.Prelude.{◌≡◌, ◌<◌, ◌≤◌, ℕ, List, drop, length, replicate, slice_set, Some, None, OnErr, if◌then◌else◌};
+ghost use Rattle.std.specs.Prelude.{◌≡◌, ◌<◌, ◌≤◌, ℕ, List, false, length, slice_set, Some, None, OnErr, if◌then◌else◌};
 ghost use Rattle.irq_causes.specs.Messages.{no_messages};
 ghost use Rattle.vf_unit.specs.Unit.{bytes_at};
 ghost use Rattle.device.specs.declared.event.Event.{Event};
 ghost use Rattle.device.specs.declared.event.Reply.{Reply};
-ghost use Rattle.device.specs.declared.span.Span.{Span};
+ghost use Rattle.device.specs.declared.room.Room.{Room};
 ghost use Rattle.device.specs.World.{silently, function_of, with_function, step, sizes_of};
 ghost use Rattle.device.specs.Accesses.{accesses_by, own_service_accesses};
 ghost use Rattle.device.specs.Live.{told_world, told_service, TakesLive, AreListed, AreMet};
 ghost use Rattle.device.specs.Replies.{is_sent};
 ghost use Rattle.device.specs.Takes.{Takes};
-ghost use Rattle.device.specs.Outcome.{reply_by, done_or_refused, value_or_refused, bytes_or_refused, messages_or_refused, reply_in, bytes_asked, bytes_told, HasCount, HoldsIn};
+ghost use Rattle.device.specs.Outcome.{reply_of, done_or_refused, value_or_refused, bytes_or_refused, messages_or_refused};
 
 use crate::act;
 use crate::act::{PF_SPACE, is_bad_offset};
-use crate::bytes::MemSlice;
+use crate::bytes::{MOST_BYTES, MemSlice};
 use crate::device::Device;
 use crate::outcome::{Acted, Outcome};
 use crate::resets::{clear_resets, read_resets};
 use crate::response::Response;
+use crate::room::Room;
 use crate::service::serve_queue_live;
-use crate::span::Span;
 use crate::switching::end_all;
 use guest_memory::GuestMem;
 use irq_causes::{Messages, Vectors};
@@ -156,61 +156,25 @@ impl<D: Dma<K>, K> Device<D, K> {
         act::mem_write(&mut self.units[index], at, written)
     }
 
-    // Finds the bytes of a guest's memory that an event reads.
+    // Reads bytes of a guest's memory once, into the first cells, where others may write it meanwhile.
     #[inline]
-    pub(crate) fn find(&self, pool: u8, at: u64, count: u16) -> Outcome
-        ensures world { self.now.world ≡ (step self.now.world (Event.MemRead pool at count)).world }
-        ensures answer { silently (reply_in self.now.world result)
-            ≡ (step self.now.world (Event.MemRead pool at count)).answer }
-    {
-        let index = usize::from(pool);
-        if index >= self.units.len() {
-            return Outcome::Refused(Fault::NoSuchVf);
-        }
-        act::find(&self.units[index], pool, at, count)
-    }
-
-    /// Reads bytes of a guest's memory once, into the first cells of `out`, where others may write it meanwhile.
-    /// The other cells stay, and all of them where it is refused. More than 2048 bytes are refused, and else
-    /// `out` has as many cells.
-    #[inline]
-    pub fn mem_read_live<'f>(
+    pub(crate) fn load(
         &mut self,
         pool: u8,
         at: u64,
         count: u16,
-        out: &mut [u8],
-    ) -> Response<'f>
-        requires { bytes_asked (Event.MemRead pool at count) ≤ length out.old }
-        ensures takes { TakesLive D.shared self.old.accesses self.new.accesses
-            self.old.world (Event.MemRead pool at count) self.new.world result }
-        ensures listed { AreListed
-            (accesses_by (told_world self.old.accesses self.new.accesses self.old.world)
-            (Event.MemRead pool at count)) self.old.accesses self.new.accesses }
-        ensures count { HasCount count result.outcome }
-        ensures bytes { HoldsIn out.new self.new.world result.outcome }
-        ensures rest { drop (bytes_told result.outcome) out.new
-            ≡ drop (bytes_told result.outcome) out.old }
-    {
-        Response::silent(self.load(pool, at, count, out))
-    }
-
-    // The same, told as an outcome.
-    #[inline]
-    fn load(&mut self, pool: u8, at: u64, count: u16, out: &mut [u8]) -> Outcome
-        requires { bytes_asked (Event.MemRead pool at count) ≤ length out.old }
+        cells: &mut [u8; MOST_BYTES],
+    ) -> Outcome
         ensures world { self.new.world
             ≡ (step (told_world self.old.accesses self.new.accesses self.old.world)
             (Event.MemRead pool at count)).world }
-        ensures answer { silently (reply_in self.new.world result)
+        ensures answer { silently (reply_of cells.new result)
             ≡ (step (told_world self.old.accesses self.new.accesses self.old.world)
             (Event.MemRead pool at count)).answer }
+        ensures unsent { is_sent result ≡ false }
         ensures listed { AreListed
             (accesses_by (told_world self.old.accesses self.new.accesses self.old.world)
             (Event.MemRead pool at count)) self.old.accesses self.new.accesses }
-        ensures count { HasCount count result }
-        ensures bytes { HoldsIn out.new self.new.world result }
-        ensures rest { drop (bytes_told result) out.new ≡ drop (bytes_told result) out.old }
         ensures met { AreMet D.shared self.old.accesses self.new.accesses self.old.world }
         ensures sizes { sizes_of self.new.world ≡ sizes_of self.old.world }
     {
@@ -218,20 +182,15 @@ impl<D: Dma<K>, K> Device<D, K> {
         if index >= self.units.len() {
             return Outcome::Refused(Fault::NoSuchVf);
         }
-        act::load(&mut self.units[index], pool, at, count, out)
+        act::load(&mut self.units[index], at, count, cells)
     }
 
     /// Takes the descriptor at the head of a transmit queue, as [`serve`](Device::serve) does, where others may write the
     /// memories meanwhile.
     #[inline(never)]
-    pub fn serve_live<'f>(
-        &mut self,
-        pool: u8,
-        queue: Queue,
-        frame: &'f mut FrameBuf,
-    ) -> Response<'f>
+    pub fn serve_live(&mut self, pool: u8, queue: Queue, room: &mut Room) -> Response
         ensures takes { TakesLive D.shared self.old.accesses self.new.accesses
-            self.old.world (Event.Serve pool queue) self.new.world result }
+            self.old.world (Event.Serve pool queue) self.new.world result room.new }
         ensures listed { AreListed
             (accesses_by (told_world self.old.accesses self.new.accesses self.old.world)
             (Event.Serve pool queue)) self.old.accesses self.new.accesses }
@@ -241,43 +200,35 @@ impl<D: Dma<K>, K> Device<D, K> {
             return Response::silent(Outcome::Refused(Fault::NoSuchVf));
         }
         match PoolId::new(pool) {
-            Some(sender) => self.serve_pool(sender, queue, frame),
+            Some(sender) => self.serve_pool(sender, queue, room),
             None => unreachable!(),
         }
     }
 
     // The service of a queue of a function that is there.
-    fn serve_pool<'f>(
-        &mut self,
-        pool: PoolId,
-        queue: Queue,
-        frame: &'f mut FrameBuf,
-    ) -> Response<'f>
+    fn serve_pool(&mut self, pool: PoolId, queue: Queue, room: &mut Room) -> Response
         requires there { pool < length self.old.world.functions }
         ensures takes { TakesLive D.shared self.old.accesses self.new.accesses
-            self.old.world (Event.Serve pool queue) self.new.world result }
+            self.old.world (Event.Serve pool queue) self.new.world result room.new }
         ensures listed { AreListed
             (accesses_by (told_world self.old.accesses self.new.accesses self.old.world)
             (Event.Serve pool queue)) self.old.accesses self.new.accesses }
     {
-        let acted = self.transmit(pool, queue, frame);
+        let acted = self.transmit(pool, queue, &mut room.frame);
         if !acted.outcome.is_sent() {
             return Response {
                 outcome: acted.outcome,
                 messages: Messages::of(pool, acted.vectors),
-                sent: None,
-                left: None,
+                left: false,
             };
         }
-        let frame: &'f FrameBuf = frame;
-        let switched = self.switch(Source::Pool(pool), frame);
+        let switched = self.switch(Source::Pool(pool), &room.frame);
         let mut messages = switched.messages;
         messages.set(pool, acted.vectors);
         Response {
             outcome: acted.outcome,
             messages,
-            sent: Some(frame),
-            left: if switched.left { Some(frame) } else { None },
+            left: switched.left,
         }
     }
 
@@ -288,8 +239,8 @@ impl<D: Dma<K>, K> Device<D, K> {
             ≡ with_function self.old.world pool
             (told_service self.old.accesses self.new.accesses self.old.world pool queue).function }
         ensures sizes { sizes_of self.new.world ≡ sizes_of self.old.world }
-        ensures reply { (bytes : Span → List ℕ)
-            → reply_by bytes result.outcome
+        ensures reply { (cells : List ℕ)
+            → reply_of cells result.outcome
             ≡ (told_service self.old.accesses self.new.accesses self.old.world pool queue).reply }
         ensures messages { result.vectors
             ≡ (told_service self.old.accesses self.new.accesses self.old.world pool queue).messages }
@@ -403,33 +354,16 @@ impl<M: GuestMem> Device<M> {
         act::mem_read(&self.units[index], at, out)
     }
 
-    /// Fills `out` with the bytes from a span's address on. What a closed or a missing function has there is zeros, and so
-    /// are bytes past the end of the memory.
-    #[inline]
-    #[tactic(auto, using(crate::proofs::Inside::read_missing))]
-    pub fn read_span(&self, span: Span, out: &mut [u8])
-        ensures { out.new
-            ≡ bytes_at (function_of span.pool self.now.world) span.at
-            (replicate {A = ℕ} (length out.old) 0) }
-    {
-        let index = usize::from(span.pool());
-        if index < self.units.len() {
-            act::read_or_zero(&self.units[index], span.at(), out);
-        } else {
-            out.fill(0);
-        }
-    }
-
     /// Takes the descriptor at the head of a transmit queue (82599 datasheet, transmit descriptors). A frame that this sends
-    /// is put together in `frame`, and handed out from there; it is switched to the pools that accept it, and to the wire.
+    /// is put together in `room`; it is switched to the pools that accept it, and to the wire.
     ///
     /// The outcome is refused for [`Fault::NoSuchVf`], then for [`Fault::NotOpen`]; else it is idle, more, sent, dropped or
     /// faulted.
     #[inline]
-    pub fn serve<'f>(&mut self, pool: u8, queue: Queue, frame: &'f mut FrameBuf) -> Response<'f>
-        ensures { Takes self.old.world (Event.Serve pool queue) self.new.world result }
+    pub fn serve(&mut self, pool: u8, queue: Queue, room: &mut Room) -> Response
+        ensures { Takes self.old.world (Event.Serve pool queue) self.new.world result room.new }
     {
-        self.serve_live(pool, queue, frame)
+        self.serve_live(pool, queue, room)
     }
 
     /// Takes a frame from the wire, which goes to each pool that accepts it, and else to the default pool; answers with the

@@ -5,7 +5,6 @@ ghost use Rattle.vf_unit.specs.Unit.{Closed, size_of, counts_of, interval_of, by
 ghost use Rattle.device.specs.World.{fresh, fresh_with, is_frame_limit, is_makeable, function_of, place_of};
 
 use crate::profile::Profile;
-use crate::span::Span;
 use crate::unclaimed::Unclaimed;
 use crate::wire_out::WireOut;
 use guest_memory::is_memory_size;

@@ -14,7 +14,8 @@ ghost use Rattle.device.specs.Events.{Event};
 ghost use Rattle.device.specs.Resets.{resets_at};
 ghost use Rattle.device.specs.World.{World, pf_word, fresh, step, answers, world_after};
 ghost use Rattle.device.specs.declared.response.Response.{Response};
-ghost use Rattle.device.specs.Outcome.{answer_in};
+ghost use Rattle.device.specs.declared.room.Room.{Room};
+ghost use Rattle.device.specs.Outcome.{answer_of};
 ghost use Rattle.device.specs.Live.{trace_of, told_world, AreListed, TakesLive};
 ghost use Rattle.device.specs.Accesses.{accesses_by, run_accesses};
 ghost use Rattle.device.specs.Lone.{kept, keep, lone_of, seen_by};
@@ -74,11 +75,11 @@ pub fn without_group_live()
     // its reply and its messages
     ensures seen { (group : ℕ → Bool) (shared : Bool) (p : ℕ)
         (before now other_before other_now : List (List Access)) (old new other : World) (e : Event)
-        (taken : Response) → TakesLive shared before now old e new taken
+        (taken : Response) (room : Room) → TakesLive shared before now old e new taken room
         → p < length old.functions → length old.functions ≤ 64 → group p ≡ false
         → AlikeOutside group old other → AnsweredAlike group before now other_before other_now
         → StaysApart group old.settings (e ∷ [])
-        → seen_by p (e ∷ []) (answer_in new taken ∷ [])
+        → seen_by p (e ∷ []) (answer_of room taken ∷ [])
         ≡ seen_by p (erase group (e ∷ []))
         (answers (told_world other_before other_now other) (erase group (e ∷ []))) }
     // what it reads and writes of the function's memory, in order
@@ -98,7 +99,7 @@ pub fn without_group_live()
     // and the worlds after it
     ensures worlds { (group : ℕ → Bool) (shared : Bool)
         (before now other_before other_now : List (List Access)) (old new other : World) (e : Event)
-        (taken : Response) → TakesLive shared before now old e new taken
+        (taken : Response) (room : Room) → TakesLive shared before now old e new taken room
         → length old.functions ≤ 64
         → AlikeOutside group old other → AnsweredAlike group before now other_before other_now
         → StaysApart group old.settings (e ∷ [])

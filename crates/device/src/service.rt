@@ -1,12 +1,12 @@
 //! The service of a function's transmit queue, by the function's own settings alone.
 ghost use Rattle.std.specs.Prelude.{◌≡◌, ◌++◌, ℕ, List, Some, None, if◌then◌else◌};
 ghost use Rattle.vf_unit.specs.Unit.{size_of, met_function, IsMet};
-ghost use Rattle.device.specs.declared.span.Span.{Span};
 ghost use Rattle.device.specs.Act.{serve, serve_accesses};
 ghost use Rattle.device.specs.Replies.{is_sent};
-ghost use Rattle.device.specs.Outcome.{reply_by};
+ghost use Rattle.device.specs.Outcome.{reply_of};
 
 use crate::outcome::{Acted, Outcome};
+use crate::room::Room;
 use anti_spoof::passes_anti_spoof;
 use guest_memory::GuestMem;
 use live_memory::Dma;
@@ -16,24 +16,24 @@ use vf_unit::{Queue, VfUnit};
 use wire_frame::{Fault, FrameBuf, FrameLimit};
 
 /// Serves a queue of a function, by the function's own settings alone: takes the descriptor at the queue's head (82599
-/// datasheet, transmit descriptors). A frame that is sent is left in `frame`, up to `limit` bytes of it.
+/// datasheet, transmit descriptors). A frame that is sent is left in `room`, up to `limit` bytes of it.
 #[tactic(auto, using(vf_unit::proofs::Told::met_alone))]
 pub fn serve_queue<R: SenderRules, M: GuestMem>(
     rules: &R,
     limit: FrameLimit,
     unit: &mut VfUnit<M>,
     queue: Queue,
-    frame: &mut FrameBuf,
+    room: &mut Room,
 ) -> Acted
     ensures function { unit.new.function ≡ (serve limit (R.rules rules.now) unit.old.function queue).function }
-    ensures reply { (bytes : Span → List ℕ)
-        → reply_by bytes result.outcome ≡ (serve limit (R.rules rules.now) unit.old.function queue).reply }
+    ensures reply { (cells : List ℕ)
+        → reply_of cells result.outcome ≡ (serve limit (R.rules rules.now) unit.old.function queue).reply }
     ensures messages { result.vectors ≡ (serve limit (R.rules rules.now) unit.old.function queue).messages }
     ensures sent { (serve limit (R.rules rules.now) unit.old.function queue).sent
-        ≡ (if is_sent result.outcome then Some frame.new else None) }
+        ≡ (if is_sent result.outcome then Some room.new.frame else None) }
     ensures size { size_of unit.new.function ≡ size_of unit.old.function }
 {
-    serve_queue_live(rules, limit, unit, queue, frame)
+    serve_queue_live(rules, limit, unit, queue, &mut room.frame)
 }
 
 /// Serves a queue of a function, by the function's own settings alone: takes the descriptor at the queue's head (82599
@@ -49,8 +49,8 @@ pub(crate) fn serve_queue_live<R: SenderRules, D: Dma<K>, K>(
 ) -> Acted
     ensures function { unit.new.function ≡ (serve limit (R.rules rules.now)
         (met_function unit.old unit.new) queue).function }
-    ensures reply { (bytes : Span → List ℕ)
-        → reply_by bytes result.outcome ≡ (serve limit (R.rules rules.now)
+    ensures reply { (cells : List ℕ)
+        → reply_of cells result.outcome ≡ (serve limit (R.rules rules.now)
         (met_function unit.old unit.new) queue).reply }
     ensures messages { result.vectors ≡ (serve limit (R.rules rules.now)
         (met_function unit.old unit.new) queue).messages }

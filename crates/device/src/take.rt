@@ -1,21 +1,20 @@
 //! The events that a device takes, one at a time and in a list.
-ghost use Rattle.std.specs.Prelude.{◌≡◌, ℕ, List, false, ◌+◌, ◌<◌, [], ◌∷◌, ◌++◌, drop, length, vec_len, vec_capacity, IfOk, IfErr, OnOk, OnErr};
+ghost use Rattle.std.specs.Prelude.{◌≡◌, ℕ, List, ◌+◌, ◌<◌, [], ◌∷◌, ◌++◌, length, vec_len, vec_capacity, option_copied, IfOk, IfErr, OnOk, OnErr};
 ghost use Rattle.device.specs.declared.event.Event.{Event};
-ghost use Rattle.device.specs.declared.span.Span.{Span};
+ghost use Rattle.device.specs.declared.room.Room.{Room};
 ghost use Rattle.device.specs.World.{step, sent_by, answers, world_after};
 ghost use Rattle.device.specs.Lone.{SeesAsAlone, EndsAsAlone};
-ghost use Rattle.device.specs.Outcome.{reads, reply_by, answer_in, bytes_told, HoldsRead};
+ghost use Rattle.device.specs.Outcome.{answer_of};
 ghost use Rattle.device.specs.Takes.{Takes};
-ghost use Rattle.device.specs.Accesses.{accesses_by, accesses_but_read};
+ghost use Rattle.device.specs.Accesses.{accesses_by};
 ghost use Rattle.device.specs.Live.{told_world, TakesLive, AreListed, AreMet};
 ghost use Rattle.device.specs.Request.{event_of};
 
-use crate::bytes::{MOST_BYTES, MemBytes, MemSlice};
+use crate::bytes::MemSlice;
 use crate::device::Device;
-use crate::event::{Answer, Event, Reply, Request};
-use crate::outcome::Outcome;
+use crate::event::{Answer, Event, Request};
 use crate::response::Response;
-use crate::span::Span;
+use crate::room::Room;
 use guest_memory::GuestMem;
 use irq_causes::Messages;
 use live_memory::Dma;
@@ -25,46 +24,22 @@ use wire_frame::{Fault, FrameBuf, PoolId};
 impl<D: Dma<K>, K> Device<D, K> {
     /// Takes the event that a request stands for, where others may write the memories of the functions meanwhile. It means what
     /// [`take`](Device::take) does in the world in which each function's memory holds what was read from it: as if its guest had
-    /// written just that, right before the event. The memories are accessed just as `accesses_by` lists, in that order.
-    ///
-    /// Bytes that the event reads are read once, into the first cells of `bytes`; else these stay.
+    /// written just that, right before the event. The memories are accessed just as `accesses_by` lists, in that order, and bytes that
+    /// the event reads are read once.
     #[inline]
-    pub fn take_live<'f>(
-        &mut self,
-        request: Request<'_>,
-        frame: &'f mut FrameBuf,
-        bytes: &mut [u8; MOST_BYTES],
-    ) -> Response<'f>
+    pub fn take_live(&mut self, request: Request<'_>, room: &mut Room) -> Response
         ensures takes { TakesLive D.shared self.old.accesses self.new.accesses
-            self.old.world (event_of request.entry) self.new.world result }
+            self.old.world (event_of request.entry) self.new.world result room.new }
         ensures listed { AreListed
             (accesses_by (told_world self.old.accesses self.new.accesses self.old.world)
-            (event_of request.entry)) self.old.accesses self.new.accesses }
-        ensures bytes { HoldsRead bytes.new (event_of request.entry) self.new.world result.outcome }
-        ensures rest { drop (bytes_told result.outcome) bytes.new
-            ≡ drop (bytes_told result.outcome) bytes.old }
-    {
-        match request {
-            Request::MemRead(pool, at, count) => self.mem_read_live(pool, at, count, bytes),
-            _ => self.take_unread(request, frame),
-        }
-    }
-
-    /// The same, for who reads the bytes elsewhere or not at all: none are read, and the outcome tells where they stand.
-    #[inline]
-    pub fn take_unread<'f>(&mut self, request: Request<'_>, frame: &'f mut FrameBuf) -> Response<'f>
-        ensures takes { TakesLive D.shared self.old.accesses self.new.accesses
-            self.old.world (event_of request.entry) self.new.world result }
-        ensures listed { AreListed
-            (accesses_but_read (told_world self.old.accesses self.new.accesses self.old.world)
             (event_of request.entry)) self.old.accesses self.new.accesses }
     {
         match request {
             Request::VfRead(pool, offset) => self.take_vf_read(pool, offset),
             Request::VfWrite(pool, offset, value) => self.take_vf_write(pool, offset, value),
-            Request::MemRead(pool, at, count) => self.take_mem_read(pool, at, count),
+            Request::MemRead(pool, at, count) => self.take_mem_read(pool, at, count, room),
             Request::MemWrite(pool, at, written) => self.take_mem_write(pool, at, written),
-            Request::Serve(pool, queue) => self.serve_live(pool, queue, frame),
+            Request::Serve(pool, queue) => self.serve_live(pool, queue, room),
             Request::Wire(frame) => self.take_wire(frame),
             Request::PfRead(offset) => self.take_pf_read(offset),
             Request::PfWrite(offset, value) => self.take_pf_write(offset, value),
@@ -75,12 +50,12 @@ impl<D: Dma<K>, K> Device<D, K> {
         }
     }
 
-    // The arms of `take_unread`, each a call of its own: what an arm keeps for itself is cleared on its own path alone.
+    // The arms of `take_live`, each a call of its own: what an arm keeps for itself is cleared on its own path alone.
 
     // A read of a function's register.
     #[inline]
-    fn take_vf_read<'f>(&mut self, pool: u8, offset: u32) -> Response<'f>
-        ensures takes { Takes self.old.world (Event.VfRead pool offset) self.new.world result }
+    fn take_vf_read(&mut self, pool: u8, offset: u32) -> Response
+        ensures takes { (room : Room) → Takes self.old.world (Event.VfRead pool offset) self.new.world result room }
         ensures accesses { self.new.accesses ≡ self.old.accesses }
     {
         Response::value_or_refused(self.vf_read(pool, offset))
@@ -88,25 +63,29 @@ impl<D: Dma<K>, K> Device<D, K> {
 
     // A write of a function's register.
     #[inline]
-    fn take_vf_write<'f>(&mut self, pool: u8, offset: u32, value: u32) -> Response<'f>
-        ensures takes { Takes self.old.world (Event.VfWrite pool offset value) self.new.world result }
+    fn take_vf_write(&mut self, pool: u8, offset: u32, value: u32) -> Response
+        ensures takes { (room : Room) → Takes self.old.world (Event.VfWrite pool offset value) self.new.world result room }
         ensures accesses { self.new.accesses ≡ self.old.accesses }
     {
         Response::issued(self.vf_write(pool, offset, value))
     }
 
-    // A read of a function's memory.
+    // A read of a function's memory, into the room.
     #[inline]
-    fn take_mem_read<'f>(&self, pool: u8, at: u64, count: u16) -> Response<'f>
-        ensures { Takes self.now.world (Event.MemRead pool at count) self.now.world result }
+    fn take_mem_read(&mut self, pool: u8, at: u64, count: u16, room: &mut Room) -> Response
+        ensures takes { TakesLive D.shared self.old.accesses self.new.accesses
+            self.old.world (Event.MemRead pool at count) self.new.world result room.new }
+        ensures listed { AreListed
+            (accesses_by (told_world self.old.accesses self.new.accesses self.old.world)
+            (Event.MemRead pool at count)) self.old.accesses self.new.accesses }
     {
-        Response::silent(self.find(pool, at, count))
+        Response::silent(self.load(pool, at, count, &mut room.bytes))
     }
 
     // A write of a function's memory.
     #[inline]
-    fn take_mem_write<'f>(&mut self, pool: u8, at: u64, written: MemSlice<'_>) -> Response<'f>
-        ensures takes { Takes self.old.world (Event.MemWrite pool at written.entry.bytes.now) self.new.world result }
+    fn take_mem_write(&mut self, pool: u8, at: u64, written: MemSlice<'_>) -> Response
+        ensures takes { (room : Room) → Takes self.old.world (Event.MemWrite pool at written.entry.bytes.now) self.new.world result room }
         ensures listed { AreListed
             (accesses_by self.old.world (Event.MemWrite pool at written.entry.bytes.now))
             self.old.accesses self.new.accesses }
@@ -117,9 +96,9 @@ impl<D: Dma<K>, K> Device<D, K> {
 
     // A frame from the wire.
     #[inline]
-    fn take_wire<'f>(&mut self, frame: &FrameBuf) -> Response<'f>
-        ensures takes { TakesLive D.shared self.old.accesses self.new.accesses
-            self.old.world (Event.Wire frame.now) self.new.world result }
+    fn take_wire(&mut self, frame: &FrameBuf) -> Response
+        ensures takes { (room : Room) → TakesLive D.shared self.old.accesses self.new.accesses
+            self.old.world (Event.Wire frame.now) self.new.world result room }
         ensures listed { AreListed
             (accesses_by (told_world self.old.accesses self.new.accesses self.old.world)
             (Event.Wire frame.now)) self.old.accesses self.new.accesses }
@@ -129,16 +108,16 @@ impl<D: Dma<K>, K> Device<D, K> {
 
     // A read of a register of the physical function.
     #[inline]
-    fn take_pf_read<'f>(&self, offset: u32) -> Response<'f>
-        ensures { Takes self.now.world (Event.PfRead offset) self.now.world result }
+    fn take_pf_read(&self, offset: u32) -> Response
+        ensures { (room : Room) → Takes self.now.world (Event.PfRead offset) self.now.world result room }
     {
         Response::value_or_refused(self.pf_read(offset))
     }
 
     // A write of a register of the physical function.
     #[inline]
-    fn take_pf_write<'f>(&mut self, offset: u32, value: u32) -> Response<'f>
-        ensures takes { Takes self.old.world (Event.PfWrite offset value) self.new.world result }
+    fn take_pf_write(&mut self, offset: u32, value: u32) -> Response
+        ensures takes { (room : Room) → Takes self.old.world (Event.PfWrite offset value) self.new.world result room }
         ensures accesses { self.new.accesses ≡ self.old.accesses }
     {
         Response::done_or_refused(self.pf_write(offset, value))
@@ -146,8 +125,8 @@ impl<D: Dma<K>, K> Device<D, K> {
 
     // A function is opened.
     #[inline]
-    fn take_open<'f>(&mut self, pool: u8) -> Response<'f>
-        ensures takes { Takes self.old.world (Event.Open pool) self.new.world result }
+    fn take_open(&mut self, pool: u8) -> Response
+        ensures takes { (room : Room) → Takes self.old.world (Event.Open pool) self.new.world result room }
         ensures listed { AreListed (accesses_by self.old.world (Event.Open pool))
             self.old.accesses self.new.accesses }
         ensures met { AreMet D.shared self.old.accesses self.new.accesses self.old.world }
@@ -157,8 +136,8 @@ impl<D: Dma<K>, K> Device<D, K> {
 
     // A function is closed.
     #[inline]
-    fn take_end<'f>(&mut self, pool: u8) -> Response<'f>
-        ensures takes { Takes self.old.world (Event.End pool) self.new.world result }
+    fn take_end(&mut self, pool: u8) -> Response
+        ensures takes { (room : Room) → Takes self.old.world (Event.End pool) self.new.world result room }
         ensures accesses { self.new.accesses ≡ self.old.accesses }
     {
         Response::done_or_refused(self.end(pool))
@@ -166,8 +145,8 @@ impl<D: Dma<K>, K> Device<D, K> {
 
     // A function is reset.
     #[inline]
-    fn take_flr<'f>(&mut self, pool: u8) -> Response<'f>
-        ensures takes { Takes self.old.world (Event.Flr pool) self.new.world result }
+    fn take_flr(&mut self, pool: u8) -> Response
+        ensures takes { (room : Room) → Takes self.old.world (Event.Flr pool) self.new.world result room }
         ensures accesses { self.new.accesses ≡ self.old.accesses }
     {
         Response::done_or_refused(self.flr(pool))
@@ -175,8 +154,8 @@ impl<D: Dma<K>, K> Device<D, K> {
 
     // The device is reset.
     #[inline]
-    fn take_pf_reset<'f>(&mut self) -> Response<'f>
-        ensures takes { Takes self.old.world Event.PfReset self.new.world result }
+    fn take_pf_reset(&mut self) -> Response
+        ensures takes { (room : Room) → Takes self.old.world Event.PfReset self.new.world result room }
         ensures accesses { self.new.accesses ≡ self.old.accesses }
     {
         self.reset();
@@ -185,58 +164,33 @@ impl<D: Dma<K>, K> Device<D, K> {
 }
 
 impl<M: GuestMem> Device<M> {
-    /// Takes the event that a request stands for, and tells in few words what came of it.
-    ///
-    /// A frame that a service sends is put together in `frame`, and handed out from there. Bytes that are read stand in the
-    /// memory still: the outcome says where, and [`read_span`](Device::read_span) copies them.
+    /// Takes the event that a request stands for, and tells in few words what came of it. A frame that a service sends is put together in
+    /// `room`, and so are bytes that are read.
     ///
     /// ```
     /// let mut memories = Vec::new(rt.alloc());
     /// memories.push(FlatMem::new(rt.alloc(), 65536)?)?;
     /// let mut device = Device::new(rt.alloc(), memories)?;
-    /// let mut frame = FrameBuf::blank();
-    /// device.take(Request::Open(0), &mut frame);
-    /// device.take(Request::MemWrite(0, 8, MemSlice::new(&[7])?), &mut frame);
-    /// let taken = device.take(Request::MemRead(0, 8, 2), &mut frame);
-    /// let Outcome::Bytes(span) = taken.outcome else {
-    ///     return Err("no bytes".into());
-    /// };
-    /// let mut bytes = [1; 2];
-    /// device.read_span(span, &mut bytes);
-    /// assert!(rt; bytes == [7, 0]);
+    /// let mut room = Room::new();
+    /// device.take(Request::Open(0), &mut room);
+    /// device.take(Request::MemWrite(0, 8, MemSlice::new(&[7])?), &mut room);
+    /// let response = device.take(Request::MemRead(0, 8, 2), &mut room);
+    /// assert!(rt; room.read(response.outcome) == [7, 0].as_slice());
     /// ```
     #[inline]
-    pub fn take<'f>(&mut self, request: Request<'_>, frame: &'f mut FrameBuf) -> Response<'f>
-        ensures takes { Takes self.old.world (event_of request.entry) self.new.world result }
-        ensures listed { AreListed (accesses_but_read self.old.world (event_of request.entry))
+    pub fn take(&mut self, request: Request<'_>, room: &mut Room) -> Response
+        ensures takes { Takes self.old.world (event_of request.entry) self.new.world result room.new }
+        ensures listed { AreListed (accesses_by self.old.world (event_of request.entry))
             self.old.accesses self.new.accesses }
         // to each function the event is as if it were alone
         ensures isolated { (p : ℕ) → p < length self.old.world.functions → SeesAsAlone
-            p self.old.world (event_of request.entry ∷ []) (answer_in self.new.world result ∷ []) }
+            p self.old.world (event_of request.entry ∷ []) (answer_of room.new result ∷ []) }
         ensures isolated_state { (p : ℕ) → p < length self.old.world.functions → EndsAsAlone
             p self.old.world (event_of request.entry ∷ []) self.new.world }
     {
         let count = self.functions();
         prove!(count <= usize::from(PoolId::COUNT));
-        self.take_unread(request, frame)
-    }
-
-    /// The answer that a [`Response`] stands for, right after it. It is inlined, so that no answer is made for who looks at
-    /// none.
-    #[inline(always)]
-    pub fn answer(&self, taken: &Response<'_>) -> Answer
-        ensures { result ≡ answer_in self.now.world taken.now }
-    {
-        match taken.outcome {
-            Outcome::Bytes(span) => Answer {
-                reply: Reply::Bytes(MemBytes::read(self, span)),
-                raised: taken.messages.to_masks(),
-            },
-            outcome => Answer {
-                reply: plain_reply(outcome),
-                raised: taken.messages.to_masks(),
-            },
-        }
+        self.take_live(request, room)
     }
 
     /// Takes one event.
@@ -244,9 +198,8 @@ impl<M: GuestMem> Device<M> {
         ensures world { self.new.world ≡ (step self.old.world event.now).world }
         ensures answer { result ≡ (step self.old.world event.now).answer }
     {
-        let mut frame = FrameBuf::blank();
-        let taken = self.take(event.as_request(), &mut frame);
-        self.answer(&taken)
+        let mut room = Room::new();
+        self.take(event.as_request(), &mut room).answer(&room)
     }
 
     /// Takes one event, and gives the frame beside, where it sent one.
@@ -255,13 +208,13 @@ impl<M: GuestMem> Device<M> {
         ensures answer { result.0 ≡ (step self.old.world event.now).answer }
         ensures sent { result.1 ≡ sent_by self.old.world event.now }
     {
-        let mut frame = FrameBuf::blank();
-        let taken = self.take(event.as_request(), &mut frame);
-        let sent = match taken.sent {
+        let mut room = Room::new();
+        let response = self.take(event.as_request(), &mut room);
+        let sent = match room.sent(&response) {
             Some(frame) => Some(frame.copy()),
             None => None,
         };
-        (self.answer(&taken), sent)
+        (response.answer(&room), sent)
     }
 
     /// Takes events in turn, and answers each. [`Fault::NoMemory`] comes before the first step, and leaves the device as it
@@ -283,17 +236,16 @@ impl<M: GuestMem> Device<M> {
         let Ok(mut given) = Vec::with_capacity(alloc, events.len()) else {
             return Err(Fault::NoMemory);
         };
-        let mut frame = FrameBuf::blank();
+        let mut room = Room::new();
         for event in events {
-            self.step_onto(event, &mut frame, &mut given);
+            self.step_onto(event, &mut room, &mut given);
         }
         Ok(given)
     }
 
-    // Takes one event, and adds its answer, for which there is room. An answer is large, and each arm makes it where it is to
-    // stand: one made before the arms meet would be copied.
+    // Takes one event, and adds its answer, for which there is room.
     #[inline]
-    fn step_onto(&mut self, event: &Event, frame: &mut FrameBuf, given: &mut Vec<Answer>)
+    fn step_onto(&mut self, event: &Event, room: &mut Room, given: &mut Vec<Answer>)
         requires { vec_len given.old < vec_capacity given.old }
         ensures world { self.new.world ≡ (step self.old.world event.now).world }
         ensures answer { given.new.items
@@ -301,28 +253,7 @@ impl<M: GuestMem> Device<M> {
         ensures len { vec_len given.new ≡ vec_len given.old + 1 }
         ensures capacity { vec_capacity given.new ≡ vec_capacity given.old }
     {
-        let taken = self.take(event.as_request(), frame);
-        match taken.outcome {
-            Outcome::Bytes(span) => given.push_reserved(Answer {
-                reply: Reply::Bytes(MemBytes::read(self, span)),
-                raised: taken.messages.to_masks(),
-            }),
-            outcome => given.push_reserved(Answer {
-                reply: plain_reply(outcome),
-                raised: taken.messages.to_masks(),
-            }),
-        }
-    }
-}
-
-// The reply that an outcome stands for, where no bytes are read.
-#[inline]
-fn plain_reply(outcome: Outcome) -> Reply
-    requires { reads outcome ≡ false }
-    ensures { (bytes : Span → List ℕ) → result ≡ reply_by bytes outcome }
-{
-    match outcome {
-        Outcome::Refused(fault) => Reply::Refused(fault.number()),
-        other => other.with(MemBytes::new(), 0),
+        let response = self.take(event.as_request(), room);
+        given.push_reserved(response.answer(room));
     }
 }

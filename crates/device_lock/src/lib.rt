@@ -11,5 +11,5 @@
 
 mod locked;
 
-pub use locked::LockedDevice;
-pub use recorder::{CALLERS, Caller, Full, Recorded, Share, Shares, Tally, answer_of};
+pub use locked::{LockedDevice, WhenFull};
+pub use recorder::{CALLERS, Caller, Full, Recorded, Share, Shares, Tally};

@@ -1,28 +1,37 @@
 //! A recorded device that threads share.
-ghost use Rattle.std.specs.Prelude.{◌≡◌, ◌≢◌, ℕ, ◌+◌, ◌≤◌, ◌^◌, List, true, IsTrue, ◌↔◌, IfOk, IfErr, OnOk, OnErr, IfSome, IfNone, length, take, drop, sum, option_copied};
+ghost use Rattle.std.specs.Prelude.{◌≡◌, ◌≢◌, ℕ, ◌+◌, ◌≤◌, ◌^◌, List, true, IsTrue, ◌↔◌, IfOk, IfErr, OnOk, OnErr, IfSome, IfNone, length, sum};
 ghost use Rattle.std.specs.List.{sum_by};
 ghost use Rattle.device.specs.Request.{event_of};
-ghost use Rattle.device.specs.World.{World, step, sent_by, world_after, answers};
-ghost use Rattle.device.specs.Outcome.{left_by, bytes_asked, bytes_told};
+ghost use Rattle.device.specs.World.{world_after, answers};
+ghost use Rattle.device.specs.Outcome.{answer_of};
 ghost use Rattle.history.specs.Entries.{Entry, events, given};
-ghost use Rattle.device_lock.specs.Answers.{MayAnswer};
+ghost use Rattle.device_lock.specs.Answers.{MayAnswer, MayRespond};
 ghost use Rattle.device_lock.specs.Rest.{IsAtRest};
 ghost use Rattle.recorder.specs.Callers.{may};
 ghost use Rattle.recorder.specs.Held.{having_asked, count_of};
-ghost use Rattle.recorder.specs.Read.{answer_with};
 
-use device::{Answer, Device, Event, Request, Response};
+use device::{Answer, Device, Event, Request, Response, Room};
 use guest_memory::GuestMem;
 use recorder::{Full, Recorded, Share, Tally};
 use std::alloc::Global;
 use std::sync::ledger::Ledger;
 use std::sync::{Arc, Mutex, MutexGuard, Wait};
 use std::thread::yield_now;
-use wire_frame::{Fault, FrameBuf};
+use wire_frame::Fault;
 
 // How often a caller that finds the lock taken lets another thread run before it sleeps. A call under the lock takes far less time than
 // a sleep and a wake.
 const YIELDS: u32 = 100;
+
+/// What comes of a call where no more calls can be kept.
+#[derive(Clone, Copy, Debug, PartialEq, Eq)]
+pub enum WhenFull {
+    /// It is not made, and nothing is done.
+    Refuse,
+    /// The calls that are kept are folded away first, as [`Recorded::make_room`] does, and then it is made. Both are done while nobody
+    /// else is inside, so nobody fills the room in between. Only where they can't be folded away, it is not made.
+    Fold,
+}
 
 /// A recorded device that threads share: one call at a time is inside, and the others wait. Whenever nobody is inside, the
 /// law of [`Recorded::agrees`] holds.
@@ -79,69 +88,31 @@ impl<M: GuestMem, L: Ledger> LockedDevice<M, L> {
         self.enter(rt).record(share, event)
     }
 
-    /// One [`Recorded::record_read`] under the lock: what an event's [`LockedDevice::act`] answers, in few words, with the
-    /// bytes that were read at the front of `read`. The share has the call from then on, with that answer.
+    /// One [`Recorded::record_request`] under the lock: what an event's [`LockedDevice::act`] answers, in few words, with what it reads
+    /// and sends in the room. The share has just the one call more, and its answer is the one that was kept.
+    ///
+    /// Where no more calls can be kept, `when_full` says what comes of it. None where the call was not made.
     #[inline]
-    pub fn act_request<'f, R: Wait>(
+    pub fn act_request<R: Wait>(
         &self,
         rt: &R,
         share: &mut Share<L>,
         request: Request<'_>,
-        frame: &'f mut FrameBuf,
-        read: &mut [u8],
-    ) -> Option<Response<'f>>
+        room: &mut Room,
+        when_full: WhenFull,
+    ) -> Option<Response>
         requires may { may share.old.caller (event_of request) ≡ true }
-        requires room { bytes_asked (event_of request) ≤ length read.old }
-        ensures answer { IfSome result (λ taken. (w : World)
-            × (answer_with (take (bytes_told taken.outcome) read.new) taken
-            ≡ (step w (event_of request.entry)).answer)
-            × (option_copied taken.sent ≡ sent_by w (event_of request.entry))
-            × (option_copied taken.left ≡ left_by w (event_of request.entry))) }
-        ensures told { IfSome result (λ taken. bytes_told taken.outcome ≤ length read.new) }
-        ensures rest { IfSome result
-            (λ taken. drop (bytes_told taken.outcome) read.new
-            ≡ drop (bytes_told taken.outcome) read.old) }
-        ensures counted { IfSome result (λ taken.
-            share.new ≡ having_asked (event_of request.entry)
-            (answer_with (take (bytes_told taken.outcome) read.new) taken) share.old) }
-        ensures unchanged { IfNone result ((share.new ≡ share.old) × (read.new ≡ read.old)) }
-    {
-        self.enter(rt).record_read(share, request, frame, read)
-    }
-
-    /// The same, and where no more calls can be kept, those that are kept are folded away first, as [`Recorded::make_room`]
-    /// does. Both are done while nobody else is inside, so nobody fills the room in between. None where they can't be folded
-    /// away. The share has just the one call, and the answer is the one that was kept.
-    #[inline]
-    pub fn act_folding<'f, R: Wait>(
-        &self,
-        rt: &R,
-        share: &mut Share<L>,
-        request: Request<'_>,
-        frame: &'f mut FrameBuf,
-        read: &mut [u8],
-    ) -> Option<Response<'f>>
-        requires may { may share.old.caller (event_of request) ≡ true }
-        requires room { bytes_asked (event_of request) ≤ length read.old }
-        ensures answer { IfSome result (λ taken. (w : World)
-            × (answer_with (take (bytes_told taken.outcome) read.new) taken
-            ≡ (step w (event_of request.entry)).answer)
-            × (option_copied taken.sent ≡ sent_by w (event_of request.entry))
-            × (option_copied taken.left ≡ left_by w (event_of request.entry))) }
-        ensures told { IfSome result (λ taken. bytes_told taken.outcome ≤ length read.new) }
-        ensures rest { IfSome result
-            (λ taken. drop (bytes_told taken.outcome) read.new
-            ≡ drop (bytes_told taken.outcome) read.old) }
-        ensures counted { IfSome result (λ taken.
-            share.new ≡ having_asked (event_of request.entry)
-            (answer_with (take (bytes_told taken.outcome) read.new) taken) share.old) }
-        ensures unchanged { IfNone result ((share.new ≡ share.old) × (read.new ≡ read.old)) }
+        ensures answer { IfSome result
+            (λ response. MayRespond (event_of request.entry) response room.new) }
+        ensures counted { IfSome result (λ response.
+            share.new ≡ having_asked (event_of request.entry) (answer_of room.new response) share.old) }
+        ensures unchanged { IfNone result ((share.new ≡ share.old) × (room.new ≡ room.old)) }
     {
         let mut inner = self.enter(rt);
-        if !inner.make_room() {
+        if when_full == WhenFull::Fold && !inner.make_room() {
             return None;
         }
-        inner.record_read(share, request, frame, read)
+        inner.record_request(share, request, room)
     }
 
     /// One [`Recorded::gather`] under the lock.

@@ -1,9 +1,9 @@
 //! The examples of the documentation of device and history, which docs/check compares with these.
-use device::{Device, MemSlice, Outcome, Request};
+use device::{Device, MemSlice, Request, Room};
 use guest_memory::FlatMem;
 use history::{Caller, History};
 use std::test::Fail;
-use wire_frame::{Fault, FrameBuf};
+use wire_frame::Fault;
 
 #[test]
 fn example_of_device_new(rt: HostRuntime) -> Result<(), Fail> {
@@ -21,16 +21,11 @@ fn example_of_device_take(rt: HostRuntime) -> Result<(), Fail> {
     let mut memories = Vec::new(rt.alloc());
     memories.push(FlatMem::new(rt.alloc(), 65536)?)?;
     let mut device = Device::new(rt.alloc(), memories)?;
-    let mut frame = FrameBuf::blank();
-    device.take(Request::Open(0), &mut frame);
-    device.take(Request::MemWrite(0, 8, MemSlice::new(&[7])?), &mut frame);
-    let taken = device.take(Request::MemRead(0, 8, 2), &mut frame);
-    let Outcome::Bytes(span) = taken.outcome else {
-        return Err("no bytes".into());
-    };
-    let mut bytes = [1; 2];
-    device.read_span(span, &mut bytes);
-    assert!(rt; bytes == [7, 0]);
+    let mut room = Room::new();
+    device.take(Request::Open(0), &mut room);
+    device.take(Request::MemWrite(0, 8, MemSlice::new(&[7])?), &mut room);
+    let response = device.take(Request::MemRead(0, 8, 2), &mut room);
+    assert!(rt; room.read(response.outcome) == [7, 0].as_slice());
     Ok(())
 }
 
@@ -40,9 +35,9 @@ fn example_of_history_new(rt: HostRuntime) -> Result<(), Fail> {
     memories.push(FlatMem::new(rt.alloc(), 4096)?)?;
     let mut device = Device::new(rt.alloc(), memories)?;
     let mut history = History::new(rt.alloc(), 16)?;
-    let mut frame = FrameBuf::blank();
+    let mut room = Room::new();
     assert!(rt; !history.is_full());
-    history.record(Caller::Service, Request::Open(0), &mut device, &mut frame);
+    history.record(Caller::Service, Request::Open(0), &mut device, &mut room);
     assert!(rt; history.len() == 1);
     assert!(rt; history.caller(0) == Caller::Service);
     Ok(())

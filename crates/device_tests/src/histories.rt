@@ -1,8 +1,8 @@
 //! Values from outside: calls as a host would make them, and what a second device answers.
-use device::{Device, MemSlice, Queue, Request, Response};
+use device::{Device, MemSlice, Queue, Request, Response, Room};
 use guest_memory::{FlatMem, GuestMem};
 use history::head::Head;
-use history::{Caller, History, Room};
+use history::{Caller, History, Replay};
 use script_support::registers::{
     ADVANCED, ENABLE, RDBAL0, RDLEN0, RDT0, ROUTES, RXDCTL0, SRRCTL0, VTEIMS, VTIVAR,
 };
@@ -43,26 +43,26 @@ fn port_of(pool: u8) -> Caller {
 }
 
 // One more call, for which there is room.
-fn keep<'f, R: Abort, M: GuestMem>(
+fn keep<R: Abort, M: GuestMem>(
     rt: &R,
     history: &mut History,
     device: &mut Device<M>,
     caller: Caller,
     request: Request<'_>,
-    frame: &'f mut FrameBuf,
-) -> Response<'f> {
+    room: &mut Room,
+) -> Response {
     assert!(rt; !history.is_full());
-    history.record(caller, request, device, frame)
+    history.record(caller, request, device, room)
 }
 
 // The first entry that the device does not give as it steps through them.
 fn first_other<M: GuestMem>(
     history: &History,
     device: &mut Device<M>,
-    room: &mut Room,
+    replay: &mut Replay,
 ) -> Option<usize> {
     for index in 0..history.len() {
-        if !history.gives(index, device, room) {
+        if !history.gives(index, device, replay) {
             return Some(index);
         }
     }

@@ -1,9 +1,10 @@
 //! Values from outside: what events leave for a pool, and what a function by itself makes of it.
 use crate::compare::{assert_equal, assert_equal_at};
-use device::{Device, MemSlice, Outcome, Queue, Request, Span};
+use device::{Device, MemSlice, Outcome, Queue, Request, Room};
 use guest_memory::FlatMem;
+use irq_causes::Vectors;
 use lone::follow::follow;
-use lone::{Given, Lone, PoolView, Room, Seen};
+use lone::{Given, Handover, Lone, PoolView, Seen};
 use pool_filter::{Own, Tables};
 use script_support::registers::{
     ADVANCED, ENABLE, MPSAR, PF_VT_CTL, PFDTXGSWC, PFVFRE, PFVFTE, RAH, RAL, RDBAL0, RDLEN0, RDT0,
@@ -92,8 +93,8 @@ fn kind_of(given: Option<Given<'_>>) -> Kind {
 }
 
 // Whether a frame from the wire is left for the pool, as it is and as one of the wire.
-fn is_offered(watch: &mut PoolView<FlatMem>, frame: &FrameBuf, room: &mut Room) -> bool {
-    match watch.step(Request::Wire(frame), room) {
+fn is_offered(watch: &mut PoolView<FlatMem>, frame: &FrameBuf, handover: &mut Handover) -> bool {
+    match watch.step(Request::Wire(frame), handover) {
         Some(Given::Offer(given, false)) => given.bytes() == frame.bytes(),
         _ => false,
     }
@@ -108,37 +109,32 @@ fn messages(seen: &Option<Seen>) -> Option<u8> {
     }
 }
 
-// Where the bytes lie that were read, where bytes were.
-fn span_of(seen: &Option<Seen>) -> Option<Span> {
+// The bytes that were read, where bytes were.
+fn read_of<'a>(seen: &Option<Seen>, room: &'a Room) -> Option<&'a [u8]> {
     match seen {
-        Some(Seen::Replied(Outcome::Bytes(span), _)) => Some(*span),
+        Some(Seen::Replied(outcome, _)) => Some(room.read(*outcome)),
         _ => None,
     }
 }
 
 // An event of the function's own that is done, without messages.
-fn does<R: Abort>(rt: &R, lone: &mut Lone<FlatMem>, request: Request<'_>) {
-    assert_equal(rt, messages(&lone.take(Given::OwnEvent(request))), Some(0));
+fn does<R: Abort>(rt: &R, lone: &mut Lone<FlatMem>, request: Request<'_>, room: &mut Room) {
+    let seen = lone.take(Given::OwnEvent(request), room);
+    assert_equal(rt, messages(&seen), Some(0));
 }
 
 // The function is open, has its rings, and a descriptor that sends a frame of 60 bytes.
-fn set_up<R: Abort>(rt: &R, lone: &mut Lone<FlatMem>) -> Result<(), Fail> {
-    does(rt, lone, Request::Open(0));
+fn set_up<R: Abort>(rt: &R, lone: &mut Lone<FlatMem>, room: &mut Room) -> Result<(), Fail> {
+    does(rt, lone, Request::Open(0), room);
     for (offset, value) in RINGS {
-        does(rt, lone, Request::VfWrite(0, offset, value));
+        does(rt, lone, Request::VfWrite(0, offset, value), room);
     }
     let frame = frame_to(0x11)?;
-    does(
-        rt,
-        lone,
-        Request::MemWrite(0, 0x6000, MemSlice::new(frame.bytes())?),
-    );
-    does(
-        rt,
-        lone,
-        Request::MemWrite(0, 0x2000, MemSlice::new(&DESCRIPTOR)?),
-    );
-    does(rt, lone, Request::VfWrite(0, TDT0, 1));
+    for (at, bytes) in [(0x6000, frame.bytes()), (0x2000, DESCRIPTOR.as_slice())] {
+        let written = Request::MemWrite(0, at, MemSlice::new(bytes)?);
+        does(rt, lone, written, room);
+    }
+    does(rt, lone, Request::VfWrite(0, TDT0, 1), room);
     Ok(())
 }
 
@@ -155,7 +151,7 @@ fn both_ways(own: &mut Own) -> Result<(), Fail> {
 #[test]
 fn settings_that_differ_are_left(rt: HostRuntime) -> Result<(), Fail> {
     let mut watch = watch_pair(rt.alloc())?;
-    let mut room = Room::new();
+    let mut handover = Handover::new();
     for ((offset, value), left) in SETTINGS.into_iter().zip(LEFT) {
         let request = Request::PfWrite(offset, value);
         let want = if left {
@@ -163,10 +159,15 @@ fn settings_that_differ_are_left(rt: HostRuntime) -> Result<(), Fail> {
         } else {
             Kind::Nothing
         };
-        assert_equal_at(&rt, kind_of(watch.step(request, &mut room)), want, offset);
         assert_equal_at(
             &rt,
-            kind_of(watch.step(request, &mut room)),
+            kind_of(watch.step(request, &mut handover)),
+            want,
+            offset,
+        );
+        assert_equal_at(
+            &rt,
+            kind_of(watch.step(request, &mut handover)),
             Kind::Nothing,
             offset,
         );
@@ -177,7 +178,7 @@ fn settings_that_differ_are_left(rt: HostRuntime) -> Result<(), Fail> {
         (Request::PfReset, Kind::Gone),
         (Request::PfReset, Kind::Gone),
     ] {
-        assert_equal(&rt, kind_of(watch.step(request, &mut room)), kind);
+        assert_equal(&rt, kind_of(watch.step(request, &mut handover)), kind);
     }
     Ok(())
 }
@@ -186,15 +187,15 @@ fn settings_that_differ_are_left(rt: HostRuntime) -> Result<(), Fail> {
 #[test]
 fn settings_are_those_after_the_write(rt: HostRuntime) -> Result<(), Fail> {
     let mut watch = watch_pair(rt.alloc())?;
-    let mut room = Room::new();
-    match watch.step(Request::PfWrite(PFVFTE, 1), &mut room) {
+    let mut handover = Handover::new();
+    match watch.step(Request::PfWrite(PFVFTE, 1), &mut handover) {
         Some(Given::NewSettings(own)) => {
             assert!(rt; own.may_transmit());
             assert!(rt; !own.may_receive());
         }
         _ => assert!(rt; false),
     }
-    match watch.step(Request::PfWrite(PFVFTE, 2), &mut room) {
+    match watch.step(Request::PfWrite(PFVFTE, 2), &mut handover) {
         Some(Given::NewSettings(own)) => assert!(rt; !own.may_transmit()),
         _ => assert!(rt; false),
     }
@@ -205,9 +206,9 @@ fn settings_are_those_after_the_write(rt: HostRuntime) -> Result<(), Fail> {
 #[test]
 fn own_events_and_frames_are_left(rt: HostRuntime) -> Result<(), Fail> {
     let mut watch = watch_pair(rt.alloc())?;
-    let mut room = Room::new();
+    let mut handover = Handover::new();
     for (offset, value) in SETTINGS {
-        watch.step(Request::PfWrite(offset, value), &mut room);
+        watch.step(Request::PfWrite(offset, value), &mut handover);
     }
     for (request, kind) in [
         (Request::Flr(0), Kind::OwnEvent),
@@ -217,20 +218,20 @@ fn own_events_and_frames_are_left(rt: HostRuntime) -> Result<(), Fail> {
         (Request::Open(64), Kind::Nothing),
         (Request::Serve(1, Queue::Q0), Kind::Nothing),
     ] {
-        assert_equal(&rt, kind_of(watch.step(request, &mut room)), kind);
+        assert_equal(&rt, kind_of(watch.step(request, &mut handover)), kind);
     }
     let (mine, others, nobodys) = (frame_to(0x10)?, frame_to(0x11)?, frame_to(0x12)?);
-    assert!(rt; is_offered(&mut watch, &mine, &mut room));
-    assert!(rt; !is_offered(&mut watch, &others, &mut room));
-    assert!(rt; !is_offered(&mut watch, &nobodys, &mut room));
+    assert!(rt; is_offered(&mut watch, &mine, &mut handover));
+    assert!(rt; !is_offered(&mut watch, &others, &mut handover));
+    assert!(rt; !is_offered(&mut watch, &nobodys, &mut handover));
     // and as default pool it gets the last of them
     let default_pool = Request::PfWrite(PF_VT_CTL, 0);
     assert_equal(
         &rt,
-        kind_of(watch.step(default_pool, &mut room)),
+        kind_of(watch.step(default_pool, &mut handover)),
         Kind::Nothing,
     );
-    assert!(rt; is_offered(&mut watch, &nobodys, &mut room));
+    assert!(rt; is_offered(&mut watch, &nobodys, &mut handover));
     Ok(())
 }
 
@@ -238,113 +239,108 @@ fn own_events_and_frames_are_left(rt: HostRuntime) -> Result<(), Fail> {
 #[test]
 fn a_function_by_itself(rt: HostRuntime) -> Result<(), Fail> {
     let mut lone = alone(rt.alloc())?;
+    let mut room = Room::new();
     let mut own = Own::none();
     both_ways(&mut own)?;
     let serve = Given::OwnEvent(Request::Serve(0, Queue::Q0));
     let frame = frame_to(0x10)?;
-    assert_equal(&rt, messages(&lone.take(serve)), None);
-    set_up(&rt, &mut lone)?;
+    assert_equal(&rt, messages(&lone.take(serve, &mut room)), None);
+    set_up(&rt, &mut lone, &mut room)?;
     // without settings it may neither send nor receive
-    assert_equal(&rt, messages(&lone.take(serve)), None);
-    assert!(rt; lone.take(Given::Offer(&frame, false)).is_none());
-    assert!(rt; lone.take(Given::NewSettings(&own)).is_none());
-    assert_equal(&rt, messages(&lone.take(serve)), Some(2));
+    assert_equal(&rt, messages(&lone.take(serve, &mut room)), None);
+    assert!(rt; lone.take(Given::Offer(&frame, false), &mut room).is_none());
+    assert!(rt; lone.take(Given::NewSettings(&own), &mut room).is_none());
+    assert_equal(&rt, messages(&lone.take(serve, &mut room)), Some(2));
     assert_equal(
         &rt,
-        messages(&lone.take(Given::Offer(&frame, true))),
+        messages(&lone.take(Given::Offer(&frame, true), &mut room)),
         Some(1),
     );
     // there is one buffer, so a second frame has no room
-    assert!(rt; lone.take(Given::Offer(&frame, true)).is_none());
-    assert!(rt; lone.take(Given::Gone).is_none());
-    set_up(&rt, &mut lone)?;
-    assert_equal(&rt, messages(&lone.take(serve)), None);
-    assert!(rt; lone.take(Given::Offer(&frame, false)).is_none());
+    assert!(rt; lone.take(Given::Offer(&frame, true), &mut room).is_none());
+    assert!(rt; lone.take(Given::Gone, &mut room).is_none());
+    set_up(&rt, &mut lone, &mut room)?;
+    assert_equal(&rt, messages(&lone.take(serve, &mut room)), None);
+    assert!(rt; lone.take(Given::Offer(&frame, false), &mut room).is_none());
     Ok(())
 }
 
-// An event of function 1 on the device: nothing is seen of function 0.
-fn unseen<R: Abort>(
-    rt: &R,
-    watch: &mut PoolView<FlatMem>,
-    lone: &mut Lone<FlatMem>,
-    request: Request<'_>,
-    room: &mut Room,
-) {
-    assert!(rt; follow(watch, lone, request, room).is_none());
+// A watched device, and function 0 of it by itself.
+#[derive(Drop)]
+struct Followed {
+    watch: PoolView<FlatMem>,
+    lone: Lone<FlatMem>,
+    handover: Handover,
+    room: Room,
+}
+
+impl Followed {
+    fn new(alloc: Global) -> Result<Followed, Fail> {
+        Ok(Followed {
+            watch: watch_pair(alloc)?,
+            lone: alone(alloc)?,
+            handover: Handover::default(),
+            room: Room::new(),
+        })
+    }
+
+    // What is seen of the function by itself in an event of the device.
+    fn see(&mut self, request: Request<'_>) -> Option<Seen> {
+        let Followed {
+            watch,
+            lone,
+            handover,
+            room,
+        } = self;
+        follow(watch, lone, request, handover, room)
+    }
+}
+
+// What is seen of function 0 where a function has done something without messages.
+fn done_by(pool: u8) -> Option<Seen> {
+    if pool == 0 {
+        Some(Seen::Replied(Outcome::Done, Vectors::none()))
+    } else {
+        None
+    }
+}
+
+// Both functions get their rings.
+fn open_both<R: Abort>(rt: &R, followed: &mut Followed) {
+    for (offset, value) in SETTINGS {
+        let seen = followed.see(Request::PfWrite(offset, value));
+        assert_equal_at(rt, seen, None, offset);
+    }
+    for pool in [1, 0] {
+        let seen = followed.see(Request::Open(pool));
+        assert_equal_at(rt, seen, done_by(pool), pool);
+        for (offset, value) in RINGS {
+            let seen = followed.see(Request::VfWrite(pool, offset, value));
+            assert_equal_at(rt, seen, done_by(pool), offset);
+        }
+    }
 }
 
 /// A frame of function 1 reaches the function by itself, which reads the write-back with the loopback bit.
 #[test]
 fn a_frame_of_another_function(rt: HostRuntime) -> Result<(), Fail> {
-    let mut watch = watch_pair(rt.alloc())?;
-    let mut lone = alone(rt.alloc())?;
-    let mut room = Room::default();
-    for (offset, value) in SETTINGS {
-        unseen(
-            &rt,
-            &mut watch,
-            &mut lone,
-            Request::PfWrite(offset, value),
-            &mut room,
-        );
-    }
-    unseen(&rt, &mut watch, &mut lone, Request::Open(1), &mut room);
-    for (offset, value) in RINGS {
-        unseen(
-            &rt,
-            &mut watch,
-            &mut lone,
-            Request::VfWrite(1, offset, value),
-            &mut room,
-        );
-    }
-    let seen = follow(&mut watch, &mut lone, Request::Open(0), &mut room);
-    assert_equal(&rt, messages(&seen), Some(0));
-    for (offset, value) in RINGS {
-        let seen = follow(
-            &mut watch,
-            &mut lone,
-            Request::VfWrite(0, offset, value),
-            &mut room,
-        );
-        assert_equal_at(&rt, messages(&seen), Some(0), offset);
-    }
+    let mut followed = Followed::new(rt.alloc())?;
+    open_both(&rt, &mut followed);
     let frame = frame_to(0x10)?;
     for (at, bytes) in [(0x6000, frame.bytes()), (0x2000, DESCRIPTOR.as_slice())] {
-        let written = MemSlice::new(bytes)?;
-        unseen(
-            &rt,
-            &mut watch,
-            &mut lone,
-            Request::MemWrite(1, at, written),
-            &mut room,
-        );
+        let written = Request::MemWrite(1, at, MemSlice::new(bytes)?);
+        assert_equal_at(&rt, followed.see(written), None, at);
     }
-    unseen(
-        &rt,
-        &mut watch,
-        &mut lone,
-        Request::VfWrite(1, TDT0, 1),
-        &mut room,
-    );
-    let seen = follow(
-        &mut watch,
-        &mut lone,
-        Request::Serve(1, Queue::Q0),
-        &mut room,
-    );
-    assert_equal(&rt, messages(&seen), Some(1));
+    let told = Some(Seen::Interrupted(Vectors::from_bits(1)));
+    for (request, due) in [
+        (Request::VfWrite(1, TDT0, 1), None),
+        (Request::Serve(1, Queue::Q0), told),
+    ] {
+        assert_equal(&rt, followed.see(request), due);
+    }
     let written_back = [0, 0, 0, 0, 0, 0, 0, 0, 3, 0, 4, 0, 60, 0, 0, 0];
-    let seen = follow(
-        &mut watch,
-        &mut lone,
-        Request::MemRead(0, 0x1000, 16),
-        &mut room,
-    );
-    let span = span_of(&seen).ok_or("no bytes")?;
-    let mut bytes = [9; 16];
-    lone.read_span(span, &mut bytes);
-    assert_equal(&rt, bytes, written_back);
+    let seen = followed.see(Request::MemRead(0, 0x1000, 16));
+    let read = read_of(&seen, &followed.room);
+    assert_equal(&rt, read, Some(written_back.as_slice()));
     Ok(())
 }

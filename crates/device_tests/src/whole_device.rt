@@ -17,6 +17,7 @@ mod frames;
 mod losses;
 mod making;
 mod registers;
+mod rooms;
 mod slots;
 
 // Registers of the physical function, and what they are written: function 3 has an address and may receive and send.

@@ -1,9 +1,8 @@
 -- What a device replies to a port's events: what was asked for, or a refusal that is not of a full history.
-use Rattle.std.proofs.Common.{arith, ◌≡◌, ◌+◌, ◌-◌, ◌≤◌, ℕ, Bool, true, false, List, [], Option, Some, None, length, take, drop, length-drop, replicate, refl, sym, ap, ◌∙◌, subst}
+use Rattle.std.proofs.Common.{arith, ◌≡◌, ◌+◌, ◌-◌, ◌≤◌, ℕ, Bool, true, false, List, Option, Some, None, length, drop, length-drop, replicate, refl, sym, ap, ◌∙◌, subst}
 use Rattle.std.specs.Prelude.{not, ◌&&◌, if◌then◌else◌, nat_le, slice_range}
 use Rattle.std.proofs.lemmas.Bool.{leb-true}
-use Rattle.std.proofs.lemmas.Int.{clamps}
-use Rattle.std.proofs.lemmas.List.{length-replicate, length-take, length-take-le, take_all}
+use Rattle.std.proofs.lemmas.List.{length-replicate, length-take-le}
 use Rattle.wire_frame.specs.Fault.{number_of}
 use Rattle.wire_frame.specs.declared.fault.Fault.{Fault}
 use Rattle.wire_frame.specs.declared.fault.Fault.TheVariants.{NoSuchVf, NotOpen, BadOffset, BadRange, TooLong, AlreadyOpen}
@@ -12,9 +11,7 @@ use Rattle.device.specs.Events.{Event}
 use Rattle.device.specs.declared.event.Event.TheVariants.{VfRead, VfWrite, MemRead, MemWrite, Flr}
 use Rattle.device.specs.declared.event.Answer.{Answer}
 use Rattle.device.specs.Replies.{Reply, is_done}
-use Rattle.device.specs.declared.event.Reply.TheVariants.{Done, Value, Bytes, Idle, More, Sent, Dropped, Faulted, Refused}
-use Rattle.device.specs.Outcome.{Outcome, reply_by}
-use Rattle.device.specs.declared.span.Span.{Span}
+use Rattle.device.specs.declared.event.Reply.TheVariants.{Refused}
 use Rattle.device.specs.Act.{opens, names_bad_offset, is_too_long, passes_end, performed, unless_refused, refusal, act}
 use Rattle.device.specs.World.{World, Stepped, step, function_of, own_step, flagged}
 use Rattle.guest_port.specs.Calls.{CallingPort, HasCalled, IsRefusal, IsDone, IsValue, IsRead}
@@ -86,35 +83,18 @@ length_of_read (Open s) at had = in_range _ refl
 
 -- ---- what comes of a port's events
 
--- an outcome without bytes is one whatever bytes it would name
-unread : (P : Reply → Type 0) → ((bytes : List ℕ) → P (Bytes bytes) → P (Bytes [])) → (o : Outcome) (f : Span → List ℕ)
-    → P (reply_by f o) → P (reply_by (λ span. []) o)
-unread P none Done f is = is
-unread P none (Value x) f is = is
-unread P none (Bytes span) f is = none (f span) is
-unread P none Idle f is = is
-unread P none More f is = is
-unread P none Sent f is = is
-unread P none Dropped f is = is
-unread P none Faulted f is = is
-unread P none (Refused fault) f is = is
+pub value_told : (r : Reply) (p offset : ℕ) → MayReply (VfRead p offset) r → IsValue r
+value_told r p offset (w, is) = subst IsValue (sym is) (own_replies IsValue w p (VfRead p offset) (λ n named. named) tt)
 
-pub value_told : (o : Outcome) (f : Span → List ℕ) (p offset : ℕ) → MayReply (VfRead p offset) (reply_by f o) → IsValue (reply_by (λ span. []) o)
-value_told o f p offset (w, is) =
-    unread IsValue (λ bytes none. none) o f (subst IsValue (sym is) (own_replies IsValue w p (VfRead p offset) (λ n named. named) tt))
+pub write_told : (r : Reply) (p offset x : ℕ) → MayReply (VfWrite p offset x) r → IsDone r
+write_told r p offset x (w, is) = subst IsDone (sym is) (own_replies IsDone w p (VfWrite p offset x) (λ n named. named) tt)
 
-pub write_told : (o : Outcome) (f : Span → List ℕ) (p offset x : ℕ) → MayReply (VfWrite p offset x) (reply_by f o) → IsDone (reply_by (λ span. []) o)
-write_told o f p offset x (w, is) =
-    unread IsDone (λ bytes none. none) o f (subst IsDone (sym is) (own_replies IsDone w p (VfWrite p offset x) (λ n named. named) tt))
+pub written_told : (r : Reply) (p at : ℕ) (bytes : List ℕ) → MayReply (MemWrite p at bytes) r → IsDone r
+written_told r p at bytes (w, is) = subst IsDone (sym is) (own_replies IsDone w p (MemWrite p at bytes) (λ n named. named) tt)
 
-pub written_told : (o : Outcome) (f : Span → List ℕ) (p at : ℕ) (bytes : List ℕ) → MayReply (MemWrite p at bytes) (reply_by f o) → IsDone (reply_by (λ span. []) o)
-written_told o f p at bytes (w, is) =
-    unread IsDone (λ bytes none. none) o f (subst IsDone (sym is) (own_replies IsDone w p (MemWrite p at bytes) (λ n named. named) tt))
-
-pub reset_told : (o : Outcome) (f : Span → List ℕ) (p : ℕ) → MayReply (Flr p) (reply_by f o) → IsDone (reply_by (λ span. []) o)
-reset_told o f p (w, is) =
-    unread IsDone (λ bytes none. none) o f
-    (subst IsDone (sym (is ∙ flagged_reply p (own_step w p (Flr p)))) (own_replies IsDone w p (Flr p) (λ n named. named) tt))
+pub reset_told : (r : Reply) (p : ℕ) → MayReply (Flr p) r → IsDone r
+reset_told r p (w, is) =
+    subst IsDone (sym (is ∙ flagged_reply p (own_step w p (Flr p)))) (own_replies IsDone w p (Flr p) (λ n named. named) tt)
 
 pub bytes_told_of : (r : Reply) (p at count : ℕ) → MayReply (MemRead p at count) r → IsRead count r
 bytes_told_of r p at count (w, is) = subst (IsRead count) (sym is)
@@ -124,7 +104,3 @@ bytes_told_of r p at count (w, is) = subst (IsRead count) (sym is)
 -- as many as the room has, where that many were asked for
 pub room_told_of : (r : Reply) (p at count room : ℕ) → room ≡ count → MayReply (MemRead p at count) r → IsRead room r
 room_told_of r p at count room same may = subst (λ (n : ℕ). IsRead n r) (sym same) (bytes_told_of r p at count may)
-
--- the front of a list that has as many elements as the list is the list
-pub taken_whole : (n : ℕ) (xs : List ℕ) → length (take n xs) ≡ length xs → take n xs ≡ xs
-taken_whole n xs same = take_all n xs (omega (arith, clamps, sym (length-take n xs) ∙ same))

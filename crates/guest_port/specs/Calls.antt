@@ -20,19 +20,21 @@ pub record CallingPort : Type 0 where
   pub made : CallerLog
   -- its calls, the oldest first, each with its event and its answer: those that were kept, with the refused ones
   pub calls : List Entry
+  -- the cells of its room, which the bytes that its last call read stand first in
+  pub cells : List ℕ
 
 -- the calls of a share since it was another
 abbrev pub asked_since : CallerLog → CallerLog → List Entry
 asked_since old new = drop (length old.asked) new.asked
 
--- a port once it asked one more event, which got this answer
-abbrev pub having_called : Event → Answer → CallingPort → CallingPort
-having_called event answer c = record c { calls = c.calls ++ entry c.made.caller event answer ∷ [] }
+-- a port once it asked one more event, which got this answer and left these cells
+abbrev pub having_called : Event → Answer → List ℕ → CallingPort → CallingPort
+having_called event answer cells c = record c { calls = c.calls ++ entry c.made.caller event answer ∷ []; cells = cells }
 
 -- the port asked one more event: the reply is that of the answer which was kept, and which the event may get
 pub record HasCalled (event : Event) (reply : Reply) (old new : CallingPort) : Type 0 where
   pub answer : Answer
-  pub kept : new ≡ having_called event answer old
+  pub kept : new ≡ having_called event answer new.cells old
   pub told : answer.reply ≡ reply
   pub given : MayAnswer event answer
 

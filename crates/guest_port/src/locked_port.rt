@@ -1,10 +1,9 @@
 //! A port with the device behind it.
-ghost use Rattle.std.specs.Prelude.{◌≡◌, ℕ, List, [], ◌<◌, ◌≤◌, true, false, Err, IfOk, IfErr, IfSome, IfNone, OnErr, MatchOption, length, take, drop};
+ghost use Rattle.std.specs.Prelude.{◌≡◌, ℕ, List, [], ◌<◌, ◌≤◌, true, false, Err, IfOk, IfErr, IfSome, IfNone, OnErr, MatchOption, length};
 ghost use Rattle.wire_frame.specs.declared.fault.Fault.{Fault};
 ghost use Rattle.device.specs.declared.event.Event.{Event};
-ghost use Rattle.device.specs.declared.span.Span.{Span};
 ghost use Rattle.device.specs.Request.{event_of};
-ghost use Rattle.device.specs.Outcome.{reply_by, done_or_refused, value_or_refused, bytes_or_refused, bytes_asked, bytes_told};
+ghost use Rattle.device.specs.Outcome.{reply_of, bytes_read, done_or_refused, value_or_refused, bytes_or_refused};
 ghost use Rattle.history.specs.declared.caller.Caller.TheVariants.{Port};
 ghost use Rattle.recorder.specs.Callers.{may};
 ghost use Rattle.recorder.specs.Held.{having_calls};
@@ -14,30 +13,30 @@ ghost use Rattle.guest_port.specs.Calls.{HasCalled, is_full, read_or_refused, Is
 
 use crate::port::{GuestPort, Tokens};
 use device::bytes::MOST_BYTES;
-use device::{MemBytes, MemSlice, Outcome, Request};
-use device_lock::{Caller, LockedDevice, Share};
+use device::{MemBytes, MemSlice, Outcome, Request, Room};
+use device_lock::{Caller, LockedDevice, Share, WhenFull};
 use guest_memory::GuestMem;
 use shadow::Shadow;
 use std::marker::Model;
 use std::sync::ledger::Ledger;
 use std::sync::{Arc, Wait};
-use wire_frame::{Fault, FrameBuf, PoolId};
+use wire_frame::{Fault, PoolId};
 
 /// A port with the device behind it: what a guest has of its virtual function. The calls that take a handle wait for the
 /// device's lock. Each of them is one event of the port's own pool, which the device keeps with its answer and which counts
 /// as a call made, also where it is refused: what the call answers is the reply that is kept. They are refused, and nothing
 /// is kept, as [`Fault::NotOpen`] once the port has ended, and as [`Fault::HistoryFull`] where the device can keep no more.
 ///
-/// Contracts see the port, its share as it was when the port was made, and its calls since, each with its event and its
-/// answer. No call takes memory.
+/// Contracts see the port, its share as it was when the port was made, its calls since, each with its event and its answer, and
+/// the cells that the bytes which its last call read stand first in. No call takes memory.
 #[derive(Drop)]
 pub struct LockedPort<M: GuestMem, L: Ledger, P: GuestPort> {
     device: Arc<LockedDevice<M, L>>,
     // none once the port is closed
     share: Option<Share<L>>,
     inner: P,
-    // where the device puts a frame together; a port asks for none
-    room: FrameBuf,
+    // lent to each call, for the bytes that it reads
+    room: Room,
     first: Shadow<Share<L>>,
     last: Shadow<Share<L>>,
 }
@@ -56,10 +55,12 @@ impl<M: GuestMem, L: Ledger, P: GuestPort> Model for LockedPort<M, L, P> {
       port = P.meaning s.inner;
       made = s.first.value;
       calls = asked_since s.first.value s.last.value;
+      cells = s.room.bytes;
     } };
 
     ghost invariant = { λ s.
         (s.last.value ≡ having_calls (asked_since s.first.value s.last.value) s.first.value)
+        × (s.first.value.line ≡ (P.meaning s.inner).seat.line)
         × MatchOption s.share ((P.meaning s.inner).is_closed ≡ true)
         (λ share. ((P.meaning s.inner).is_closed ≡ false)
         × (share.caller ≡ Port (P.meaning s.inner).pool)
@@ -67,7 +68,8 @@ impl<M: GuestMem, L: Ledger, P: GuestPort> Model for LockedPort<M, L, P> {
 }
 
 impl<M: GuestMem, L: Ledger, P: GuestPort> LockedPort<M, L, P> {
-    /// The port with the device, of one pool with the share. It has made no call.
+    /// The port with the device, of one pool with the share, and with a seat of the line that the share's device raises messages in. It
+    /// has made no call.
     ///
     /// ```
     /// let (inner, _note) = IrqPort::new(alloc, 3, seat)?;
@@ -81,8 +83,10 @@ impl<M: GuestMem, L: Ledger, P: GuestPort> LockedPort<M, L, P> {
     /// ```
     pub fn new(device: Arc<LockedDevice<M, L>>, share: Share<L>, inner: P) -> LockedPort<M, L, P>
         requires pool { share.caller ≡ Port (P.meaning inner).pool }
+        requires line { share.line ≡ (P.meaning inner).seat.line }
         requires closed { (P.meaning inner).is_closed ≡ false }
-        ensures { result ≡ record { port = P.meaning inner; made = share; calls = [] } }
+        ensures { result
+            ≡ record { port = P.meaning inner; made = share; calls = []; cells = result.cells } }
     {
         let first = Shadow::of(&share);
         let last = Shadow::of(&share);
@@ -90,7 +94,7 @@ impl<M: GuestMem, L: Ledger, P: GuestPort> LockedPort<M, L, P> {
             device,
             share: Some(share),
             inner,
-            room: FrameBuf::blank(),
+            room: Room::new(),
             first,
             last,
         }
@@ -131,13 +135,10 @@ impl<M: GuestMem, L: Ledger, P: GuestPort> LockedPort<M, L, P> {
         ensures kept { self.old.port.is_open ≡ true → is_full result ≡ false →
             HasCalled (Event.VfRead self.old.port.pool offset) (value_or_refused result) self.old self.new }
     {
-        if !self.inner.is_open() {
-            return Err(Fault::NotOpen);
-        }
         let pool = self.inner.pool();
-        match self.ask(rt, Request::VfRead(pool, offset), &mut []) {
-            Some(outcome) => value_of(outcome),
-            None => Err(Fault::HistoryFull),
+        match self.ask(rt, Request::VfRead(pool, offset), WhenFull::Refuse) {
+            Ok(outcome) => value_of(outcome),
+            Err(fault) => Err(fault),
         }
     }
 
@@ -152,13 +153,10 @@ impl<M: GuestMem, L: Ledger, P: GuestPort> LockedPort<M, L, P> {
         ensures kept { self.old.port.is_open ≡ true → is_full result ≡ false →
             HasCalled (Event.VfWrite self.old.port.pool offset value) (done_or_refused result) self.old self.new }
     {
-        if !self.inner.is_open() {
-            return Err(Fault::NotOpen);
-        }
         let pool = self.inner.pool();
-        match self.ask(rt, Request::VfWrite(pool, offset, value), &mut []) {
-            Some(outcome) => done_of(outcome),
-            None => Err(Fault::HistoryFull),
+        match self.ask(rt, Request::VfWrite(pool, offset, value), WhenFull::Refuse) {
+            Ok(outcome) => done_of(outcome),
+            Err(fault) => Err(fault),
         }
     }
 
@@ -173,14 +171,10 @@ impl<M: GuestMem, L: Ledger, P: GuestPort> LockedPort<M, L, P> {
         ensures kept { self.old.port.is_open ≡ true → is_full result ≡ false →
             HasCalled (Event.MemRead self.old.port.pool addr len) (read_or_refused result) self.old self.new }
     {
-        if !self.inner.is_open() {
-            return Err(Fault::NotOpen);
-        }
         let pool = self.inner.pool();
-        let mut read = [0u8; MOST_BYTES];
-        match self.ask(rt, Request::MemRead(pool, addr, len), &mut read) {
-            Some(outcome) => bytes_of(outcome, &read),
-            None => Err(Fault::HistoryFull),
+        match self.ask(rt, Request::MemRead(pool, addr, len), WhenFull::Refuse) {
+            Ok(outcome) => bytes_of(&self.room, outcome),
+            Err(fault) => Err(fault),
         }
     }
 
@@ -206,9 +200,10 @@ impl<M: GuestMem, L: Ledger, P: GuestPort> LockedPort<M, L, P> {
             return Err(Fault::TooLong);
         }
         let pool = self.inner.pool();
-        match self.ask(rt, Request::MemRead(pool, addr, out.len() as u16), out) {
-            Some(outcome) => filled_of(outcome, out),
-            None => Err(Fault::HistoryFull),
+        let request = Request::MemRead(pool, addr, out.len() as u16);
+        match self.ask(rt, request, WhenFull::Refuse) {
+            Ok(outcome) => fill(&self.room, outcome, out),
+            Err(fault) => Err(fault),
         }
     }
 
@@ -233,9 +228,9 @@ impl<M: GuestMem, L: Ledger, P: GuestPort> LockedPort<M, L, P> {
             return Err(Fault::TooLong);
         };
         let pool = self.inner.pool();
-        match self.ask(rt, Request::MemWrite(pool, addr, written), &mut []) {
-            Some(outcome) => done_of(outcome),
-            None => Err(Fault::HistoryFull),
+        match self.ask(rt, Request::MemWrite(pool, addr, written), WhenFull::Refuse) {
+            Ok(outcome) => done_of(outcome),
+            Err(fault) => Err(fault),
         }
     }
 
@@ -249,18 +244,16 @@ impl<M: GuestMem, L: Ledger, P: GuestPort> LockedPort<M, L, P> {
         ensures kept { self.old.port.is_open ≡ true → is_full result ≡ false →
             HasCalled (Event.Flr self.old.port.pool) (done_or_refused result) self.old self.new }
     {
-        if !self.inner.is_open() {
-            return Err(Fault::NotOpen);
-        }
         let pool = self.inner.pool();
-        match self.ask(rt, Request::Flr(pool), &mut []) {
-            Some(outcome) => done_of(outcome),
-            None => Err(Fault::HistoryFull),
+        match self.ask(rt, Request::Flr(pool), WhenFull::Refuse) {
+            Ok(outcome) => done_of(outcome),
+            Err(fault) => Err(fault),
         }
     }
 
     /// Takes the interrupt messages that stand for the pool, those that were peeked among them: bit v for vector v, and none
     /// stands any more. One step, which waits for nobody; 0 once the port was closed.
+    #[tactic(auto, using(crate::proofs::Called::taken_line))]
     pub fn take_irqs(&mut self) -> u8
         ensures taken { self.new ≡ record self.old { port = having_taken self.old.port result } }
         ensures closed { self.old.port.is_closed ≡ true → result ≡ 0 }
@@ -271,6 +264,7 @@ impl<M: GuestMem, L: Ledger, P: GuestPort> LockedPort<M, L, P> {
 
     /// The interrupt messages that stand for the pool, bit v for vector v; they stand on. One step, which waits for nobody; 0
     /// once the port was closed.
+    #[tactic(auto, using(crate::proofs::Called::peeked_line))]
     pub fn peek_irqs(&mut self) -> u8
         ensures peeked { self.new ≡ record self.old { port = having_peeked self.old.port result } }
         ensures closed { self.old.port.is_closed ≡ true → result ≡ 0 }
@@ -292,6 +286,7 @@ impl<M: GuestMem, L: Ledger, P: GuestPort> LockedPort<M, L, P> {
         ensures back { MatchOption result (self.old.port.is_closed ≡ true)
             (λ r. (self.old.port.is_closed ≡ false) × (r.0.caller ≡ Port self.old.port.pool)
             × (r.1.seat ≡ self.old.port.seat) × (r.1.seat.view.pool ≡ self.old.port.pool)
+            × (r.0.line ≡ r.1.seat.line)
             × (r.1.note ≡ self.new.port.note)) }
         ensures share { IfSome result (λ r. r.0 ≡ having_calls self.old.calls self.old.made) }
     {
@@ -300,30 +295,25 @@ impl<M: GuestMem, L: Ledger, P: GuestPort> LockedPort<M, L, P> {
         Some((share?, tokens?))
     }
 
-    /// Makes the call that an event of the port's own pool asks for, as the calls by name do, and where the device can keep no
-    /// more, the calls that it keeps are folded away first, as [`LockedDevice::act_folding`] does. Bytes that are read stand at the
-    /// front of `read`.
+    /// Makes the call that an event of the port's own pool asks for: the calls by name do it so. Where the device can keep no more
+    /// calls, `when_full` says what comes of it. The bytes that it read are those of [`read`](LockedPort::read).
     ///
-    /// [`Fault::NotOpen`] once the port has ended; then [`Fault::HistoryFull`] where no calls can be folded away. What the call
-    /// itself was refused for is the outcome.
+    /// [`Fault::NotOpen`] once the port has ended; then [`Fault::HistoryFull`] where the call was not made. What the call itself was
+    /// refused for is the outcome.
     #[tactic(auto, using(crate::proofs::Called::still_since))]
-    pub fn ask_folding<R: Wait>(
+    pub fn ask<R: Wait>(
         &mut self,
         rt: &R,
         request: Request<'_>,
-        read: &mut [u8],
+        when_full: WhenFull,
     ) -> Result<Outcome, Fault>
         requires may { may (Port self.old.port.pool) (event_of request) ≡ true }
-        requires room { bytes_asked (event_of request) ≤ length read.old }
         ensures ended { self.old.port.is_open ≡ false → result ≡ Err Fault.NotOpen }
         ensures full { self.old.port.is_open ≡ true
             → IfErr result (λ e. e ≡ Fault.HistoryFull) }
-        ensures kept { IfOk result (λ outcome. HasCalled (event_of request.entry)
-            (reply_by (λ span. take (bytes_told outcome) read.new) outcome) self.old self.new) }
-        ensures rest { IfOk result
-            (λ outcome. drop (bytes_told outcome) read.new ≡ drop (bytes_told outcome) read.old) }
-        ensures unchanged { OnErr result ((self.new ≡ self.old) × (read.new ≡ read.old)) }
-        ensures read { length read.new ≡ length read.old }
+        ensures kept { IfOk result (λ outcome.
+            HasCalled (event_of request.entry) (reply_of self.new.cells outcome) self.old self.new) }
+        ensures unchanged { OnErr result (self.new ≡ self.old) }
     {
         if !self.inner.is_open() {
             return Err(Fault::NotOpen);
@@ -331,48 +321,29 @@ impl<M: GuestMem, L: Ledger, P: GuestPort> LockedPort<M, L, P> {
         let Some(share) = &mut self.share else {
             unreachable!();
         };
-        let taken = self
+        let made = self
             .device
-            .act_folding(rt, share, request, &mut self.room, read);
+            .act_request(rt, share, request, &mut self.room, when_full);
         self.last = Shadow::of(share);
-        let Some(taken) = taken else {
+        let Some(response) = made else {
             return Err(Fault::HistoryFull);
         };
-        Ok(taken.outcome)
+        Ok(response.outcome)
     }
 
-    // What comes of an event that the port may make; None where the device can keep no more. Bytes that are read stand at the
-    // front of `read`.
-    #[tactic(auto, using(crate::proofs::Called::still_since))]
-    fn ask<R: Wait>(&mut self, rt: &R, request: Request<'_>, read: &mut [u8]) -> Option<Outcome>
-        requires open { self.old.port.is_closed ≡ false }
-        requires may { may (Port self.old.port.pool) (event_of request) ≡ true }
-        requires room { bytes_asked (event_of request) ≤ length read.old }
-        ensures kept { IfSome result (λ outcome. HasCalled (event_of request.entry)
-            (reply_by (λ span. take (bytes_told outcome) read.new) outcome) self.old self.new) }
-        ensures rest { IfSome result
-            (λ outcome. drop (bytes_told outcome) read.new ≡ drop (bytes_told outcome) read.old) }
-        ensures full { IfNone result ((self.new ≡ self.old) × (read.new ≡ read.old)) }
+    /// The bytes that the last call by [`ask`](LockedPort::ask) read, which had this outcome; none where it read none.
+    pub fn read(&self, outcome: Outcome) -> &[u8]
+        ensures { result.now ≡ bytes_read self.now.cells outcome }
     {
-        let Some(share) = &mut self.share else {
-            unreachable!();
-        };
-        let taken = self
-            .device
-            .act_request(rt, share, request, &mut self.room, read);
-        self.last = Shadow::of(share);
-        let Some(taken) = taken else {
-            return None;
-        };
-        Some(taken.outcome)
+        self.room.read(outcome)
     }
 }
 
 // The value that was read, or why none was.
 #[inline]
 fn value_of(outcome: Outcome) -> Result<u32, Fault>
-    requires { IsValue (reply_by (λ span. []) outcome) }
-    ensures reply { (f : Span → List ℕ) → value_or_refused result ≡ reply_by f outcome }
+    requires { (cells : List ℕ) × IsValue (reply_of cells outcome) }
+    ensures reply { (cells : List ℕ) → value_or_refused result ≡ reply_of cells outcome }
     ensures kept { is_full result ≡ false }
 {
     match outcome {
@@ -385,8 +356,8 @@ fn value_of(outcome: Outcome) -> Result<u32, Fault>
 // That it was done, or why it was not.
 #[inline]
 fn done_of(outcome: Outcome) -> Result<(), Fault>
-    requires { IsDone (reply_by (λ span. []) outcome) }
-    ensures reply { (f : Span → List ℕ) → done_or_refused result ≡ reply_by f outcome }
+    requires { (cells : List ℕ) × IsDone (reply_of cells outcome) }
+    ensures reply { (cells : List ℕ) → done_or_refused result ≡ reply_of cells outcome }
     ensures kept { is_full result ≡ false }
 {
     match outcome {
@@ -396,17 +367,14 @@ fn done_of(outcome: Outcome) -> Result<(), Fault>
     }
 }
 
-// The bytes that were read, which stand at the front of `read`, or why none were.
-fn bytes_of(outcome: Outcome, read: &[u8]) -> Result<MemBytes, Fault>
-    requires room { 2048 ≤ length read.now }
-    requires read { (count : ℕ)
-        × IsRead count (reply_by (λ span. take (bytes_told outcome) read.now) outcome) }
-    ensures reply { read_or_refused result
-        ≡ reply_by (λ span. take (bytes_told outcome) read.now) outcome }
+// The bytes that were read, which stand first in the room, or why none were.
+fn bytes_of(room: &Room, outcome: Outcome) -> Result<MemBytes, Fault>
+    requires { (count : ℕ) × IsRead count (reply_of room.now.bytes outcome) }
+    ensures reply { read_or_refused result ≡ reply_of room.now.bytes outcome }
     ensures kept { is_full result ≡ false }
 {
     match outcome {
-        Outcome::Bytes(span) => match MemBytes::from_bytes(&read[..span.count()]) {
+        Outcome::Bytes(_) => match MemBytes::from_bytes(room.read(outcome)) {
             Ok(bytes) => Ok(bytes),
             Err(_) => unreachable!(),
         },
@@ -415,19 +383,19 @@ fn bytes_of(outcome: Outcome, read: &[u8]) -> Result<MemBytes, Fault>
     }
 }
 
-// That all of `read` was filled, or why it was not.
+// Fills `out` with the bytes that were read, which stand first in the room, or tells why none were.
 #[inline]
-#[tactic(auto, using(crate::proofs::Replies::taken_whole))]
-fn filled_of(outcome: Outcome, read: &[u8]) -> Result<(), Fault>
-    requires { IsRead (length read.now)
-        (reply_by (λ span. take (bytes_told outcome) read.now) outcome) }
-    ensures reply { bytes_or_refused result read.now
-        ≡ reply_by (λ span. take (bytes_told outcome) read.now) outcome }
-    ensures refused { OnErr result (bytes_told outcome ≡ 0) }
+fn fill(room: &Room, outcome: Outcome, out: &mut [u8]) -> Result<(), Fault>
+    requires { IsRead (length out.old) (reply_of room.now.bytes outcome) }
+    ensures reply { bytes_or_refused result out.new ≡ reply_of room.now.bytes outcome }
+    ensures unread { OnErr result (out.new ≡ out.old) }
     ensures kept { is_full result ≡ false }
 {
     match outcome {
-        Outcome::Bytes(_) => Ok(()),
+        Outcome::Bytes(_) => {
+            out.copy_from_slice(room.read(outcome));
+            Ok(())
+        }
         Outcome::Refused(fault) => Err(fault),
         _ => unreachable!(),
     }

@@ -1,5 +1,5 @@
 -- Entries over a store of bytes that grows: what stood stays, and what is added is the new entry.
-use Rattle.std.proofs.Common.{◌≡◌, ℕ, Bool, true, false, List, [], ◌∷◌, ◌++◌, ◌≤◌, ◌<◌, ◌+◌, length, length-append, length-drop, append_assoc, take, drop, map, refl, sym, ap, ◌∙◌, subst, arith}
+use Rattle.std.proofs.Common.{◌≡◌, ℕ, Bool, true, false, List, [], ◌∷◌, ◌++◌, ◌≤◌, ◌<◌, ◌+◌, length, length-append, length-drop, append_assoc, take, drop, map, refl, sym, ap, ◌∙◌, subst, true≢false, arith}
 use Rattle.std.specs.List.{All}
 use Rattle.std.proofs.Math.Seq.{drop-append_seam}
 use Rattle.std.proofs.lemmas.List.{length-map, map-append, take-append-le, drop-append-le, take_all}
@@ -7,11 +7,10 @@ use Rattle.std.proofs.lemmas.List.Elements.{All-head, All-tail, All-weaker, All-
 use Rattle.device.specs.Events.{Event}
 use Rattle.device.specs.declared.event.Event.TheVariants.{Open, End, VfRead, VfWrite, MemRead, MemWrite, Serve, Flr, PfRead, PfWrite, PfReset, Wire}
 use Rattle.device.specs.declared.event.Reply.TheVariants.{Done, Value, Bytes, Idle, More, Sent, Dropped, Faulted, Refused}
-use Rattle.device.specs.Outcome.{Outcome, reads, reply_in}
-use Rattle.device.specs.World.{World}
+use Rattle.device.specs.Outcome.{Outcome, reply_of}
 use Rattle.history.specs.declared.head.Head.{Head}
 use Rattle.history.specs.Entries.{Kept, entry, brings}
-use Rattle.history.specs.Heads.{head_of, kind_of, event_with, reply_with, brought, read_in, moved, IsSound, words_len, messages_with, part, moved_of, words_of, entry_of, Stands}
+use Rattle.history.specs.Heads.{head_of, kind_of, event_with, reply_with, reads, moved, IsSound, words_len, messages_with, part, moved_of, words_of, entry_of, Stands}
 
 -- ---- parts of a store
 
@@ -49,121 +48,103 @@ entries_stay store more (h ∷ hs) all =
 
 -- ---- a call as a head and bytes
 
--- where nothing was read, the bytes are those that the event brings
-pub moved_unread : (w : World) (e : Event) (o : Outcome) → reads o ≡ false → moved w e o ≡ brought e
-moved_unread w e o none = rw none refl
+-- the event comes back from its head and the bytes
+event_back : (cells : List ℕ) (e : Event) (o : Outcome) → event_with (moved cells e o) (head_of e) ≡ e
+event_back cells (Open p) o = refl
+event_back cells (End p) o = refl
+event_back cells (VfRead p offset) o = refl
+event_back cells (VfWrite p offset x) o = refl
+event_back cells (MemRead p at count) o = refl
+event_back cells (MemWrite p at bytes) o = refl
+event_back cells (Serve p q) o = refl
+event_back cells (Flr p) o = refl
+event_back cells (PfRead offset) o = refl
+event_back cells (PfWrite offset x) o = refl
+event_back cells PfReset o = refl
+event_back cells (Wire frame) o = refl
 
--- a read of a memory brings none
-pub moved_read : (w : World) (p at count : ℕ) (o : Outcome) → moved w (MemRead p at count) o ≡ read_in w o
-moved_read w p at count (Bytes span) = refl
-moved_read w p at count Done = refl
-moved_read w p at count (Value x) = refl
-moved_read w p at count Idle = refl
-moved_read w p at count More = refl
-moved_read w p at count Sent = refl
-moved_read w p at count Dropped = refl
-moved_read w p at count Faulted = refl
-moved_read w p at count (Refused fault) = refl
-
-event_back : (w : World) (e : Event) (o : Outcome) → (reads o ≡ true → brings e ≡ false) → event_with (moved w e o) (head_of e) ≡ e
-event_back w (Open p) o alone = refl
-event_back w (End p) o alone = refl
-event_back w (VfRead p offset) o alone = refl
-event_back w (VfWrite p offset x) o alone = refl
-event_back w (MemRead p at count) o alone = refl
-event_back w (Serve p q) o alone = refl
-event_back w (Flr p) o alone = refl
-event_back w (PfRead offset) o alone = refl
-event_back w (PfWrite offset x) o alone = refl
-event_back w PfReset o alone = refl
-event_back w (MemWrite p at bytes) o alone = by (reads o) refl
+-- and so does the reply, since an event that brings bytes reads none
+reply_back : (cells : List ℕ) (e : Event) (o : Outcome) → (brings e ≡ true → reads o ≡ false) → reply_with (moved cells e o) (kind_of o) ≡ reply_of cells o
+reply_back cells e Done alone = refl
+reply_back cells e (Value x) alone = refl
+reply_back cells e (Bytes read) alone = by (brings e) refl
   where
-    by : (b : Bool) → reads o ≡ b → event_with (moved w (MemWrite p at bytes) o) (head_of (MemWrite p at bytes)) ≡ MemWrite p at bytes
-    by true is = let no = alone is in absurd (cc)
+    by : (b : Bool) → brings e ≡ b → reply_with (moved cells e (Bytes read)) (kind_of (Bytes read)) ≡ reply_of cells (Bytes read)
+    by true is = absurd (true≢false (alone is))
     by false is = rw is refl
-event_back w (Wire frame) o alone = by (reads o) refl
-  where
-    by : (b : Bool) → reads o ≡ b → event_with (moved w (Wire frame) o) (head_of (Wire frame)) ≡ Wire frame
-    by true is = let no = alone is in absurd (cc)
-    by false is = rw is refl
-
-reply_back : (w : World) (e : Event) (o : Outcome) → reply_with (moved w e o) (kind_of o) ≡ reply_in w o
-reply_back w e Done = refl
-reply_back w e (Value x) = refl
-reply_back w e (Bytes span) = refl
-reply_back w e Idle = refl
-reply_back w e More = refl
-reply_back w e Sent = refl
-reply_back w e Dropped = refl
-reply_back w e Faulted = refl
-reply_back w e (Refused fault) = refl
+reply_back cells e Idle alone = refl
+reply_back cells e More alone = refl
+reply_back cells e Sent alone = refl
+reply_back cells e Dropped alone = refl
+reply_back cells e Faulted alone = refl
+reply_back cells e (Refused fault) alone = refl
 
 -- what is added to a store, and the head of it, for a call
-pub record Adds (w : World) (e : Event) (o : Outcome) (messages store store' : List ℕ) (h : Head) : Type 0 where
+pub record Adds (cells : List ℕ) (e : Event) (o : Outcome) (messages store store' : List ℕ) (h : Head) : Type 0 where
   pub words : List ℕ
-  pub grown : store' ≡ (store ++ moved w e o) ++ words
+  pub grown : store' ≡ (store ++ moved cells e o) ++ words
   pub event : h.event ≡ head_of e
   pub kind : h.reply ≡ kind_of o
   pub start : h.start ≡ length store
-  pub count : h.count ≡ length (moved w e o)
+  pub count : h.count ≡ length (moved cells e o)
   pub words_count : length words ≡ words_len h.vectors
   pub messages_back : messages_with h.vectors words ≡ messages
-  pub alone : reads o ≡ true → brings e ≡ false
+  pub alone : brings e ≡ true → reads o ≡ false
 
-moved_added : (w : World) (e : Event) (o : Outcome) (messages store store' : List ℕ) (h : Head) → Adds w e o messages store store' h → moved_of store' h ≡ moved w e o
-moved_added w e o messages store store' h a =
+moved_added : (cells : List ℕ) (e : Event) (o : Outcome) (messages store store' : List ℕ) (h : Head) → Adds cells e o messages store store' h → moved_of store' h ≡ moved cells e o
+moved_added cells e o messages store store' h a =
     (λ k. part (a.grown k) (a.start k) (a.count k))
-    ∙ part_old (store ++ moved w e o) a.words (length store) (length (moved w e o)) (let l = length-append store (moved w e o) in omega arith)
-    ∙ part_end store (moved w e o)
+    ∙ part_old (store ++ moved cells e o) a.words (length store) (length (moved cells e o)) (let l = length-append store (moved cells e o) in omega arith)
+    ∙ part_end store (moved cells e o)
 
-words_added : (w : World) (e : Event) (o : Outcome) (messages store store' : List ℕ) (h : Head) (a : Adds w e o messages store store' h) → words_of store' h ≡ a.words
-words_added w e o messages store store' h a =
-    let place : h.start + h.count ≡ length (store ++ moved w e o) = let s = a.start in let c = a.count in let l = length-append store (moved w e o) in omega arith in
-    (λ k. part (a.grown k) (place k) (sym a.words_count k)) ∙ part_end (store ++ moved w e o) a.words
+words_added : (cells : List ℕ) (e : Event) (o : Outcome) (messages store store' : List ℕ) (h : Head) (a : Adds cells e o messages store store' h) → words_of store' h ≡ a.words
+words_added cells e o messages store store' h a =
+    let place : h.start + h.count ≡ length (store ++ moved cells e o) = let s = a.start in let c = a.count in let l = length-append store (moved cells e o) in omega arith in
+    (λ k. part (a.grown k) (place k) (sym a.words_count k)) ∙ part_end (store ++ moved cells e o) a.words
 
 -- the new entry
-entry_added : (w : World) (e : Event) (o : Outcome) (messages store store' : List ℕ) (h : Head) → Adds w e o messages store store' h
-    → entry_of store' h ≡ entry h.caller e (record { reply = reply_in w o; raised = messages })
-entry_added w e o messages store store' h a =
-    let bytes = moved_added w e o messages store store' h a in
-    let event : event_with (moved_of store' h) h.event ≡ e = (λ k. event_with (bytes k) (a.event k)) ∙ event_back w e o a.alone in
-    let reply : reply_with (moved_of store' h) h.reply ≡ reply_in w o = (λ k. reply_with (bytes k) (a.kind k)) ∙ reply_back w e o in
-    let raised : messages_with h.vectors (words_of store' h) ≡ messages = ap (messages_with h.vectors) (words_added w e o messages store store' h a) ∙ a.messages_back in
+entry_added : (cells : List ℕ) (e : Event) (o : Outcome) (messages store store' : List ℕ) (h : Head) → Adds cells e o messages store store' h
+    → entry_of store' h ≡ entry h.caller e (record { reply = reply_of cells o; raised = messages })
+entry_added cells e o messages store store' h a =
+    let bytes = moved_added cells e o messages store store' h a in
+    let event : event_with (moved_of store' h) h.event ≡ e = (λ k. event_with (bytes k) (a.event k)) ∙ event_back cells e o in
+    let reply : reply_with (moved_of store' h) h.reply ≡ reply_of cells o = (λ k. reply_with (bytes k) (a.kind k)) ∙ reply_back cells e o a.alone in
+    let raised : messages_with h.vectors (words_of store' h) ≡ messages = ap (messages_with h.vectors) (words_added cells e o messages store store' h a) ∙ a.messages_back in
     λ k. entry h.caller (event k) (record { reply = reply k; raised = raised k })
 
-whole : (w : World) (e : Event) (o : Outcome) (messages store store' : List ℕ) (h : Head) (a : Adds w e o messages store store' h) → store' ≡ store ++ (moved w e o ++ a.words)
-whole w e o messages store store' h a = a.grown ∙ append_assoc store (moved w e o) a.words
+whole : (cells : List ℕ) (e : Event) (o : Outcome) (messages store store' : List ℕ) (h : Head) (a : Adds cells e o messages store store' h) → store' ≡ store ++ (moved cells e o ++ a.words)
+whole cells e o messages store store' h a = a.grown ∙ append_assoc store (moved cells e o) a.words
 
 -- all entries
-pub entries_added : (w : World) (e : Event) (o : Outcome) (messages store store' : List ℕ) (hs hs' : List Head) (h : Head) → Adds w e o messages store store' h
+pub entries_added : (cells : List ℕ) (e : Event) (o : Outcome) (messages store store' : List ℕ) (hs hs' : List Head) (h : Head) → Adds cells e o messages store store' h
     → hs' ≡ hs ++ h ∷ [] → All (Stands store) hs
-    → map (entry_of store') hs' ≡ map (entry_of store) hs ++ entry h.caller e (record { reply = reply_in w o; raised = messages }) ∷ []
-entries_added w e o messages store store' hs hs' h a more all =
+    → map (entry_of store') hs' ≡ map (entry_of store) hs ++ entry h.caller e (record { reply = reply_of cells o; raised = messages }) ∷ []
+entries_added cells e o messages store store' hs hs' h a more all =
     let former : map (entry_of store') hs ≡ map (entry_of store) hs =
-    ap (λ (bytes : List ℕ). map (entry_of bytes) hs) (whole w e o messages store store' h a) ∙ entries_stay store (moved w e o ++ a.words) hs all in
+    ap (λ (bytes : List ℕ). map (entry_of bytes) hs) (whole cells e o messages store store' h a) ∙ entries_stay store (moved cells e o ++ a.words) hs all in
     ap (map (entry_of store')) more ∙ map-append (entry_of store') hs (h ∷ [])
-    ∙ (λ k. former k ++ entry_added w e o messages store store' h a k ∷ [])
+    ∙ (λ k. former k ++ entry_added cells e o messages store store' h a k ∷ [])
 
 -- and all heads' bytes stand in the store
-pub heads_stand : (w : World) (e : Event) (o : Outcome) (messages store store' : List ℕ) (hs hs' : List Head) (h : Head) → Adds w e o messages store store' h
+pub heads_stand : (cells : List ℕ) (e : Event) (o : Outcome) (messages store store' : List ℕ) (hs hs' : List Head) (h : Head) → Adds cells e o messages store store' h
     → hs' ≡ hs ++ h ∷ [] → IsSound e → All (Stands store) hs → All (Stands store') hs'
-heads_stand w e o messages store store' hs hs' h a more sound all =
-    let bytes = moved_added w e o messages store store' h a in
-    let event : event_with (moved_of store' h) h.event ≡ e = (λ k. event_with (bytes k) (a.event k)) ∙ event_back w e o a.alone in
+heads_stand cells e o messages store store' hs hs' h a more sound all =
+    let bytes = moved_added cells e o messages store store' h a in
+    let event : event_with (moved_of store' h) h.event ≡ e = (λ k. event_with (bytes k) (a.event k)) ∙ event_back cells e o in
     let here : Stands store' h = record {
       inside =
           let s = a.start in let c = a.count in let n = a.words_count in
           let l = ap (length {A = ℕ}) a.grown in
-          let one = length-append (store ++ moved w e o) a.words in
-          let two = length-append store (moved w e o) in
+          let one = length-append (store ++ moved cells e o) a.words in
+          let two = length-append store (moved cells e o) in
           omega arith;
       sound = let P : Event → Type 0 = λ x. IsSound x in subst P (sym event) sound;
     } in
-    let added : List ℕ = moved w e o ++ a.words in
+    let added : List ℕ = moved cells e o ++ a.words in
     let still : All (Stands (store ++ added)) hs = All-weaker (Stands store) (Stands (store ++ added)) (stands_on store added) hs all in
     let P : List ℕ → Type 0 = λ xs. All (Stands xs) hs in
     let Q : List Head → Type 0 = λ xs. All (Stands store') xs in
-    subst Q (sym more) (All-push (Stands store') hs h (subst P (sym (whole w e o messages store store' h a)) still) here)
+    subst Q (sym more) (All-push (Stands store') hs h (subst P (sym (whole cells e o messages store store' h a)) still) here)
 
 -- there is room for one more head
 pub room_left : (store : List ℕ) (hs : List Head) (cap n : ℕ) (v : Kept) → record { entries = map (entry_of store) hs; cap = cap } ≡ v → length v.entries < v.cap → length hs ≡ n → n < cap

@@ -2,8 +2,7 @@
 use Rattle.std.specs.Prelude.{◌≡◌, ℕ, ◌-◌, Bool, true, false, ◌&&◌, nat_le, List, [], map, length, slice_index_or}
 use Rattle.device.specs.Events.{Event}
 use Rattle.device.specs.declared.event.Event.TheVariants.{MemWrite, PfReset, Wire}
-use Rattle.device.specs.Replies.{Reply}
-use Rattle.device.specs.declared.event.Reply.TheVariants.{Bytes, Idle}
+use Rattle.device.specs.declared.event.Reply.TheVariants.{Idle}
 use Rattle.device.specs.declared.event.Answer.{Answer}
 use Rattle.device.specs.World.{World, answers, world_after}
 use Rattle.history.specs.declared.caller.Caller.{Caller}
@@ -38,11 +37,6 @@ entry_at kept i = slice_index_or kept.entries i no_entry
 -- the call that was kept last
 abbrev pub last_of : List Entry → Entry
 last_of calls = slice_index_or calls (length calls - 1) no_entry
-
--- the bytes that a reply gives
-abbrev pub bytes_replied : Reply → List ℕ
-bytes_replied (Bytes bytes) = bytes
-bytes_replied _ = []
 
 -- the event brings bytes: those of a write to a memory, or a frame
 abbrev pub brings : Event → Bool

@@ -1,6 +1,6 @@
 -- The entry that a head stands for, by its bytes in the store: first those that the call brought or read, and then
 -- the words of its messages.
-use Rattle.std.specs.Prelude.{◌≤◌, ◌+◌, ◌*◌, ◌++◌, ◌==◌, ℕ, Bool, List, [], length, take, drop, slice_index, if◌then◌else◌}
+use Rattle.std.specs.Prelude.{◌≤◌, ◌+◌, ◌*◌, ◌++◌, ◌==◌, ℕ, Bool, true, false, List, [], length, take, drop, slice_index, if◌then◌else◌}
 use Rattle.std.specs.Int.{bit_at}
 use Rattle.byteorder.specs.Endian.{little_number, little_bytes}
 use Rattle.wire_frame.specs.Bits.{has_bit}
@@ -12,12 +12,11 @@ use Rattle.device.specs.declared.event.Event.TheVariants.{Open, End, VfRead, VfW
 use Rattle.device.specs.declared.event.Reply.{Reply as ReplyOf}
 use Rattle.device.specs.Replies.{Reply, replied}
 use Rattle.device.specs.declared.event.Reply.TheVariants.{Bytes}
-use Rattle.device.specs.Outcome.{Outcome, reads, bytes_in}
-use Rattle.device.specs.World.{World, function_of}
+use Rattle.device.specs.Outcome.{Outcome, bytes_read}
 use Rattle.history.specs.declared.head.EventHead.{EventHead}
 use Rattle.history.specs.declared.head.EventHead.TheVariants.{Open, End, VfRead, VfWrite, MemRead, MemWrite, Serve, Flr, PfRead, PfWrite, PfReset, Wire}
 use Rattle.history.specs.declared.head.Head.{Head}
-use Rattle.history.specs.Entries.{Entry, entry}
+use Rattle.history.specs.Entries.{Entry, entry, brings}
 
 -- ---- events and replies without their bytes
 
@@ -75,14 +74,14 @@ IsSound (MemWrite p at bytes) = length bytes ≤ 2048
 IsSound (Wire frame) = IsFrame frame
 IsSound _ = Unit
 
--- those that were read, which stand in the memory still
-abbrev pub read_in : World → Outcome → List ℕ
-read_in w (Bytes span) = bytes_in (function_of span.pool w) span
-read_in w _ = []
+-- what came of an event is bytes
+abbrev pub reads : Outcome → Bool
+reads (Bytes read) = true
+reads _ = false
 
--- a call brings bytes or reads some, never both
-abbrev pub moved : World → Event → Outcome → List ℕ
-moved w e o = if reads o then read_in w o else brought e
+-- those that go with a call: its event brings some, or else they are those that it read, which stand first in these cells
+abbrev pub moved : List ℕ → Event → Outcome → List ℕ
+moved cells e o = if brings e then brought e else bytes_read cells o
 
 -- ---- the messages of an answer, of which the words that are not 0 are kept
 

@@ -2,10 +2,10 @@
 ghost use Rattle.std.specs.Prelude.{◌≡◌, ◌≤◌, true, length, IsTrue, ◌↔◌};
 ghost use Rattle.device.specs.Request.{event_of};
 ghost use Rattle.history.specs.Entries.{brings};
-ghost use Rattle.history.specs.Heads.{head_of, event_with, kind_of, brought, IsSound};
+ghost use Rattle.history.specs.Heads.{head_of, event_with, kind_of, brought, moved, IsSound};
 
 use crate::caller::Caller;
-use device::{Outcome, Queue, Reply, Request};
+use device::{Outcome, Queue, Reply, Request, Room};
 use irq_causes::Vectors;
 use std::marker::Model;
 
@@ -123,17 +123,17 @@ pub fn head_of(request: Request<'_>) -> EventHead
     }
 }
 
-/// The bytes that an event brings.
+/// The bytes that go with a call: those that its event brings, or else those that it read, which stand in the room that was lent.
 #[inline]
-pub fn brought<'a>(request: Request<'a>) -> &'a [u8]
-    ensures bytes { result.now ≡ brought (event_of request.entry) }
+pub fn moved<'a>(request: Request<'a>, outcome: Outcome, room: &'a Room) -> &'a [u8]
+    ensures bytes { result.now ≡ moved room.now.bytes (event_of request.entry) outcome }
     ensures most { length result.now ≤ 9018 }
     ensures sound { IsSound (event_of request.entry) }
 {
     match request {
         Request::MemWrite(_, _, written) => written.bytes(),
         Request::Wire(frame) => frame.bytes(),
-        _ => &[],
+        _ => room.read(outcome),
     }
 }
 

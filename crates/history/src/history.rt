@@ -1,23 +1,18 @@
 //! The history.
 ghost use Rattle.std.specs.Prelude.{◌≡◌, ◌≤◌, ◌<◌, ◌*◌, ◌++◌, ◌∷◌, [], length, vec_len, vec_capacity, true, false, IsTrue, ◌↔◌, IfOk, IfErr};
-ghost use Rattle.device.specs.declared.event.Event.{Event};
 ghost use Rattle.device.specs.declared.event.Reply.TheVariants.{Done};
-ghost use Rattle.device.specs.Accesses.{accesses_by};
-ghost use Rattle.device.specs.Live.{told_world, TakesLive, AreListed};
-ghost use Rattle.device.specs.Outcome.{reads, answer_in};
-ghost use Rattle.device.specs.World.{World};
+ghost use Rattle.device.specs.Outcome.{answer_of};
 ghost use Rattle.device.specs.Request.{event_of};
 ghost use Rattle.wire_frame.specs.Frame.{IsFrame};
-ghost use Rattle.history.specs.Entries.{entry, entry_at, is_cap, last_of, bytes_replied};
+ghost use Rattle.history.specs.Entries.{entry, entry_at, is_cap, brings};
+ghost use Rattle.history.specs.Heads.{reads};
 
-use crate::bytes::{Read, append, append_read, bytes_told, part};
+use crate::bytes::{append, part};
 use crate::caller::Caller;
-use crate::head::{EventHead, Head, PackedCaller, ReplyKind, brought, head_of, is_event, kind_of};
+use crate::head::{EventHead, Head, PackedCaller, ReplyKind, head_of, is_event, kind_of, moved};
 use crate::reply::is_reply;
 use crate::words::{append_words, are_messages, words_len};
-use device::{Device, MemSlice, Request, Response};
-use guest_memory::GuestMem;
-use live_memory::Dma;
+use device::{MemSlice, Request, Response, Room};
 use std::alloc::{AllocError, Global};
 use std::marker::Model;
 use wire_frame::{Fault, FrameBuf, FrameLimit};
@@ -58,9 +53,9 @@ impl History {
     /// memories.push(FlatMem::new(rt.alloc(), 4096)?)?;
     /// let mut device = Device::new(rt.alloc(), memories)?;
     /// let mut history = History::new(rt.alloc(), 16)?;
-    /// let mut frame = FrameBuf::blank();
+    /// let mut room = Room::new();
     /// assert!(rt; !history.is_full());
-    /// history.record(Caller::Service, Request::Open(0), &mut device, &mut frame);
+    /// history.record(Caller::Service, Request::Open(0), &mut device, &mut room);
     /// assert!(rt; history.len() == 1);
     /// assert!(rt; history.caller(0) == Caller::Service);
     /// ```
@@ -112,78 +107,34 @@ impl History {
         self.heads.len() == self.cap
     }
 
-    // One more entry, for which there is room, of an event that read no bytes: who called, what was asked of a device, and what
-    // came of it.
+    // One more entry, for which there is room: who called, what was asked of a device, and what came of it. An event that brings bytes
+    // reads none.
     #[inline]
-    pub(crate) fn push(&mut self, caller: Caller, request: Request<'_>, taken: &Response<'_>)
+    pub(crate) fn push(
+        &mut self,
+        caller: Caller,
+        request: Request<'_>,
+        response: &Response,
+        room: &Room,
+    )
         requires room { length self.old.entries < self.old.cap }
-        requires unread { reads taken.now.outcome ≡ false }
-        ensures entries { (w : World) → self.new.entries ≡ self.old.entries
-            ++ entry caller (event_of request.entry) (answer_in w taken.now) ∷ [] }
+        requires alone { brings (event_of request) ≡ true → reads response.now.outcome ≡ false }
+        ensures entries { self.new.entries ≡ self.old.entries
+            ++ entry caller (event_of request.entry) (answer_of room.now response.now) ∷ [] }
         ensures cap { self.new.cap ≡ self.old.cap }
     {
         let start = self.store.len() as u32;
-        let bytes = brought(request);
+        let bytes = moved(request, response.outcome, room);
         append(&mut self.store, bytes);
-        let vectors = append_words(&mut self.store, taken.messages.words());
+        let vectors = append_words(&mut self.store, response.messages.words());
         self.heads.push_reserved(Head {
             event: head_of(request),
-            reply: kind_of(taken.outcome),
+            reply: kind_of(response.outcome),
             start,
             count: bytes.len() as u16,
             caller: PackedCaller::new(caller),
             vectors,
         });
-    }
-
-    // One more entry, for which there is room, of a read of a guest's memory. The read is made here, once, and its bytes stand in
-    // the store and nowhere else. It is a call of its own, so that other events are taken without its steps beside theirs.
-    #[inline(never)]
-    pub(crate) fn push_read<'f, D: Dma<K>, K>(
-        &mut self,
-        caller: Caller,
-        read: Read,
-        device: &mut Device<D, K>,
-    ) -> Response<'f>
-        requires { length self.old.entries < self.old.cap }
-        ensures takes { TakesLive D.shared device.old.accesses device.new.accesses
-            device.old.world (Event.MemRead read.pool read.at read.count) device.new.world result }
-        ensures listed { AreListed
-            (accesses_by (told_world device.old.accesses device.new.accesses device.old.world)
-            (Event.MemRead read.pool read.at read.count)) device.old.accesses device.new.accesses }
-        ensures entries { self.new.entries ≡ self.old.entries
-            ++ entry caller (Event.MemRead read.pool read.at read.count)
-            (answer_in device.new.world result) ∷ [] }
-        ensures cap { self.new.cap ≡ self.old.cap }
-    {
-        let start = self.store.len() as u32;
-        let taken = append_read(&mut self.store, read, device);
-        let vectors = append_words(&mut self.store, taken.messages.words());
-        self.heads.push_reserved(Head {
-            event: EventHead::MemRead(read.pool, read.count, read.at),
-            reply: kind_of(taken.outcome),
-            start,
-            count: bytes_told(taken.outcome),
-            caller: PackedCaller::new(caller),
-            vectors,
-        });
-        taken
-    }
-
-    /// The bytes that the last call read; none where it read none, or there is no call.
-    #[inline]
-    pub fn last_read(&self) -> &[u8]
-        ensures { result.now ≡ bytes_replied (last_of self.now.entries).answer.reply }
-    {
-        let Some(head) = self.heads.last() else {
-            return &[];
-        };
-        if matches!(head.reply, ReplyKind::Bytes(_)) {
-            let store = self.store.as_slice();
-            part(store, head.start as usize, usize::from(head.count))
-        } else {
-            &[]
-        }
     }
 
     /// No entries. The room stays.
@@ -251,26 +202,20 @@ impl History {
         matches!(self.heads[index].reply, ReplyKind::Done)
     }
 
-    // Whether a call, counted from the oldest, was answered so by a device right after the event.
+    // Whether a call, counted from the oldest, was answered so, where this is the room that was lent.
     #[inline]
-    pub(crate) fn is_answer<M: GuestMem>(
-        &self,
-        index: usize,
-        device: &Device<M>,
-        taken: &Response<'_>,
-        room: &mut [u8; 2048],
-    ) -> bool
+    pub(crate) fn is_answer(&self, index: usize, response: &Response, room: &Room) -> bool
         requires { index < length self.now.entries }
         ensures { IsTrue result
-            ↔ (answer_in device.now.world taken.now ≡ (entry_at self.now index).answer) }
+            ↔ (answer_of room.now response.now ≡ (entry_at self.now index).answer) }
     {
         let head = self.heads[index];
         let store = self.store.as_slice();
         let (start, count) = (head.start as usize, usize::from(head.count));
         let bytes = part(store, start, count);
         let words = part(store, start + count, words_len(head.vectors));
-        let same_reply = is_reply(head.reply, bytes, device, taken.outcome, room);
-        let same_messages = are_messages(taken.messages, head.vectors, words);
+        let same_reply = is_reply(head.reply, bytes, response.outcome, room);
+        let same_messages = are_messages(response.messages, head.vectors, words);
         same_reply && same_messages
     }
 }

@@ -1,9 +1,8 @@
 //! The calls of a device, kept in few bytes.
 //!
 //! A [`History`] has of each call who made it, what was asked and what was answered. Its meaning is the list of these
-//! entries, the oldest first. [`History::record`] takes an event on a device and keeps the call, and so does
-//! [`History::record_live`] where others may write the memories of the functions meanwhile. Bytes of a memory are read once, into
-//! the history, and [`History::last_read`] hands out these. [`History::step`] steps a second device by an entry, and
+//! entries, the oldest first. [`History::record`] takes an event on a device and keeps the call, also where others may write the
+//! memories of the functions meanwhile: bytes of a memory are read once, and kept as they were handed out. [`History::step`] steps a second device by an entry, and
 //! [`History::gives`] tells besides whether that device answers as was kept; both go through all entries as
 //! [`History::step_all`] and [`History::gives_all`]. A [`Recording`] is a device with the history of the calls that it took since
 //! a base, from which they lead to it.
@@ -27,4 +26,4 @@ mod words;
 pub use caller::Caller;
 pub use history::{History, MOST_CALLS};
 pub use recording::Recording;
-pub use replay::Room;
+pub use replay::Replay;

@@ -1,22 +1,17 @@
 //! A device, and the calls that it took since a base.
 ghost use Rattle.std.specs.Prelude.{◌≡◌, ℕ, ◌<◌, ◌≤◌, [], true, false, IfSome, is_some, length};
-ghost use Rattle.device.specs.declared.event.Event.{Event};
-ghost use Rattle.device.specs.World.{step};
 ghost use Rattle.device.specs.Lone.{keep, lone_of, lone_seen, lone_after, seen_by};
-ghost use Rattle.device.specs.Outcome.{messages_or_refused};
 ghost use Rattle.device.specs.Request.{event_of};
 ghost use Rattle.device.specs.Takes.{Takes};
-ghost use Rattle.history.specs.Entries.{Leads, events, given, last_of, bytes_replied};
+ghost use Rattle.history.specs.Entries.{Leads, events, given};
 ghost use Rattle.history.specs.Recording.{made_like, begun, keeping, rebased};
 
 use crate::caller::Caller;
 use crate::history::History;
 use device::laws::isolation;
-use device::{Device, Request, Response};
+use device::{Device, Request, Response, Room};
 use guest_memory::GuestMem;
-use irq_causes::Messages;
 use std::marker::Model;
-use wire_frame::{Fault, FrameBuf};
 
 /// A device with the calls that it took since a base. The base is a twin of the device, where there is one; else it is a device
 /// as it is made. Stepped from the base, the kept events are answered as was kept and lead to the live device.
@@ -72,14 +67,6 @@ impl<M: GuestMem> Recording<M> {
         &self.history
     }
 
-    /// The bytes that the last call since the base read; none where it read none, or there is no call.
-    #[inline]
-    pub fn last_read(&self) -> &[u8]
-        ensures { result.now ≡ bytes_replied (last_of self.now.kept).answer.reply }
-    {
-        self.history.last_read()
-    }
-
     /// Whether there is a twin, which the base can be moved by.
     #[inline]
     pub fn has_twin(&self) -> bool
@@ -90,28 +77,12 @@ impl<M: GuestMem> Recording<M> {
 
     /// Takes an event on the device and keeps the call, for which there is room, as [`History::record`] does.
     #[inline]
-    pub fn record<'f>(
-        &mut self,
-        caller: Caller,
-        request: Request<'_>,
-        frame: &'f mut FrameBuf,
-    ) -> Response<'f>
+    pub fn record(&mut self, caller: Caller, request: Request<'_>, room: &mut Room) -> Response
         requires { length self.old.kept < self.old.cap }
-        ensures takes { Takes self.old.live (event_of request.entry) self.new.live result }
+        ensures takes { Takes self.old.live (event_of request.entry) self.new.live result room.new }
         ensures kept { self.new ≡ keeping self.old caller (event_of request.entry) }
     {
-        self.history.record(caller, request, &mut self.live, frame)
-    }
-
-    /// The same, of a frame from the wire, which stays where it stands.
-    #[inline]
-    pub fn wire(&mut self, caller: Caller, frame: &FrameBuf) -> Result<Messages, Fault>
-        requires { length self.old.kept < self.old.cap }
-        ensures answer { messages_or_refused result
-            ≡ (step self.old.live (Event.Wire frame.now)).answer }
-        ensures kept { self.new ≡ keeping self.old caller (Event.Wire frame.now) }
-    {
-        self.history.record_wire(caller, frame, &mut self.live)
+        self.history.record(caller, request, &mut self.live, room)
     }
 
     /// Steps the twin through the kept calls, which are then gone: it is the base. False where there is no twin, and then

@@ -41,7 +41,7 @@ use Rattle.live_run.specs.Arrivals.{IsWireBurst, arrivals, cuts}
 use Rattle.live_run.specs.Bursts.{IsBurst, services}
 use Rattle.live_run.specs.declared.bursts.Burst.{Burst}
 use Rattle.live_run.specs.declared.wire_bursts.WireBurst.{WireBurst}
-use Rattle.live_run.specs.Frames.{Room}
+use Rattle.live_run.specs.Frames.{FramesState}
 use Rattle.live_run.specs.Live.{IsLiveRun, Noted, live_after}
 use Rattle.mailbox.specs.Start.{first_writes}
 use Rattle.mailbox.specs.Host.{host_without}
@@ -351,7 +351,7 @@ run_stands shared old new es answers is silent run host boxes = record {
 }
 
 -- a burst of services is one
-pub burst_stands : (shared : Bool) (p : ℕ) (q : Queue) (old new : HostedState) (room filled : Room) (done : Burst) → IsHosted old → IsBurst shared p q old.device room new.device filled done → new.host ≡ old.host → new.mailboxes ≡ old.mailboxes → IsHosted new
+pub burst_stands : (shared : Bool) (p : ℕ) (q : Queue) (old new : HostedState) (room filled : FramesState) (done : Burst) → IsHosted old → IsBurst shared p q old.device room new.device filled done → new.host ≡ old.host → new.mailboxes ≡ old.mailboxes → IsHosted new
 burst_stands shared p q old new room filled done is burst host boxes =
     run_stands shared old new (services done.taken p q) burst.answers is (services_silent done.taken p q) burst.run host boxes
 

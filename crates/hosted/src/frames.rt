@@ -10,7 +10,7 @@ ghost use Rattle.live_run.specs.Bursts.{IsBurst};
 ghost use Rattle.live_run.specs.Frames.{has_room};
 
 use crate::hosted::HostedDevice;
-use device::{Queue, Response};
+use device::{Queue, Response, Room};
 use irq_causes::Messages;
 use live_memory::Dma;
 use live_run::{Burst, Frames, WireBurst, serve_burst, wire_burst};
@@ -18,9 +18,9 @@ use wire_frame::{Fault, FrameBuf};
 
 impl<D: Dma<K>, K> HostedDevice<D, K> {
     /// Takes the next descriptor of a transmit queue, as [`Device::serve_live`](device::Device::serve_live) says.
-    pub fn serve<'f>(&mut self, pool: u8, queue: Queue, frame: &'f mut FrameBuf) -> Response<'f>
+    pub fn serve(&mut self, pool: u8, queue: Queue, room: &mut Room) -> Response
         ensures takes { TakesLive D.shared self.old.device.accesses self.new.device.accesses
-            self.old.device.world (Serve pool queue) self.new.device.world result }
+            self.old.device.world (Serve pool queue) self.new.device.world result room.new }
         ensures listed { AreListed
             (accesses_by (told_world self.old.device.accesses self.new.device.accesses
             self.old.device.world) (Serve pool queue))
@@ -28,7 +28,7 @@ impl<D: Dma<K>, K> HostedDevice<D, K> {
         ensures host { self.new.host ≡ self.old.host }
         ensures mailboxes { self.new.mailboxes ≡ self.old.mailboxes }
     {
-        self.device.serve_live(pool, queue, frame)
+        self.device.serve_live(pool, queue, room)
     }
 
     /// Takes a frame from the wire, as [`Device::wire_live`](device::Device::wire_live) says.
@@ -68,7 +68,7 @@ impl<D: Dma<K>, K> HostedDevice<D, K> {
         queue: Queue,
         most: usize,
         frames: &mut Frames,
-        frame: &mut FrameBuf,
+        room: &mut Room,
     ) -> Burst
         ensures burst { IsBurst D.shared pool queue self.old.device frames.old
             self.new.device frames.new result }
@@ -78,6 +78,6 @@ impl<D: Dma<K>, K> HostedDevice<D, K> {
         ensures host { self.new.host ≡ self.old.host }
         ensures mailboxes { self.new.mailboxes ≡ self.old.mailboxes }
     {
-        serve_burst(&mut self.device, pool, queue, most, frames, frame)
+        serve_burst(&mut self.device, pool, queue, most, frames, room)
     }
 }

@@ -1,7 +1,7 @@
 //! Drivers that ask by their mailboxes.
 use crate::compare::assert_equal;
 use crate::support::{ask, policy, pool, told, vacant};
-use device::{Outcome, Queue, Vector};
+use device::{Outcome, Queue, Room, Vector};
 use mailbox::{NotAdmitted, Notice};
 use mapped_memory::LiveMem;
 use script_support::registers::{VFCTRL, VFMAILBOX, VFMBMEM, VTEICR, VTEIMC, VTEIMS, VTIVAR_MISC};
@@ -183,8 +183,7 @@ fn frames_reach_nobody_who_was_not_admitted(rt: HostRuntime) -> Result<(), Fail>
     let came = hosted.wire(&broadcast).map(|messages| messages.to_masks());
     assert_equal(&rt, came, Ok([0; 64]));
     // its queue is off
-    let mut frame = FrameBuf::blank();
-    let taken = hosted.serve(0, Queue::Q0, &mut frame);
-    assert_equal(&rt, matches!(taken.outcome, Outcome::Idle), true);
+    let response = hosted.serve(0, Queue::Q0, &mut Room::new());
+    assert_equal(&rt, response.outcome, Outcome::Idle);
     Ok(())
 }

@@ -2,7 +2,7 @@
 use Rattle.std.proofs.Common.{◌≡◌, ℕ, zero, suc, ◌+◌, ◌-◌, ◌<◌, ◌≤◌, true, false, eqb, List, [], ◌∷◌, ◌++◌, length, get_or, slice_range, arith, refl, ap, sym, ◌∙◌}
 use Rattle.std.proofs.lemmas.List.{get_or_default, places, same_lists}
 use Rattle.std.proofs.lemmas.Bool.Decides.{nat_tests}
-use Rattle.live_run.specs.Frames.{Room, has_room}
+use Rattle.live_run.specs.Frames.{FramesState, has_room}
 use Rattle.live_run.specs.Stored.{begin_of, frames_from, IsCut}
 
 pub as_many : (start : ℕ) (ends bytes : List ℕ) → length (frames_from start ends bytes) ≡ length ends
@@ -76,5 +76,5 @@ lies_inside ends len n start end cut below first is =
     (omega (arith, first, begins_at ends n, range.0, end_is ends n end below is), omega (arith, range.1, end_is ends n end below is))
 
 -- what room for one more is
-pub room_left : (r : Room) → has_room r ≡ true → (length r.frames < r.most) × (r.used + 9018 ≤ r.size)
+pub room_left : (r : FramesState) → has_room r ≡ true → (length r.frames < r.most) × (r.used + 9018 ≤ r.size)
 room_left r has = (grind (arith, nat_tests, has), grind (arith, nat_tests, has))

@@ -2,7 +2,6 @@ mod BurstSteps
 mod ErasedRuns
 mod FrameLemmas
 mod More
-mod Plain
 mod Runs
 mod WireSteps
 mod WithoutGroup

@@ -11,7 +11,7 @@ use Rattle.device.specs.declared.event.Answer.{Answer}
 use Rattle.device.specs.Live.{TracedWorld, told_world}
 use Rattle.device.specs.Outcome.{left_by}
 use Rattle.device.specs.World.{World, step}
-use Rattle.live_run.specs.Frames.{Room, with_frames}
+use Rattle.live_run.specs.Frames.{FramesState, with_frames}
 use Rattle.live_run.specs.Live.{Noted, IsLiveRun}
 use Rattle.live_run.specs.declared.bursts.Burst.{Burst}
 
@@ -44,7 +44,7 @@ may_have_more (a ∷ []) = goes_on a.reply
 may_have_more (a ∷ b ∷ rest) = may_have_more (b ∷ rest)
 
 -- a burst is a run of that many services, with all their messages, and with the frames that left behind those that stood in the room
-pub record IsBurst (shared : Bool) (p : ℕ) (q : Queue) (old : TracedWorld) (room : Room) (new : TracedWorld) (filled : Room) (done : Burst) : Type 0 where
+pub record IsBurst (shared : Bool) (p : ℕ) (q : Queue) (old : TracedWorld) (room : FramesState) (new : TracedWorld) (filled : FramesState) (done : Burst) : Type 0 where
   pub answers : List Answer
   pub run : IsLiveRun shared old (services done.taken p q) answers new
   pub raised : done.messages ≡ united no_messages answers

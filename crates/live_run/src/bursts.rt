@@ -10,10 +10,10 @@ ghost use Rattle.live_run.specs.Bursts.{IsBurst, goes_on};
 ghost use Rattle.live_run.specs.Frames.{has_room, with_left};
 
 use crate::frames::Frames;
-use device::{Device, Outcome, Queue};
+use device::{Device, Outcome, Queue, Room};
 use irq_causes::Messages;
 use live_memory::Dma;
-use wire_frame::{FrameBuf, PoolId};
+use wire_frame::PoolId;
 
 /// What came of a burst.
 #[derive(Drop)]
@@ -28,14 +28,14 @@ pub struct Burst {
 
 /// Takes descriptors of a transmit queue one after another, while guests may write the memories: until the queue has no more, `most`
 /// were taken, or `frames` has no room for a frame. It means what that many services mean, one after another. A frame that leaves for
-/// the wire stands behind those that are in `frames`. Each is put together in `frame`.
+/// the wire stands behind those that are in `frames`. Each is put together in `room`.
 pub fn serve_burst<D: Dma<K>, K>(
     device: &mut Device<D, K>,
     pool: u8,
     queue: Queue,
     most: usize,
     frames: &mut Frames,
-    frame: &mut FrameBuf,
+    room: &mut Room,
 ) -> Burst
     ensures burst { IsBurst D.shared pool queue device.old frames.old device.new frames.new result }
     ensures most { result.taken ≤ most }
@@ -48,7 +48,7 @@ pub fn serve_burst<D: Dma<K>, K>(
     let mut messages = Messages::none();
     let mut goes_on = true;
     while goes_on && taken < most && frames.has_room() {
-        goes_on = serve_one(device, pool, queue, frames, frame, &mut messages);
+        goes_on = serve_one(device, pool, queue, frames, room, &mut messages);
         taken += 1;
     }
     Burst {
@@ -64,7 +64,7 @@ fn serve_one<D: Dma<K>, K>(
     pool: u8,
     queue: Queue,
     frames: &mut Frames,
-    frame: &mut FrameBuf,
+    room: &mut Room,
     messages: &mut Messages,
 ) -> bool
     requires { has_room frames.old ≡ true }
@@ -81,12 +81,12 @@ fn serve_one<D: Dma<K>, K>(
     ensures goes_on { result ≡ goes_on
         (step (told_world device.old.accesses device.new.accesses device.old.world) (Event.Serve pool queue)).answer.reply }
 {
-    let served = device.serve_live(pool, queue, frame);
-    messages.unite(&served.messages);
-    if let Some(frame) = served.left {
+    let response = device.serve_live(pool, queue, room);
+    messages.unite(&response.messages);
+    if let Some(frame) = room.left(&response) {
         frames.push(frame);
     }
-    may_go_on(served.outcome)
+    may_go_on(response.outcome)
 }
 
 // Whether the queue may have more after such a service.

@@ -1,6 +1,6 @@
 //! Room for frames that leave.
 ghost use Rattle.std.specs.Prelude.{◌≡◌, ◌<◌, ◌≤◌, ◌+◌, ◌++◌, true, [], length, slice_index_or, slice_range, vec_len, vec_capacity, IfOk};
-ghost use Rattle.live_run.specs.Frames.{Room, has_room, with_frame};
+ghost use Rattle.live_run.specs.Frames.{FramesState, has_room, with_frame};
 ghost use Rattle.live_run.specs.Stored.{begin_of};
 
 use std::alloc::{AllocError, Global};
@@ -23,10 +23,10 @@ pub struct Frames {
 
 impl Model for Frames {
     ghost use Rattle.std.specs.Prelude.{◌≤◌, length, vec_capacity};
-    ghost use Rattle.live_run.specs.Frames.{Room};
+    ghost use Rattle.live_run.specs.Frames.{FramesState};
     ghost use Rattle.live_run.specs.Stored.{frames_from, IsCut};
 
-    ghost Value = { Room };
+    ghost Value = { FramesState };
 
     ghost view = { λ f. record {
       frames = frames_from 0 f.ends.items f.bytes.items;

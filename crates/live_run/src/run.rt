@@ -1,18 +1,14 @@
 //! Runs of a device, of whatever memories.
-ghost use Rattle.std.specs.Prelude.{◌≡◌, ℕ, ◌<◌, ◌≤◌, ◌++◌, ◌∷◌, [], length, vec_len, vec_capacity, IfOk, IfErr, OnErr};
-ghost use Rattle.device.specs.Outcome.{reply_in, HoldsIn};
-ghost use Rattle.device.specs.World.{World, step};
+ghost use Rattle.std.specs.Prelude.{◌≡◌, IfOk, IfErr, OnErr};
+ghost use Rattle.device.specs.World.{step};
 ghost use Rattle.device.specs.Accesses.{accesses_by};
 ghost use Rattle.device.specs.Live.{told_world, AreMet, AreListed};
 ghost use Rattle.live_run.specs.Live.{IsLiveRun};
 
-use device::{Answer, Device, Event, MemBytes, Outcome, Reply};
+use device::{Answer, Device, Event, Room};
 use live_memory::Dma;
 use std::alloc::Global;
-use wire_frame::{Fault, FrameBuf, PoolId};
-
-/// The most bytes that an event reads.
-const MOST_BYTES: usize = 2048;
+use wire_frame::{Fault, PoolId};
 
 /// Takes events in turn, and answers each, while guests may write the memories. [`Fault::NoMemory`] comes before the first event,
 /// and leaves the device as it was.
@@ -34,22 +30,16 @@ pub fn run_live<D: Dma<K>, K>(
     let Ok(mut answers) = Vec::with_capacity(alloc, events.len()) else {
         return Err(Fault::NoMemory);
     };
-    let mut frame = FrameBuf::blank();
-    let mut bytes = [0u8; MOST_BYTES];
+    let mut room = Room::new();
     for event in events {
-        let answer = take(device, event, &mut frame, &mut bytes);
+        let answer = take(device, event, &mut room);
         answers.push_reserved(answer);
     }
     Ok(answers)
 }
 
 // Takes one event, and answers it.
-fn take<D: Dma<K>, K>(
-    device: &mut Device<D, K>,
-    event: &Event,
-    frame: &mut FrameBuf,
-    bytes: &mut [u8; MOST_BYTES],
-) -> Answer
+fn take<D: Dma<K>, K>(device: &mut Device<D, K>, event: &Event, room: &mut Room) -> Answer
     ensures world { device.new.world
         ≡ (step (told_world device.old.accesses device.new.accesses device.old.world) event.now).world }
     ensures answer { result
@@ -59,31 +49,6 @@ fn take<D: Dma<K>, K>(
         (told_world device.old.accesses device.new.accesses device.old.world) event.now)
         device.old.accesses device.new.accesses }
 {
-    let taken = device.take_live(event.as_request(), frame, bytes);
-    Answer {
-        reply: reply_of(taken.outcome, bytes),
-        raised: taken.messages.to_masks(),
-    }
-}
-
-// The reply that an outcome stands for, where the first cells of `bytes` hold what was read.
-fn reply_of(outcome: Outcome, bytes: &[u8; MOST_BYTES]) -> Reply
-    ensures { (w : World) → HoldsIn bytes.now w outcome → result ≡ reply_in w outcome }
-{
-    match outcome {
-        Outcome::Bytes(span) => Reply::Bytes(kept(&bytes[..span.count()])),
-        Outcome::Refused(fault) => Reply::Refused(fault.number()),
-        other => other.with(MemBytes::new(), 0),
-    }
-}
-
-// The bytes, kept.
-fn kept(bytes: &[u8]) -> MemBytes
-    requires { length bytes.now ≤ 2048 }
-    ensures { result ≡ bytes.now }
-{
-    match MemBytes::from_bytes(bytes) {
-        Ok(kept) => kept,
-        Err(_) => unreachable!(),
-    }
+    let response = device.take_live(event.as_request(), room);
+    response.answer(room)
 }

@@ -1,13 +1,12 @@
 //! Bursts of services.
 
 use crate::compare::assert_equal;
-use device::{Device, Event, MemSlice, Queue};
+use device::{Device, Event, MemSlice, Queue, Room};
 use guest_memory::FlatMem;
 use live_run::{Frames, serve_burst};
 use script_support::registers::{ENABLE, PFVFTE, TDBAL0, TDLEN0, TDT0, TXDCTL0, VTEIMS, VTIVAR};
 use std::alloc::Global;
 use std::test::Fail;
-use wire_frame::FrameBuf;
 
 // Where the ring is, and the frames, 64 bytes apart.
 const RING: u64 = 0x1000;
@@ -71,7 +70,7 @@ fn burst(
     frames: &mut Frames,
     alloc: Global,
 ) -> Result<(usize, bool, u8, Vec<u8>), Fail> {
-    let mut room = FrameBuf::blank();
+    let mut room = Room::new();
     let done = serve_burst(device, 0, Queue::Q0, most, frames, &mut room);
     let mut numbers = Vec::new(alloc);
     for number in 0..frames.len() {
@@ -147,7 +146,7 @@ fn a_burst_of_nobody_is_refused(rt: HostRuntime) -> Result<(), Fail> {
     let alloc = rt.alloc();
     let mut device = device_to_serve(alloc, 1)?;
     let mut frames = Frames::new(alloc, 64, 65536)?;
-    let mut room = FrameBuf::blank();
+    let mut room = Room::new();
     for pool in [1, 255] {
         let done = serve_burst(&mut device, pool, Queue::Q1, 64, &mut frames, &mut room);
         assert_equal(&rt, (done.taken, done.goes_on), (1, false));

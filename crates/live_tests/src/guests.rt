@@ -1,9 +1,8 @@
 //! Guests that come to a device and go, with memory of any size.
 
 use crate::compare::assert_equal;
-use device::bytes::MOST_BYTES;
 use device::guests::MOST_MEMORY;
-use device::{Device, Event, Outcome, Queue, Reply, Request};
+use device::{Device, Event, Queue, Reply, Request, Room};
 use live_memory::{Dma, Shared};
 use live_run::run_live;
 use mapped_memory::LiveMem;
@@ -106,14 +105,14 @@ fn word(device: &mut Device<LiveMem<'_>, Shared>, offset: u32) -> Option<u32> {
 
 // The eight bytes of function 0's memory from an address on.
 fn bytes_at(device: &mut Device<LiveMem<'_>, Shared>, at: u64) -> Option<[u8; 8]> {
-    let mut frame = FrameBuf::blank();
-    let mut room = [0; MOST_BYTES];
-    let taken = device.take_live(Request::MemRead(0, at, 8), &mut frame, &mut room);
-    let Outcome::Bytes(_) = taken.outcome else {
+    let mut room = Room::new();
+    let response = device.take_live(Request::MemRead(0, at, 8), &mut room);
+    let read = room.read(response.outcome);
+    if read.len() != 8 {
         return None;
-    };
+    }
     let mut bytes = [0; 8];
-    bytes.copy_from_slice(&room[..8]);
+    bytes.copy_from_slice(read);
     Some(bytes)
 }
 

@@ -3,32 +3,27 @@
 
 use crate::compare::assert_equal;
 use crate::restless::Restless;
-use device::{Device, MemSlice, Outcome, Request};
+use device::{Device, MemSlice, Outcome, Request, Room};
 use guest_memory::{FlatMem, GuestMem};
-use history::{Caller, History, Room};
+use history::{Caller, History, Replay};
 use live_memory::Dma;
 use script_support::registers::VFLINKS;
 use std::alloc::Global;
 use std::process::Abort;
 use std::test::Fail;
-use wire_frame::FrameBuf;
 
-// One more call, for which there is room, of a device over whatever memory; and how many bytes were read, where some were.
+// One more call, for which there is room, of a device over whatever memory; and what came of it.
 fn keep<R: Abort, D: Dma<K>, K>(
     rt: &R,
     history: &mut History,
     device: &mut Device<D, K>,
     request: Request<'_>,
-) -> Option<usize> {
+    room: &mut Room,
+) -> Outcome {
     assert!(rt; !history.is_full());
-    let mut frame = FrameBuf::blank();
-    match history
-        .record_live(Caller::Service, request, device, &mut frame)
+    history
+        .record(Caller::Service, request, device, room)
         .outcome
-    {
-        Outcome::Bytes(span) => Some(span.count()),
-        _ => None,
-    }
 }
 
 // A device over one memory.
@@ -65,27 +60,22 @@ fn gives<M: GuestMem>(
     if index >= history.len() {
         return Err("no such call".into());
     }
-    Ok(history.gives(index, device, &mut Room::new()))
+    Ok(history.gives(index, device, &mut Replay::new()))
 }
 
 #[test]
 fn the_bytes_that_are_kept_are_handed_out(rt: HostRuntime) -> Result<(), Fail> {
     let mut device = over(rt.alloc(), Restless::new())?;
     let mut history = History::new(rt.alloc(), 16)?;
-    assert_equal(&rt, history.last_read().len(), 0);
-    keep(&rt, &mut history, &mut device, Request::Open(0));
+    let mut room = Room::new();
+    keep(&rt, &mut history, &mut device, Request::Open(0), &mut room);
     for (request, due) in ASKED {
-        let read = keep(&rt, &mut history, &mut device, request);
-        match due {
-            Some(bytes) => {
-                assert_equal(&rt, read, Some(bytes.len()));
-                assert_equal(&rt, history.last_read(), bytes);
-            }
-            None => {
-                assert_equal(&rt, read, None);
-                assert_equal(&rt, history.last_read().len(), 0);
-            }
-        }
+        let outcome = keep(&rt, &mut history, &mut device, request, &mut room);
+        let read = match outcome {
+            Outcome::Bytes(_) => Some(room.read(outcome)),
+            _ => None,
+        };
+        assert_equal(&rt, read, due);
     }
     // the first read was answered as where the guest had written ones, and the second as where it had written twos
     let mut twin = over(rt.alloc(), FlatMem::new(rt.alloc(), 4096)?)?;

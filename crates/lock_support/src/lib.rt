@@ -3,7 +3,9 @@
 #![tactic(auto)]
 
 mod events;
+mod seats;
 mod stage;
 
 pub use events::{arrival, frame_to_3, is_scripted, opening, script, settings};
-pub use stage::{answer, line_of, locked, recorded};
+pub use seats::{last_seat, line, line_of, port_share};
+pub use stage::{answer, locked, recorded};

@@ -1,39 +1,16 @@
 //! A recorded device, by itself and behind its lock, and what a caller is answered.
-ghost use Rattle.std.specs.Prelude.{◌≡◌, [], IfOk, IfSome};
+ghost use Rattle.std.specs.Prelude.{◌≡◌, [], IfOk};
+ghost use Rattle.lock_support.specs.Lines.{AreSharesOf};
 ghost use Rattle.recorder.specs.Made.{AreUnused, IsFresh};
 
 use device::{Answer, Device, Event};
 use device_lock::{LockedDevice, Recorded, Share, Shares};
 use guest_memory::GuestMem;
-use irq_line::{DeviceSeat, GuestSeat, make};
+use irq_line::DeviceSeat;
 use std::alloc::Global;
 use std::sync::ledger::{Blank, Ledger};
 use std::sync::{Arc, Wait};
 use wire_frame::Fault;
-
-/// A line: the device's seat, and the guest's of a pool. [`Fault::NoSuchVf`] for a pool of 64 or more.
-pub fn line_of(alloc: Global, pool: u8) -> Result<(DeviceSeat, GuestSeat), Fault>
-    ensures line { IfOk result (λ r. r.0.raises ≡ []) }
-    ensures pool { IfOk result (λ r. r.1.view.pool ≡ pool) }
-{
-    let (line, seats) = make(alloc)?;
-    match seat_of(seats, pool) {
-        Some(seat) => Ok((line, seat)),
-        None => Err(Fault::NoSuchVf),
-    }
-}
-
-// The seat of a pool, of a line's seats.
-fn seat_of(seats: Vec<GuestSeat>, pool: u8) -> Option<GuestSeat>
-    ensures { IfSome result (λ seat. seat.view.pool ≡ pool) }
-{
-    for seat in seats {
-        if seat.pool() == pool {
-            return Some(seat);
-        }
-    }
-    None
-}
 
 // A device as it is made.
 fn fresh<M: GuestMem>(alloc: Global, memories: Vec<M>) -> Result<Device<M>, Fault>
@@ -43,6 +20,7 @@ fn fresh<M: GuestMem>(alloc: Global, memories: Vec<M>) -> Result<Device<M>, Faul
 }
 
 /// A recorded device over these memories, with a twin over the others where there are any, which keeps `cap` calls.
+#[tactic(auto, using(crate::proofs::Lines::pump_line, crate::proofs::Lines::unused_shares))]
 pub fn recorded<M: GuestMem, L: Ledger>(
     alloc: Global,
     blank: Blank,
@@ -54,7 +32,10 @@ pub fn recorded<M: GuestMem, L: Ledger>(
     requires name { blank.name ≡ L.name }
     requires parts { (blank.parts ≡ L.parts) × (blank.parts ≡ 67) }
     requires line { line.raises ≡ [] }
-    ensures shares { IfOk result (λ r. AreUnused r.1) }
+    ensures line { IfOk result (λ r. r.0.line ≡ line) }
+    ensures unused { IfOk result (λ r. AreUnused line.line r.1) }
+    ensures shares { IfOk result (λ r. AreSharesOf r.1.pump.line r.1.ports.items) }
+    ensures same { IfOk result (λ r. r.1.pump.line ≡ line.line) }
 {
     let live = fresh(alloc, memories)?;
     match twins {
@@ -75,7 +56,9 @@ pub fn locked<M: GuestMem, L: Ledger>(
     requires name { blank.name ≡ L.name }
     requires parts { (blank.parts ≡ L.parts) × (blank.parts ≡ 67) }
     requires line { line.raises ≡ [] }
-    ensures shares { IfOk result (λ r. AreUnused r.1) }
+    ensures unused { IfOk result (λ r. AreUnused line.line r.1) }
+    ensures shares { IfOk result (λ r. AreSharesOf r.1.pump.line r.1.ports.items) }
+    ensures same { IfOk result (λ r. r.1.pump.line ≡ line.line) }
 {
     let (recorded, shares) = recorded(alloc, blank, line, memories, twins, cap)?;
     let device = LockedDevice::new(alloc, recorded)?;

@@ -3,6 +3,8 @@
 #![tactic(auto)]
 
 #[cfg(test)]
+mod compared;
+#[cfg(test)]
 mod full;
 #[cfg(test)]
 mod making;
@@ -12,3 +14,5 @@ mod rights;
 mod taken_out;
 #[cfg(test)]
 mod threads;
+#[cfg(test)]
+mod when_full;

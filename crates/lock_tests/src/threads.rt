@@ -1,8 +1,8 @@
 //! A recorded device that threads share.
 ghost use Rattle.std.specs.Prelude.{◌≡◌};
 
-use device::{Device, Event, MemSlice, Outcome, Request};
-use device_lock::{LockedDevice, Share, Shares};
+use device::{Device, Event, MemSlice, Outcome, Request, Room};
+use device_lock::{LockedDevice, Share, Shares, WhenFull};
 use guest_memory::FlatMem;
 use irq_line::GuestSeat;
 use lock_support::{answer, arrival, is_scripted, line_of, locked, opening, settings};
@@ -14,7 +14,6 @@ use std::test::Fail;
 use std::thread;
 use std::thread::Threads;
 use test_support::memories;
-use wire_frame::FrameBuf;
 
 // Events in turn; how many are answered as events from number `first` on of the script.
 fn act_all<R: Wait, L: Ledger>(
@@ -123,27 +122,24 @@ fn a_driver_sets_while_the_service_opens(rt: HostRuntime) -> Result<(), Fail> {
     Ok(())
 }
 
-// How many bytes the port of pool 3 reads from an address on, if any.
-fn read_count<R: Wait, L: Ledger>(
+// The three bytes that the port of pool 3 reads from an address on, if any.
+fn three_at<R: Wait, L: Ledger>(
     rt: &R,
     device: &LockedDevice<FlatMem, L>,
     port: &mut Share<L>,
     at: u64,
-    count: u16,
-    read: &mut [u8; 2048],
-) -> Option<usize> {
-    let request = Request::MemRead(3, at, count);
+    room: &mut Room,
+) -> Option<[u8; 3]> {
+    let request = Request::MemRead(3, at, 3);
     if !port.may(request) {
         return None;
     }
-    let mut frame = FrameBuf::blank();
-    match device.act_request(rt, port, request, &mut frame, read) {
-        Some(taken) => match taken.outcome {
-            Outcome::Bytes(span) => Some(span.count()),
-            _ => None,
-        },
-        None => None,
+    let response = device.act_request(rt, port, request, room, WhenFull::Refuse)?;
+    let read = room.read(response.outcome);
+    if read.len() != 3 {
+        return None;
     }
+    Some([read[0], read[1], read[2]])
 }
 
 // Writes bytes to the memory of function 3 by its port.
@@ -153,22 +149,21 @@ fn is_written<R: Wait, L: Ledger>(
     port: &mut Share<L>,
     at: u64,
     bytes: MemSlice<'_>,
+    room: &mut Room,
 ) -> bool {
     let request = Request::MemWrite(3, at, bytes);
-    let mut frame = FrameBuf::blank();
     if !port.may(request) {
         return false;
     }
-    match device.act_request(rt, port, request, &mut frame, &mut []) {
-        Some(taken) => taken.outcome == Outcome::Done,
+    match device.act_request(rt, port, request, room, WhenFull::Refuse) {
+        Some(response) => response.outcome == Outcome::Done,
         None => false,
     }
 }
 
-// How many bytes a read of a closed function gives; whether it is opened, and two bytes are written to the end of its memory; how
-// many bytes three more reads give, over the last byte but two, past the end, and as the first, for which there is no room; and what
-// stands at the front of what is handed in.
-type Read = (Option<usize>, (bool, bool), [Option<usize>; 3], [u8; 5]);
+// What a read of a closed function gives; whether it is opened, and two bytes are written to the end of its memory; and what three more
+// reads give, over the last byte but two, past the end, and as the first, for which there is no room.
+type Read = (Option<[u8; 3]>, (bool, bool), [Option<[u8; 3]>; 3]);
 
 fn read_by<R: Wait, L: Ledger>(
     rt: &R,
@@ -177,15 +172,14 @@ fn read_by<R: Wait, L: Ledger>(
     port: &mut Share<L>,
     bytes: MemSlice<'_>,
 ) -> Read {
-    let mut read = [9; 2048];
-    let closed = read_count(rt, device, port, 0, 3, &mut read);
+    let mut room = Room::new();
+    let closed = three_at(rt, device, port, 0, &mut room);
     let is_open = answer(rt, device, service, Event::Open(3)).is_some();
-    let is_kept = is_written(rt, device, port, 4094, bytes);
-    let inside = read_count(rt, device, port, 4093, 3, &mut read);
-    let past = read_count(rt, device, port, 4094, 3, &mut read);
-    let full = read_count(rt, device, port, 4093, 3, &mut read);
-    let front = [read[0], read[1], read[2], read[3], read[4]];
-    (closed, (is_open, is_kept), [inside, past, full], front)
+    let is_kept = is_written(rt, device, port, 4094, bytes, &mut room);
+    let inside = three_at(rt, device, port, 4093, &mut room);
+    let past = three_at(rt, device, port, 4094, &mut room);
+    let full = three_at(rt, device, port, 4093, &mut room);
+    (closed, (is_open, is_kept), [inside, past, full])
 }
 
 // The same of a device of which five calls are kept, and how many the port and the service made.
@@ -208,11 +202,11 @@ fn reads_back<R: Wait, L: Ledger>(
 }
 
 // A port reads nothing from a closed function. Once it is open, the port writes two bytes to the end of its memory and reads them
-// back: they stand at the front of what is handed in, and the rest stays. Nothing is read past the end of the memory.
+// back. Nothing is read past the end of the memory, though the room has bytes of the read before.
 #[test]
 fn a_port_reads_back_what_it_wrote(rt: HostRuntime) -> Result<(), Fail> {
     let seen = reads_back::<HostRuntime, Brand>(&rt, rt.alloc(), Blank::new(67))?;
-    let due = (None, (true, true), [Some(3), None, None], [0, 7, 8, 9, 9]);
+    let due = (None, (true, true), [Some([0, 7, 8]), None, None]);
     assert_eq!(rt; seen, (due, (4, 1)));
     Ok(())
 }

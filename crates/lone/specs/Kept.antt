@@ -1,7 +1,7 @@
 -- The values of the code that stand for what a run keeps for a pool, and for what is seen of a lone function.
 use Rattle.std.specs.Prelude.{◌≡◌, ℕ, Option, Some, None}
-use Rattle.vf_unit.specs.Unit.{Function}
 use Rattle.device.specs.Request.{event_of}
+use Rattle.device.specs.declared.room.Room.{Room}
 use Rattle.device.specs.Outcome.{reply_of}
 use Rattle.device.specs.World.{World}
 use Rattle.device.specs.Lone.{Item, OwnEvent, NewSettings, Gone, Offer, Observation, Replied, Interrupted, Lone, lone_of, moved, shown}
@@ -22,10 +22,10 @@ item_of (NewSettings o) = NewSettings o.now
 item_of Gone = Gone
 item_of (Offer frame looped) = Offer frame.now looped
 
--- the observation that a value stands for, by the function that it was made of
-abbrev pub observation_of : Function → Seen → Observation
-observation_of f (Replied outcome vectors) = Replied (reply_of f outcome) vectors
-observation_of f (Interrupted vectors) = Interrupted vectors
+-- the observation that a value stands for, where bytes that were read stand first in the room
+abbrev pub observation_of : Room → Seen → Observation
+observation_of room (Replied outcome vectors) = Replied (reply_of room.bytes outcome) vectors
+observation_of room (Interrupted vectors) = Interrupted vectors
 
 -- what a lone function becomes by what an event leaves for it, if it leaves anything
 abbrev pub moved_by_kept : Lone → Option Item → Lone

@@ -1,6 +1,6 @@
 //! What a lone function is given, and what is seen of it.
 
-use device::{Outcome, Request};
+use device::{Outcome, Request, Room};
 use irq_causes::Vectors;
 use pool_filter::Own;
 use wire_frame::FrameBuf;
@@ -18,7 +18,7 @@ pub enum Given<'a> {
     Offer(&'a FrameBuf, bool),
 }
 
-/// What is seen of a function, in few words. Bytes that were read stand in its memory still.
+/// What is seen of a function, in few words. Bytes that were read stand in the [`Room`] that was lent.
 #[derive(Clone, Copy, Debug, PartialEq, Eq)]
 pub enum Seen {
     /// What came of an event of its own, and the vectors whose messages it issued.
@@ -27,25 +27,26 @@ pub enum Seen {
     Interrupted(Vectors),
 }
 
-/// Room for the settings and the frame that a function is given, lent to whoever gives them.
+/// What a watched device hands over to a function by itself: the pool's own settings, and the room in which a frame of another function
+/// stands. It is made once, and lent for each event.
 #[derive(Drop)]
-pub struct Room {
+pub struct Handover {
     pub(crate) settings: Own,
-    pub(crate) frame: FrameBuf,
+    pub(crate) room: Room,
 }
 
-impl Room {
-    /// Room that nothing was laid into.
-    pub fn new() -> Room {
-        Room {
+impl Handover {
+    /// Nothing is handed over yet.
+    pub fn new() -> Handover {
+        Handover {
             settings: Own::none(),
-            frame: FrameBuf::blank(),
+            room: Room::new(),
         }
     }
 }
 
-impl Default for Room {
-    fn default() -> Room {
-        Room::new()
+impl Default for Handover {
+    fn default() -> Handover {
+        Handover::new()
     }
 }

@@ -13,6 +13,6 @@ pub mod laws;
 pub mod lone;
 pub mod pool_view;
 
-pub use item::{Given, Room, Seen};
+pub use item::{Given, Handover, Seen};
 pub use lone::Lone;
 pub use pool_view::PoolView;

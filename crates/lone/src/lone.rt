@@ -1,14 +1,14 @@
 //! One function and its own settings.
-ghost use Rattle.std.specs.Prelude.{◌≡◌, ℕ, length, replicate, Some, IfOk, IfErr};
+ghost use Rattle.std.specs.Prelude.{◌≡◌, length, Some, IfOk, IfErr};
 ghost use Rattle.std.specs.Option.{option_map};
-ghost use Rattle.vf_unit.specs.Unit.{bytes_at};
+ghost use Rattle.device.specs.declared.room.Room.{Room};
 ghost use Rattle.device.specs.Request.{event_of};
 ghost use Rattle.device.specs.Lone.{alone, moved, shown, OwnEvent, Offer};
 ghost use Rattle.lone.specs.Kept.{item_of, observation_of};
 
 use crate::item::{Given, Seen};
-use device::act::{act, read_or_zero};
-use device::{Profile, Request, Span, serve_queue};
+use device::act::act;
+use device::{Profile, Request, Room, serve_queue};
 use guest_memory::GuestMem;
 use pool_filter::Own;
 use std::alloc::Global;
@@ -22,8 +22,6 @@ pub struct Lone<M: GuestMem> {
     profile: Profile,
     unit: VfUnit<M>,
     settings: Own,
-    // a frame that is sent is put together here
-    frame: FrameBuf,
 }
 
 impl<M: GuestMem> Model for Lone<M> {
@@ -45,18 +43,17 @@ impl<M: GuestMem> Lone<M> {
             profile: Profile::plain(limit),
             unit: VfUnit::new(alloc, memory)?,
             settings: Own::none(),
-            frame: FrameBuf::blank(),
         })
     }
 
-    /// Takes what it is given, and tells what is seen of it.
-    pub fn take(&mut self, given: Given<'_>) -> Option<Seen>
+    /// Takes what it is given, and tells what is seen of it. A frame that a service sends is put together in `room`, and so are bytes that
+    /// are read.
+    pub fn take(&mut self, given: Given<'_>, room: &mut Room) -> Option<Seen>
         ensures lone { self.new ≡ moved self.old (item_of given.entry) }
-        ensures seen { option_map (observation_of self.new.function) result
-            ≡ shown self.old (item_of given.entry) }
+        ensures seen { option_map (observation_of room.new) result ≡ shown self.old (item_of given.entry) }
     {
         match given {
-            Given::OwnEvent(request) => Some(self.own_event(request)),
+            Given::OwnEvent(request) => Some(self.own_event(request, room)),
             Given::NewSettings(settings) => {
                 self.settings.refill(settings);
                 None
@@ -70,19 +67,10 @@ impl<M: GuestMem> Lone<M> {
         }
     }
 
-    /// Fills `out` with the bytes of its memory from a span's address on. Where it is closed it has zeros, and so are bytes
-    /// past the end of the memory.
-    pub fn read_span(&self, span: Span, out: &mut [u8])
-        ensures { out.new
-            ≡ bytes_at self.now.function span.at (replicate {A = ℕ} (length out.old) 0) }
-    {
-        read_or_zero(&self.unit, span.at(), out);
-    }
-
     // An event of its own.
-    fn own_event(&mut self, request: Request<'_>) -> Seen
+    fn own_event(&mut self, request: Request<'_>, room: &mut Room) -> Seen
         ensures lone { self.new ≡ moved self.old (OwnEvent (event_of request.entry)) }
-        ensures seen { Some (observation_of self.new.function result)
+        ensures seen { Some (observation_of room.new result)
             ≡ shown self.old (OwnEvent (event_of request.entry)) }
     {
         let acted = match request {
@@ -91,9 +79,9 @@ impl<M: GuestMem> Lone<M> {
                 self.profile.limit,
                 &mut self.unit,
                 queue,
-                &mut self.frame,
+                room,
             ),
-            _ => act(&mut self.unit, request),
+            _ => act(&mut self.unit, request, room),
         };
         Seen::Replied(acted.outcome, acted.vectors)
     }
@@ -101,7 +89,7 @@ impl<M: GuestMem> Lone<M> {
     // A frame, which comes in where the settings say that the function may receive.
     fn offer(&mut self, frame: &FrameBuf, looped: bool) -> Option<Seen>
         ensures lone { self.new ≡ moved self.old (Offer frame.now looped) }
-        ensures seen { option_map (observation_of self.new.function) result
+        ensures seen { (room : Room) → option_map (observation_of room) result
             ≡ shown self.old (Offer frame.now looped) }
     {
         if !self.settings.may_receive() {

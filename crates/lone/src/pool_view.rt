@@ -8,8 +8,8 @@ ghost use Rattle.device.specs.declared.event.Event.{Event};
 ghost use Rattle.device.specs.Lone.{kept, kept_of, pool_of};
 ghost use Rattle.lone.specs.Kept.{item_of};
 
-use crate::item::{Given, Room};
-use device::{Device, Queue, Request};
+use crate::item::{Given, Handover};
+use device::{Device, Queue, Request, Room};
 use guest_memory::GuestMem;
 use local_switch::{Source, is_for_pool};
 use pool_filter::Own;
@@ -52,57 +52,69 @@ impl<M: GuestMem> PoolView<M> {
         }
     }
 
+    /// The pool that the device is watched for.
+    #[inline]
+    pub fn pool(&self) -> PoolId
+        ensures { result ≡ self.now.pool }
+    {
+        self.pool
+    }
+
     /// Takes the event that a request stands for, and gives what it leaves for the pool's function, if it leaves anything.
-    /// Settings and frames are given from `room`.
-    pub fn step<'a>(&mut self, request: Request<'a>, room: &'a mut Room) -> Option<Given<'a>>
+    /// Settings and frames of other functions are given from `handover`.
+    pub fn step<'a>(
+        &mut self,
+        request: Request<'a>,
+        handover: &'a mut Handover,
+    ) -> Option<Given<'a>>
         ensures world { self.new.world ≡ (step self.old.world (event_of request.entry)).world }
         ensures pool { self.new.pool ≡ self.old.pool }
         ensures kept { option_map item_of result
             ≡ kept self.old.pool self.old.world (event_of request.entry) }
     {
         if owner(request) == Some(self.pool.get()) {
-            self.pass(request, &mut room.frame);
+            self.pass(request, &mut handover.room);
             return Some(Given::OwnEvent(request));
         }
         match request {
-            Request::PfWrite(offset, value) => self.pf_write(offset, value, &mut room.settings),
+            Request::PfWrite(offset, value) => self.pf_write(offset, value, &mut handover.settings),
             Request::PfReset => {
                 self.pf_reset();
                 Some(Given::Gone)
             }
             Request::Wire(frame) => self.wire(frame),
-            Request::Serve(sender, queue) => self.serve(sender, queue, &mut room.frame),
+            Request::Serve(sender, queue) => self.serve(sender, queue, &mut handover.room),
             _ => {
-                self.pass(request, &mut room.frame);
+                self.pass(request, &mut handover.room);
                 None
             }
         }
     }
 
     // An event that leaves the settings as they are.
-    fn pass(&mut self, request: Request<'_>, frame: &mut FrameBuf)
+    fn pass(&mut self, request: Request<'_>, room: &mut Room)
         requires { (step self.old.world (event_of request)).world.settings
             ≡ self.old.world.settings }
         ensures world { self.new.world ≡ (step self.old.world (event_of request.entry)).world }
         ensures pool { self.new.pool ≡ self.old.pool }
     {
-        self.device.take(request, frame);
+        self.device.take(request, room);
     }
 
     // A write to a register of the physical function.
-    fn pf_write<'a>(&mut self, offset: u32, value: u32, room: &'a mut Own) -> Option<Given<'a>>
+    fn pf_write<'a>(&mut self, offset: u32, value: u32, settings: &'a mut Own) -> Option<Given<'a>>
         ensures world { self.new.world ≡ (step self.old.world (Event.PfWrite offset value)).world }
         ensures pool { self.new.pool ≡ self.old.pool }
         ensures kept { option_map item_of result
             ≡ kept_of self.old.pool self.old.world (Event.PfWrite offset value) }
     {
         let _ = self.device.pf_write(offset, value);
-        self.device.tables().own(self.pool, room);
-        if self.settings.is_same(room) {
+        self.device.tables().own(self.pool, settings);
+        if self.settings.is_same(settings) {
             return None;
         }
-        self.settings.refill(room);
-        Some(Given::NewSettings(room))
+        self.settings.refill(settings);
+        Some(Given::NewSettings(settings))
     }
 
     // The reset of the device.
@@ -131,7 +143,7 @@ impl<M: GuestMem> PoolView<M> {
     }
 
     // The service of another pool's queue.
-    fn serve<'a>(&mut self, sender: u8, queue: Queue, frame: &'a mut FrameBuf) -> Option<Given<'a>>
+    fn serve<'a>(&mut self, sender: u8, queue: Queue, room: &'a mut Room) -> Option<Given<'a>>
         ensures world { self.new.world ≡ (step self.old.world (Event.Serve sender queue)).world }
         ensures pool { self.new.pool ≡ self.old.pool }
         ensures kept { option_map item_of result
@@ -139,8 +151,8 @@ impl<M: GuestMem> PoolView<M> {
     {
         let count = self.device.functions();
         prove!(count <= usize::from(PoolId::COUNT));
-        let taken = self.device.serve(sender, queue, frame);
-        let (Some(frame), Some(sender)) = (taken.sent, PoolId::new(sender)) else {
+        let response = self.device.serve(sender, queue, room);
+        let (Some(frame), Some(sender)) = (room.sent(&response), PoolId::new(sender)) else {
             return None;
         };
         if is_for_pool(self.device.tables(), Source::Pool(sender), frame, self.pool) {

@@ -49,14 +49,15 @@ kept_next p q w after es i e k less is world left same =
 
 -- ---- what is seen of a lone function
 
-pub seen_next : (p q : ℕ) (s moved : Lone) (w after : World) (es : List Event) (i : ℕ) (e : Event) (o : Option Observation) → i < length es → e ≡ slice_index_or es i PfReset
-    → q ≡ p → after ≡ (step w e).world → moved ≡ moved_by_kept s (kept q w e) → o ≡ shown_by_kept s (kept q w e)
-    → seen_lines (i + 1) p s w (drop i es) ≡ if_any (seen_line p) (i + 1) o ++ seen_lines (i + 1 + 1) p moved after (drop (i + 1) es)
-seen_next p q s moved w after es i e o less is same world lone seen =
+-- where the pool is read after the event
+pub seen_next : (p q r : ℕ) (s moved : Lone) (w after : World) (es : List Event) (i : ℕ) (e : Event) (o : Option Observation) → i < length es → e ≡ slice_index_or es i PfReset
+    → q ≡ p → r ≡ q → after ≡ (step w e).world → moved ≡ moved_by_kept s (kept p w e) → o ≡ shown_by_kept s (kept p w e)
+    → seen_lines (i + 1) p s w (drop i es) ≡ if_any (seen_line r) (i + 1) o ++ seen_lines (i + 1 + 1) q moved after (drop (i + 1) es)
+seen_next p q r s moved w after es i e o less is same read world lone seen =
     at_drop_more (seen_lines (i + 1) p s w) es i PfReset less
-    ∙ (λ j. if_any (seen_line p) (i + 1) (shown_by_kept s (kept (sym same j) w (sym is j)))
-    ++ seen_lines (after_one (i + 1) j) p (moved_by_kept s (kept (sym same j) w (sym is j))) (step w (sym is j)).world (drop (i + 1) es))
-    ∙ (λ j. if_any (seen_line p) (i + 1) (sym seen j) ++ seen_lines (i + 1 + 1) p (sym lone j) (sym world j) (drop (i + 1) es))
+    ∙ (λ j. if_any (seen_line p) (i + 1) (shown_by_kept s (kept p w (sym is j)))
+    ++ seen_lines (after_one (i + 1) j) p (moved_by_kept s (kept p w (sym is j))) (step w (sym is j)).world (drop (i + 1) es))
+    ∙ (λ j. if_any (seen_line (sym (read ∙ same) j)) (i + 1) (sym seen j) ++ seen_lines (i + 1 + 1) (sym same j) (sym lone j) (sym world j) (drop (i + 1) es))
 
 -- ---- the whole of a run
 
@@ -82,12 +83,13 @@ pub kept_whole : (out : List ℕ) (w v : Watched) (device shape : World) (p : �
 kept_whole out w v device shape p es same made is =
     (λ k. out ++ keep_text ((same ∙ made) k).pool ((same ∙ made) k).world es) ∙ (λ k. out ++ keep_text p (is k) es)
 
-pub seen_same : (out : List ℕ) (w : World) (p : ℕ) (s l first : Lone) (es : List Event) → s ≡ l → l ≡ first
-    → out ++ lone_text p s w es ≡ out ++ lone_text p first w es
-seen_same out w p s l first es new made = λ k. out ++ lone_text p ((new ∙ made) k) w es
+pub seen_same : (out : List ℕ) (w : World) (p : ℕ) (s l : Lone) (limit most size : ℕ) (es : List Event) → s ≡ l → l ≡ alone limit size → limit ≡ most
+    → out ++ lone_text p s w es ≡ out ++ lone_text p (alone most size) w es
+seen_same out w p s l limit most size es new made as_long =
+    (λ k. out ++ lone_text p ((new ∙ made) k) w es) ∙ (λ k. out ++ lone_text p (alone (as_long k) size) w es)
 
-pub seen_whole : (out : List ℕ) (w v : Watched) (device shape : World) (p limit size most asked : ℕ) (es : List Event)
-    → w ≡ v → v ≡ record { world = device; pool = p } → device ≡ shape → limit ≡ most → size ≡ asked
-    → out ++ lone_text p (alone limit size) w.world es ≡ out ++ lone_text p (alone most asked) shape es
-seen_whole out w v device shape p limit size most asked es same made is as_long as_asked =
-    (λ k. out ++ lone_text p (alone limit size) ((same ∙ made) k).world es) ∙ (λ k. out ++ lone_text p (alone (as_long k) (as_asked k)) (is k) es)
+pub seen_whole : (out : List ℕ) (w v : Watched) (device shape : World) (p limit size asked : ℕ) (es : List Event)
+    → w ≡ v → v ≡ record { world = device; pool = p } → device ≡ shape → size ≡ asked
+    → out ++ lone_text w.pool (alone limit size) w.world es ≡ out ++ lone_text p (alone limit asked) shape es
+seen_whole out w v device shape p limit size asked es same made is as_asked =
+    (λ k. out ++ lone_text ((same ∙ made) k).pool (alone limit size) ((same ∙ made) k).world es) ∙ (λ k. out ++ lone_text p (alone limit (as_asked k)) (is k) es)

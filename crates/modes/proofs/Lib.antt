@@ -1,4 +1,5 @@
 mod Isolated
 mod Left
+mod Lines
 pub mod Matches
 pub mod Told

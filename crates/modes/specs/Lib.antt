@@ -1,5 +1,6 @@
 pub mod Faults
 pub mod Isolation
+pub mod Lines
 pub mod Matches
 pub mod Program
 pub mod Report

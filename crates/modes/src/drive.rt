@@ -9,7 +9,7 @@ ghost use Rattle.modes.specs.Faults.{is_late};
 ghost use Rattle.modes.specs.Isolation.{BeganIsolated, WroteIsolated};
 ghost use Rattle.modes.specs.Program.{device_of, text_of, BeganToWrite, Says, StopsAt, Tells, Wrote};
 
-use crate::alone::lone_function;
+use crate::alone::{Memories, lone_function};
 use crate::fault::Fault;
 use crate::keep::keep;
 use crate::making::drop_boxed;
@@ -139,7 +139,11 @@ fn tell<W: Write>(
         Task::Lone(pool) => {
             let memory = FlatMem::new(alloc, shape.memory_size)?;
             let memory: Box<dyn GuestMem + Send> = Box::new(alloc, memory)?;
-            lone_function(alloc, script, pool, memories, memory, output, writer)
+            let memories = Memories {
+                device: memories,
+                alone: memory,
+            };
+            lone_function(alloc, script, pool, memories, output, writer)
         }
     }
 }

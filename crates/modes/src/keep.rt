@@ -9,10 +9,10 @@ ghost use Rattle.modes.specs.Faults.{is_late};
 ghost use Rattle.modes.specs.Program.{device_of};
 
 use crate::fault::Fault;
-use crate::making::{drop_boxed, make_device, make_room, make_watch};
+use crate::making::{drop_boxed, make_device, make_scratch, make_watch};
 use guest_memory::GuestMem;
-use lone::{Given, PoolView};
-use script::{Room, Script};
+use lone::{Given, Handover, PoolView};
+use script::{Scratch, Script};
 use std::alloc::Global;
 use std::io::Write;
 use transcript::Output;
@@ -42,7 +42,7 @@ pub fn keep<M: GuestMem, W: Write>(
     told
 }
 
-// Makes the room for the events, and gives them to the watched device and what they leave to the output.
+// Makes where the requests are laid out, and gives the events to the watched device and what they leave to the output.
 fn perform<M: GuestMem, W: Write>(
     alloc: Global,
     watch: &mut PoolView<M>,
@@ -56,9 +56,9 @@ fn perform<M: GuestMem, W: Write>(
         (output.old ++ keep_text watch.old.pool watch.old.world script.now.events)) }
     ensures late { IfErr result (λ e. is_late e ≡ true) }
 {
-    let mut room = make_room(alloc)?;
-    let told = items(watch, script, &mut room, output, writer);
-    drop_boxed(room);
+    let mut scratch = make_scratch(alloc)?;
+    let told = items(watch, script, &mut scratch, output, writer);
+    drop_boxed(scratch);
     Ok(told?)
 }
 
@@ -67,7 +67,7 @@ fn perform<M: GuestMem, W: Write>(
 fn items<M: GuestMem, W: Write>(
     watch: &mut PoolView<M>,
     script: &Script,
-    room: &mut Room,
+    scratch: &mut Scratch,
     output: &mut Output,
     writer: &mut W,
 ) -> Result<(), transcript::Fault>
@@ -76,10 +76,10 @@ fn items<M: GuestMem, W: Write>(
     ensures err { OnErr result (Began (W.contents writer.old) (W.contents writer.new)
         (output.old ++ keep_text watch.old.pool watch.old.world script.now.events)) }
 {
-    let mut given_room = lone::Room::new();
+    let mut handover = Handover::new();
     for index in 0..script.len() {
-        let request = script.request(index, room);
-        let given = watch.step(request, &mut given_room);
+        let request = script.request(index, scratch);
+        let given = watch.step(request, &mut handover);
         item(output, index as u64 + 1, given, writer)?;
     }
     Ok(())

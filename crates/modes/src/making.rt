@@ -7,10 +7,10 @@ ghost use Rattle.modes.specs.Faults.{is_late};
 ghost use Rattle.modes.specs.Program.{device_of};
 
 use crate::fault::Fault;
-use device::Device;
+use device::{Device, Room};
 use guest_memory::GuestMem;
 use lone::{Lone, PoolView};
-use script::{Room, Shape};
+use script::{Scratch, Shape};
 use std::alloc::{AllocError, Global};
 use wire_frame::{FrameLimit, PoolId};
 
@@ -61,9 +61,40 @@ pub fn drop_boxed<T: Drop>(boxed: Box<T>) {
     let _ = boxed;
 }
 
-/// The room that the events of a script are given from, which is too large for the stack.
+/// Where the requests of a script are laid out, which is too large for the stack.
 #[inline(never)]
-pub fn make_room(alloc: Global) -> Result<Box<Room>, AllocError> {
+pub fn make_scratch(alloc: Global) -> Result<Box<Scratch>, AllocError> {
+    Ok(Box::new(alloc, Scratch::new())?)
+}
+
+/// What is lent to a lone function for each event: where the event's request is laid out, and the room for what comes of it.
+#[derive(Drop)]
+pub struct Workspace {
+    /// Where the request is laid out.
+    pub scratch: Box<Scratch>,
+    /// The room for what the function sends and reads.
+    pub room: Box<Room>,
+}
+
+impl Workspace {
+    /// Nothing stands in it yet.
+    pub fn new(alloc: Global) -> Result<Workspace, AllocError> {
+        Ok(Workspace {
+            scratch: make_scratch(alloc)?,
+            room: make_room(alloc)?,
+        })
+    }
+
+    /// Ends it.
+    pub fn end(self) {
+        drop_boxed(self.scratch);
+        drop_boxed(self.room);
+    }
+}
+
+// The room for what comes of an event.
+#[inline(never)]
+fn make_room(alloc: Global) -> Result<Box<Room>, AllocError> {
     Ok(Box::new(alloc, Room::new())?)
 }
 

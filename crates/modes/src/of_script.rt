@@ -14,7 +14,7 @@ ghost use Rattle.modes.specs.Threads.{AreOfScript, asks_after, is_end, ports_aft
 use device::Request;
 use device_lock::{CALLERS, Caller};
 use history::{History, MOST_CALLS};
-use script::{Room, Script};
+use script::{Scratch, Script};
 use std::alloc::{AllocError, Global};
 use std::sync::Arc;
 use workers::opens::{closed_pools, note_done, pools_in};
@@ -82,10 +82,10 @@ fn opened_ports(script: &Script, history: &History, count: usize) -> Option<Port
     if history.len() < count {
         return None;
     }
-    let mut room = Room::new();
+    let mut scratch = Scratch::new();
     let mut ports = closed_pools();
     for at in 0..count {
-        let request = script.request(at, &mut room);
+        let request = script.request(at, &mut scratch);
         if !is_call(history, at, caller_before(request), request) {
             return None;
         }
@@ -123,14 +123,14 @@ fn are_own(plan: &Plan, pools: &[u8], history: &History, start: usize) -> bool
     requires start { start ≤ length history.now.entries }
     ensures { result ≡ true → AreOwn plan.now (drop start history.now.entries) }
 {
-    let mut room = Room::new();
+    let mut scratch = Scratch::new();
     let mut turns = no_turns();
     for index in start..history.len() {
-        if !take_turn(plan, pools, history, index, &mut turns, &mut room) {
+        if !take_turn(plan, pools, history, index, &mut turns, &mut scratch) {
             return false;
         }
     }
-    are_done(plan, pools, &turns, &mut room)
+    are_done(plan, pools, &turns, &mut scratch)
 }
 
 // No caller has a turn behind it.
@@ -147,7 +147,7 @@ fn take_turn(
     history: &History,
     index: usize,
     turns: &mut [usize; CALLERS],
-    room: &mut Room,
+    scratch: &mut Scratch,
 ) -> bool
     requires pools { pools.now ≡ pools_from 0 plan.now.ports }
     requires index { index < length history.now.entries }
@@ -159,10 +159,10 @@ fn take_turn(
     let number = usize::from(caller.number());
     let turn = turns[number];
     // nobody has more turns than a history has calls
-    if turn >= MOST_CALLS || !has_turn(plan, pools, &caller, turn, room) {
+    if turn >= MOST_CALLS || !has_turn(plan, pools, &caller, turn, scratch) {
         return false;
     }
-    let request = next_ask(plan, pools, &caller, turn, room);
+    let request = next_ask(plan, pools, &caller, turn, scratch);
     if !history.asks(index, request) {
         return false;
     }
@@ -171,7 +171,7 @@ fn take_turn(
 }
 
 // Whether no caller has a turn left.
-fn are_done(plan: &Plan, pools: &[u8], turns: &[usize; CALLERS], room: &mut Room) -> bool
+fn are_done(plan: &Plan, pools: &[u8], turns: &[usize; CALLERS], scratch: &mut Scratch) -> bool
     requires pools { pools.now ≡ pools_from 0 plan.now.ports }
     requires turns { AreWithin plan.now turns.now }
     ensures { result ≡ true → (n : ℕ) → n < 67
@@ -181,7 +181,7 @@ fn are_done(plan: &Plan, pools: &[u8], turns: &[usize; CALLERS], room: &mut Room
         let Some(caller) = Caller::from_number(number as u8) else {
             unreachable!()
         };
-        if has_turn(plan, pools, &caller, turns[number], room) {
+        if has_turn(plan, pools, &caller, turns[number], scratch) {
             return false;
         }
     }
@@ -189,14 +189,14 @@ fn are_done(plan: &Plan, pools: &[u8], turns: &[usize; CALLERS], room: &mut Room
 }
 
 // Whether a caller has one more turn after `go`: a port has none from its end on, and the service has the ends of the ports too.
-fn has_turn(plan: &Plan, pools: &[u8], caller: &Caller, turn: usize, room: &mut Room) -> bool
+fn has_turn(plan: &Plan, pools: &[u8], caller: &Caller, turn: usize, scratch: &mut Scratch) -> bool
     requires pools { pools.now ≡ pools_from 0 plan.now.ports }
     requires turn { turn ≤ length (asks_after plan.now caller.now) }
     ensures left { result ≡ true → turn < length (asks_after plan.now caller.now) }
     ensures done { result ≡ false → turn ≡ length (asks_after plan.now caller.now) }
 {
     match caller {
-        Caller::Port(_) => has_port_turn(plan, caller, turn, room),
+        Caller::Port(_) => has_port_turn(plan, caller, turn, scratch),
         Caller::Service => has_service_turn(plan, pools, turn),
         Caller::Driver => turn < plan.turns(Caller::Driver),
         Caller::Pump => turn < plan.turns(Caller::Pump),
@@ -205,12 +205,12 @@ fn has_turn(plan: &Plan, pools: &[u8], caller: &Caller, turn: usize, room: &mut 
 
 // The same of a port.
 #[tactic(auto, using(crate::proofs::Matches::goes_on, crate::proofs::Matches::ended_here, crate::proofs::Matches::through))]
-fn has_port_turn(plan: &Plan, port: &Caller, turn: usize, room: &mut Room) -> bool
+fn has_port_turn(plan: &Plan, port: &Caller, turn: usize, scratch: &mut Scratch) -> bool
     requires { turn ≤ length (until_end (own_events plan.now port.now)) }
     ensures left { result ≡ true → turn < length (until_end (own_events plan.now port.now)) }
     ensures done { result ≡ false → turn ≡ length (until_end (own_events plan.now port.now)) }
 {
-    turn < plan.turns(*port) && !is_end(plan.request(*port, turn, room))
+    turn < plan.turns(*port) && !is_end(plan.request(*port, turn, scratch))
 }
 
 // The same of the service.
@@ -238,40 +238,45 @@ fn next_ask<'a>(
     pools: &[u8],
     caller: &Caller,
     turn: usize,
-    room: &'a mut Room,
+    scratch: &'a mut Scratch,
 ) -> Request<'a>
     requires pools { pools.now ≡ pools_from 0 plan.now.ports }
     requires turn { turn < length (asks_after plan.now caller.now) }
     ensures { event_of result ≡ slice_index_or (asks_after plan.now caller.now) turn PfReset }
 {
     match caller {
-        Caller::Port(_) => port_ask(plan, caller, turn, room),
-        Caller::Service => service_ask(plan, pools, turn, room),
-        Caller::Driver => plan.request(Caller::Driver, turn, room),
-        Caller::Pump => plan.request(Caller::Pump, turn, room),
+        Caller::Port(_) => port_ask(plan, caller, turn, scratch),
+        Caller::Service => service_ask(plan, pools, turn, scratch),
+        Caller::Driver => plan.request(Caller::Driver, turn, scratch),
+        Caller::Pump => plan.request(Caller::Pump, turn, scratch),
     }
 }
 
 // The same of a port.
 #[tactic(auto, using(crate::proofs::Matches::until_here))]
-fn port_ask<'a>(plan: &'a Plan, port: &Caller, turn: usize, room: &'a mut Room) -> Request<'a>
+fn port_ask<'a>(plan: &'a Plan, port: &Caller, turn: usize, scratch: &'a mut Scratch) -> Request<'a>
     requires { turn < length (until_end (own_events plan.now port.now)) }
     ensures { event_of result
         ≡ slice_index_or (until_end (own_events plan.now port.now)) turn PfReset }
 {
-    plan.request(*port, turn, room)
+    plan.request(*port, turn, scratch)
 }
 
 // The same of the service: behind its own events the ends of the ports.
 #[tactic(auto, using(crate::proofs::Matches::among_own, crate::proofs::Matches::among_ends, crate::proofs::Matches::service_count))]
-fn service_ask<'a>(plan: &'a Plan, pools: &[u8], turn: usize, room: &'a mut Room) -> Request<'a>
+fn service_ask<'a>(
+    plan: &'a Plan,
+    pools: &[u8],
+    turn: usize,
+    scratch: &'a mut Scratch,
+) -> Request<'a>
     requires pools { pools.now ≡ pools_from 0 plan.now.ports }
     requires turn { turn < length (asks_after plan.now Service) }
     ensures { event_of result ≡ slice_index_or (asks_after plan.now Service) turn PfReset }
 {
     let own = plan.turns(Caller::Service);
     if turn < own {
-        plan.request(Caller::Service, turn, room)
+        plan.request(Caller::Service, turn, scratch)
     } else {
         Request::End(pools[turn - own])
     }

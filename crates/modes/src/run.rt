@@ -8,10 +8,10 @@ ghost use Rattle.modes.specs.Isolation.{AreLeftAsAlone, SentIsolated};
 ghost use Rattle.modes.specs.Program.{device_of};
 
 use crate::fault::Fault;
-use crate::making::{drop_boxed, make_device, make_room};
-use device::Device;
+use crate::making::{drop_boxed, make_device, make_scratch};
+use device::{Device, Room};
 use guest_memory::GuestMem;
-use script::{Room, Script};
+use script::{Scratch, Script};
 use std::alloc::Global;
 use std::io::Write;
 use transcript::Output;
@@ -72,9 +72,9 @@ fn perform<M: GuestMem, W: Write>(
         (device.new.world ≡ world_after device.old.world script.now.events) }
     ensures late { IfErr result (λ e. is_late e ≡ true) }
 {
-    let mut room = make_room(alloc)?;
-    let told = answers(device, script, &mut room, output, writer);
-    drop_boxed(room);
+    let mut scratch = make_scratch(alloc)?;
+    let told = answers(device, script, &mut scratch, output, writer);
+    drop_boxed(scratch);
     told?;
     Ok(frames(device, output, writer)?)
 }
@@ -84,7 +84,7 @@ fn perform<M: GuestMem, W: Write>(
 fn answers<M: GuestMem, W: Write>(
     device: &mut Device<M>,
     script: &Script,
-    room: &mut Room,
+    scratch: &mut Scratch,
     output: &mut Output,
     writer: &mut W,
 ) -> Result<(), transcript::Fault>
@@ -95,11 +95,11 @@ fn answers<M: GuestMem, W: Write>(
     ensures err { OnErr result (Began (W.contents writer.old) (W.contents writer.new)
         (output.old ++ lines 1 (answers device.old.world script.now.events))) }
 {
-    let mut frame = FrameBuf::blank();
+    let mut room = Room::new();
     for index in 0..script.len() {
-        let request = script.request(index, room);
-        let taken = device.take(request, &mut frame);
-        output.answer(index as u64 + 1, device, &taken, writer)?;
+        let request = script.request(index, scratch);
+        let response = device.take(request, &mut room);
+        output.answer(index as u64 + 1, &response, &room, writer)?;
     }
     Ok(())
 }

@@ -7,6 +7,7 @@ ghost use Rattle.recorder.specs.Made.{AreUnused, IsFresh, begun};
 ghost use Rattle.modes.specs.Faults.{is_late};
 ghost use Rattle.modes.specs.Program.{device_of, StopsAt};
 ghost use Rattle.modes.specs.Room.{most_calls};
+ghost use Rattle.modes.specs.Lines.{AreSeatsOf, ArePortsOf, AskLine};
 ghost use Rattle.modes.specs.Threads.{is_of_run, BeganReport, BeganThreads, StopsFor, WroteReport, WroteThreads};
 
 use crate::drive::read;
@@ -18,7 +19,7 @@ use device::Device;
 use device_lock::{CALLERS, LockedDevice, Recorded, Shares};
 use guest_memory::{FlatMem, GuestMem};
 use guest_port::{EndNote, GuestPort, IrqPort, LockedPort};
-use irq_line::{DeviceSeat, make};
+use irq_line::{DeviceSeat, GuestSeat, make};
 use log::sink::Discard;
 use script::Script;
 use std::alloc::{AllocError, Global};
@@ -144,9 +145,9 @@ fn with_other<M: GuestMem + Send + 'static, R: Threads + Wait + Copy + Send + 's
     done
 }
 
-// Makes a port for each function, in boxes, and does the script by threads. The other device is one as it is made.
+// Makes a port for each function, and does the script by threads. The other device is one as it is made.
 #[inline(never)]
-#[tactic(auto, using(crate::proofs::Told::late_of_run))]
+#[tactic(auto, using(crate::proofs::Told::late_of_run, crate::proofs::Lines::seats_all))]
 fn with_ports<M: GuestMem + Send + 'static, R: Threads + Wait + Copy + Send + 'static, W: Write>(
     rt: R,
     alloc: Global,
@@ -164,67 +165,93 @@ fn with_ports<M: GuestMem + Send + 'static, R: Threads + Wait + Copy + Send + 's
         (BeganReport script (W.contents writer.old) (W.contents writer.new))) }
     ensures late { IfOk result (λ played. IfErr played (λ e. is_late e ≡ true)) }
 {
-    let count = script.shape().functions;
     let (line, seats) = make(alloc)?;
+    let ports = ports_of(alloc, &line, seats, script.shape().functions)?;
+    let parts = RunParts {
+        script,
+        memories: live,
+        line,
+        ports,
+    };
+    play_threads::<M, Brand, R, W>(rt, alloc, Blank::new(67), parts, other, writer)
+}
+
+// The ports of the first functions, each with a note of its end, over their seats of the device's line.
+#[inline(never)]
+#[tactic(auto, using(crate::proofs::Lines::no_ports))]
+fn ports_of(
+    alloc: Global,
+    line: &DeviceSeat,
+    seats: Vec<GuestSeat>,
+    count: u8,
+) -> Result<Vec<(IrqPort, EndNote)>, Fault>
+    requires seats { AreSeatsOf line.now.line seats.items }
+    ensures line { IfOk result (λ ports. ArePortsOf line.now.line ports.items) }
+    ensures late { IfErr result (λ e. is_late e ≡ true) }
+{
     let mut ports = Vec::with_capacity(alloc, usize::from(count))?;
     for seat in seats {
         let pool = seat.pool();
         if pool < count {
-            let (port, note) = match IrqPort::try_new(alloc, pool, seat) {
+            let made = match IrqPort::try_new(alloc, pool, seat) {
                 Ok(made) => made,
                 Err(refused) => return Err(Fault::from(refused.fault)),
             };
-            let port: Box<dyn GuestPort + Send> = Box::new(alloc, port)?;
-            ports.push((port, note))?;
+            ports.push(made)?;
         }
     }
-    play_threads::<M, Brand, Box<dyn GuestPort + Send>, R, W>(
-        rt,
-        alloc,
-        Blank::new(67),
-        line,
-        script,
-        live,
-        other,
-        ports,
-        writer,
-    )
+    Ok(ports)
+}
+
+// What a run by threads is made of.
+#[derive(Drop)]
+struct RunParts<M: GuestMem> {
+    script: Script,
+    // of the functions of the live device
+    memories: Vec<M>,
+    // the device's seat of the interrupt line
+    line: DeviceSeat,
+    // of its functions, over the other seats of that line
+    ports: Vec<(IrqPort, EndNote)>,
 }
 
 // Does a script by threads on a device over these memories, with ports of its functions, replays its history on the other
 // device, and writes of both. What makes the device and its lock is in calls of its own: a device is too large to stand on the
 // stack while workers run.
 #[inline(never)]
-#[tactic(auto, using(crate::proofs::Told::late_of_run))]
+#[tactic(auto, using(crate::proofs::Told::late_of_run, crate::proofs::Lines::ports_as))]
 fn play_threads<
     M: GuestMem + Send + 'static,
     L: Ledger + Send + Sync + 'static,
-    P: GuestPort + Send + 'static,
     R: Threads + Wait + Copy + Send + 'static,
     W: Write,
 >(
     rt: R,
     alloc: Global,
     blank: Blank,
-    line: DeviceSeat,
-    script: Script,
-    live: Vec<M>,
+    parts: RunParts<M>,
     other: &mut Device<M>,
-    ports: Vec<(P, EndNote)>,
     writer: &mut W,
 ) -> Result<Result<(), Fault>, Fault>
     requires blank { (blank.name ≡ L.name) × (blank.parts ≡ L.parts) × (blank.parts ≡ 67) }
-    requires line { line.raises ≡ [] }
-    requires other { other.old.world ≡ device_of script.device }
+    requires line { parts.line.raises ≡ [] }
+    requires ports { ArePortsOf parts.line.line parts.ports.items }
+    requires other { other.old.world ≡ device_of parts.script.device }
     ensures unread { OnErr result (writer.new ≡ writer.old) }
     ensures why { IfErr result (λ e. is_of_run e ≡ true) }
     ensures ok { IfOk result (λ played. OnOk played
-        (WroteReport script (W.contents writer.old) (W.contents writer.new))) }
+        (WroteReport parts.script (W.contents writer.old) (W.contents writer.new))) }
     ensures err { IfOk result (λ played. OnErr played
-        (BeganReport script (W.contents writer.old) (W.contents writer.new))) }
+        (BeganReport parts.script (W.contents writer.old) (W.contents writer.new))) }
     ensures late { IfOk result (λ played. IfErr played (λ e. is_late e ≡ true)) }
 {
-    let device = make_device(alloc, script.shape(), live)?;
+    let RunParts {
+        script,
+        memories,
+        line,
+        ports,
+    } = parts;
+    let device = make_device(alloc, script.shape(), memories)?;
     let (recorded, shares) = record::<M, L>(alloc, blank, device, line, &script)?;
     let locked = lock(alloc, recorded)?;
     let script = Arc::new(alloc, script)?;
@@ -233,11 +260,10 @@ fn play_threads<
 }
 
 // Does a script by threads on a device, whose callers asked nothing yet, with ports of its functions.
-#[tactic(auto, using(crate::proofs::Told::late_of_run))]
+#[tactic(auto, using(crate::proofs::Told::late_of_run, crate::proofs::Lines::unused_ask, crate::proofs::Lines::ask_as, crate::proofs::Lines::ports_still))]
 fn run_all<
     M: GuestMem + Send + 'static,
     L: Ledger + Send + Sync + 'static,
-    P: GuestPort + Send + 'static,
     R: Threads + Wait + Copy + Send + 'static,
 >(
     rt: R,
@@ -245,9 +271,10 @@ fn run_all<
     script: Arc<Script>,
     locked: &Arc<LockedDevice<M, L>>,
     mut shares: Shares<L>,
-    ports: Vec<(P, EndNote)>,
+    ports: Vec<(IrqPort, EndNote)>,
 ) -> Result<Ended<L>, Fault>
-    requires { AreUnused shares }
+    requires unused { AreUnused shares.pump.line shares }
+    requires ports { ArePortsOf shares.pump.line ports.items }
     ensures many { IfOk result (λ ended. length ended.shares.items ≡ 67) }
     ensures why { IfErr result (λ e. is_of_run e ≡ true) }
 {
@@ -320,7 +347,7 @@ fn of_workers(fault: wire_frame::Fault) -> Fault
 // A device whose calls are kept, as many as the script can ask, with the shares of its callers. The device is moved from its box over
 // the stack.
 #[inline(never)]
-#[tactic(auto, using(crate::proofs::Told::late_of_run))]
+#[tactic(auto, using(crate::proofs::Told::late_of_run, crate::proofs::Lines::unused_own, crate::proofs::Lines::own_line))]
 fn record<M: GuestMem, L: Ledger>(
     alloc: Global,
     blank: Blank,
@@ -334,7 +361,8 @@ fn record<M: GuestMem, L: Ledger>(
     requires line { line.raises ≡ [] }
     ensures begun { IfOk result
         (λ r. r.0 ≡ begun device.value.world (most_calls script.now) false line) }
-    ensures shares { IfOk result (λ r. AreUnused r.1) }
+    ensures shares { IfOk result (λ r. AreUnused r.1.pump.line r.1) }
+    ensures line { IfOk result (λ r. r.1.pump.line ≡ line.line) }
     ensures why { IfErr result (λ e. is_of_run e ≡ true) }
 {
     let Some(cap) = script.len().checked_add(MOST_ENDS) else {
@@ -357,13 +385,15 @@ fn lock<M: GuestMem, L: Ledger>(
 
 // The ports of these pools, with their device and their shares: of those that can make calls.
 #[inline(never)]
-fn seat_all<M: GuestMem, L: Ledger, P: GuestPort>(
+fn seat_all<M: GuestMem, L: Ledger>(
     alloc: Global,
     device: &Arc<LockedDevice<M, L>>,
     shares: &mut Shares<L>,
-    all: Vec<(P, EndNote)>,
+    all: Vec<(IrqPort, EndNote)>,
     pools: &[u8],
-) -> Result<Vec<(LockedPort<M, L, P>, EndNote)>, AllocError>
+) -> Result<Vec<(LockedPort<M, L, IrqPort>, EndNote)>, AllocError>
+    requires ask { AskLine shares.old.pump.line shares.old.ports.items }
+    requires ports { ArePortsOf shares.old.pump.line all.items }
     ensures others { (shares.new.pf ≡ shares.old.pf) × (shares.new.pump ≡ shares.old.pump)
         × (shares.new.service ≡ shares.old.service) }
 {
@@ -378,12 +408,15 @@ fn seat_all<M: GuestMem, L: Ledger, P: GuestPort>(
 
 // A port with its device and its share, where it is of one of these pools. What was raised for its pool before is taken and discarded:
 // a port begins here. None where the port has ended or its share was handed out before, so that it could make no call.
-fn seat<M: GuestMem, L: Ledger, P: GuestPort>(
+fn seat<M: GuestMem, L: Ledger>(
     device: &Arc<LockedDevice<M, L>>,
     shares: &mut Shares<L>,
     pools: &[u8],
-    mut port: P,
-) -> Result<Option<LockedPort<M, L, P>>, AllocError>
+    mut port: IrqPort,
+) -> Result<Option<LockedPort<M, L, IrqPort>>, AllocError>
+    requires line { port.port.seat.line ≡ shares.old.pump.line }
+    requires ask { AskLine shares.old.pump.line shares.old.ports.items }
+    ensures ask { AskLine shares.new.pump.line shares.new.ports.items }
     ensures others { (shares.new.pf ≡ shares.old.pf) × (shares.new.pump ≡ shares.old.pump)
         × (shares.new.service ≡ shares.old.service) }
 {

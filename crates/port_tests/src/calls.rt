@@ -2,7 +2,8 @@
 ghost use Rattle.std.specs.Prelude.{◌≡◌};
 
 use crate::stage::open;
-use device_lock::LockedDevice;
+use device::Request;
+use device_lock::{LockedDevice, WhenFull};
 use guest_memory::FlatMem;
 use guest_port::{EndNote, GuestPort, IrqPort, LockedPort};
 use lock_support::{line_of, locked};
@@ -44,12 +45,25 @@ fn byte_at<L: Ledger, R: Wait>(rt: &R, port: &mut Port<L>, address: u64) -> Resu
     }
 }
 
+// The two bytes that a guest's own event reads.
+fn two_asked<L: Ledger, R: Wait>(rt: &R, port: &mut Port<L>) -> Option<[u8; 2]> {
+    let request = Request::MemRead(port.pool(), 0, 2);
+    let Ok(outcome) = port.ask(rt, request, WhenFull::Fold) else {
+        return None;
+    };
+    let read = port.read(outcome);
+    if read.len() != 2 {
+        return None;
+    }
+    Some([read[0], read[1]])
+}
+
 // What a guest's writes to a register, which keeps what is written (VTEIMS), and to its memory come to, with what it reads then,
-// also into two bytes; and a reset, with what it reads of the register after it.
+// also into two bytes, and by the event itself; and a reset, with what it reads of the register after it.
 type ReadBack = (
     (Result<(), Fault>, Result<u32, Fault>),
     (Result<(), Fault>, Result<u8, Fault>),
-    (Result<(), Fault>, [u8; 2]),
+    (Result<(), Fault>, [u8; 2], Option<[u8; 2]>),
     (Result<(), Fault>, Result<u32, Fault>),
 );
 
@@ -58,8 +72,9 @@ fn reads_back<L: Ledger, R: Wait>(rt: &R, port: &mut Port<L>) -> ReadBack {
     let register = (port.reg_write(rt, VTEIMS, 7), port.reg_read(rt, VTEIMS));
     let memory = (port.mem_write(rt, 0, &[0xAA]), byte_at(rt, port, 0));
     let read = port.mem_read_into(rt, 0, &mut two);
+    let asked = two_asked(rt, port);
     let reset = (port.flr(rt), port.reg_read(rt, VTEIMS));
-    (register, memory, (read, two), reset)
+    (register, memory, (read, two, asked), reset)
 }
 
 // The same of a port on a device, and how many calls are kept.
@@ -82,10 +97,10 @@ fn port_reads_back(rt: HostRuntime) -> Result<(), Fail> {
     let due = (
         (Ok(()), Ok(7)),
         (Ok(()), Ok(0xAA)),
-        (Ok(()), [0xAA, 0]),
+        (Ok(()), [0xAA, 0], Some([0xAA, 0])),
         (Ok(()), Ok(0)),
     );
-    assert_eq!(rt; seen, (due, 8));
+    assert_eq!(rt; seen, (due, 9));
     Ok(())
 }
 

@@ -79,3 +79,26 @@ fn a_port_is_dropped_by_another_thread(rt: HostRuntime) -> Result<(), Fail> {
     assert_eq!(rt; (before, taken, note.ended()), (false, 4, true));
     Ok(())
 }
+
+// A port in a box takes, peeks, ends and closes as the port in it.
+#[test]
+fn a_boxed_port_is_the_port_in_it(rt: HostRuntime) -> Result<(), Fail> {
+    let (mut device, seat) = line_of(rt.alloc(), 3)?;
+    let (port, mut note) = IrqPort::new(rt.alloc(), 3, seat)?;
+    let mut port: Box<dyn GuestPort + Send> = Box::new(rt.alloc(), port)?;
+    raise(&mut device, 3, 6);
+    let seen = (
+        port.pool(),
+        port.is_open(),
+        port.peek_irqs(),
+        port.take_irqs(),
+    );
+    port.end();
+    let ended = (port.is_open(), note.ended());
+    let closed = (port.close().is_some(), port.close().is_some());
+    assert_eq!(rt;
+        (seen, ended, closed),
+        ((3, true, 6, 6), (false, true), (true, false))
+    );
+    Ok(())
+}

@@ -1,11 +1,13 @@
 //! Two guests in threads of their own, whose ports are of two kinds.
-ghost use Rattle.std.specs.Prelude.{◌≡◌, []};
+ghost use Rattle.std.specs.Prelude.{◌≡◌, [], IfSome};
+ghost use Rattle.lock_support.specs.Lines.{AreSeatsOf};
 
 use crate::stage::open;
+use device_lock::Share;
 use guest_memory::{FlatMem, GuestMem};
-use guest_port::{GuestPort, IrqPort, LockedPort, Tokens};
-use irq_line::{DeviceSeat, make};
-use lock_support::locked;
+use guest_port::{EndNote, GuestPort, IrqPort, LockedPort, Tokens};
+use irq_line::{DeviceSeat, GuestSeat};
+use lock_support::{last_seat, line, locked};
 use script_support::registers::{VTEICS, VTEIMS};
 use std::alloc::Global;
 use std::marker::Brand;
@@ -80,12 +82,34 @@ fn is_served<M: GuestMem, L: Ledger, P: GuestPort, R: Wait>(
     true
 }
 
-// Guests write to and read from their own memories, each in a thread of its own, and this thread waits for all: how many were
-// served, and how many calls are kept.
-fn serves_all<
+// The port of the last seat.
+fn last_port<L: Ledger>(
+    alloc: Global,
+    seats: &mut Vec<GuestSeat>,
+    pump: &Share<L>,
+) -> Option<(IrqPort, EndNote)>
+    requires { AreSeatsOf pump.now.line seats.old.items }
+    ensures line { IfSome result (λ r. r.0.port.seat.line ≡ pump.now.line) }
+    ensures seats { AreSeatsOf pump.now.line seats.new.items }
+{
+    let Some(seat) = last_seat(seats, pump) else {
+        return None;
+    };
+    let pool = seat.pool();
+    match IrqPort::new(alloc, pool, seat) {
+        Ok(made) => Some(made),
+        Err(_) => None,
+    }
+}
+
+// What comes of two guests: how many were served, how many calls are kept, and whether the ports ended.
+type Two = (u32, usize, [bool; 2]);
+
+// Two guests, whose ports are of two kinds, write to and read from their own memories, each in a thread of its own, and this thread
+// waits for both.
+fn serves_two<
     M: GuestMem + Send + 'static,
     L: Ledger + Send + Sync + 'static,
-    P: GuestPort + Send + 'static,
     R: Threads + Wait + Copy + Send + 'static,
 >(
     rt: R,
@@ -93,56 +117,54 @@ fn serves_all<
     blank: Blank,
     memories: Vec<M>,
     line: DeviceSeat,
-    ports: Vec<P>,
-) -> Result<(u32, usize), Fail>
+    mut seats: Vec<GuestSeat>,
+) -> Result<Two, Fail>
     requires name { blank.name ≡ L.name }
     requires parts { (blank.parts ≡ L.parts) × (blank.parts ≡ 67) }
     requires line { line.raises ≡ [] }
+    requires seats { AreSeatsOf line.line seats.items }
 {
     let (device, mut shares) = locked::<M, L>(alloc, blank, line, memories, None, 1000)?;
-    let mut guests = Vec::new(alloc);
-    for port in ports {
-        let mut port = open(&rt, &device, &mut shares, port).ok_or("not open")?;
-        guests.push(thread::spawn(&rt, move || is_served(&rt, &mut port))?)?;
-    }
-    let mut served = 0u32;
-    for guest in guests {
-        served = served.wrapping_add(u32::from(guest.join(&rt)));
-    }
-    Ok((served, device.kept(&rt)))
+    let Some((port, mut first_note)) = last_port(alloc, &mut seats, &shares.pump) else {
+        return Err("no port".into());
+    };
+    let Some(mut first) = open(&rt, &device, &mut shares, port) else {
+        return Err("not open".into());
+    };
+    let Some((inner, mut second_note)) = last_port(alloc, &mut seats, &shares.pump) else {
+        return Err("no port".into());
+    };
+    let counting = Counting { inner, takes: 0 };
+    let Some(mut second) = open(&rt, &device, &mut shares, counting) else {
+        return Err("not open".into());
+    };
+    let first = thread::spawn(&rt, move || is_served(&rt, &mut first))?;
+    let second = thread::spawn(&rt, move || is_served(&rt, &mut second))?;
+    let served = u32::from(first.join(&rt)).wrapping_add(u32::from(second.join(&rt)));
+    Ok((
+        served,
+        device.kept(&rt),
+        [first_note.ended(), second_note.ended()],
+    ))
 }
 
 #[test]
 fn two_guests_have_ports_of_two_kinds(rt: HostRuntime) -> Result<(), Fail> {
     let alloc = rt.alloc();
-    let (line, seats) = make(alloc)?;
-    let mut ports: Vec<Box<dyn GuestPort + Send>> = Vec::new(alloc);
-    let mut notes = Vec::new(alloc);
-    for seat in seats {
-        let pool = seat.pool();
-        if pool == 1 {
-            let (port, note) = IrqPort::new(alloc, pool, seat)?;
-            ports.push(Box::new(alloc, port)?)?;
-            notes.push(note)?;
-        } else if pool == 2 {
-            let (inner, note) = IrqPort::new(alloc, pool, seat)?;
-            ports.push(Box::new(alloc, Counting { inner, takes: 0 })?)?;
-            notes.push(note)?;
-        }
-    }
+    let (line, seats) = line(alloc)?;
     let mut memories: Vec<Box<dyn GuestMem + Send>> = Vec::new(alloc);
-    for _ in 0..3u8 {
+    for _ in 0..64u8 {
         memories.push(Box::new(alloc, FlatMem::new(alloc, 4096)?)?)?;
     }
-    let seen = serves_all::<
-        Box<dyn GuestMem + Send>,
-        Brand,
-        Box<dyn GuestPort + Send>,
-        HostRuntime,
-    >(rt, alloc, Blank::new(67), memories, line, ports)?;
-    assert_eq!(rt; seen, (2, 2 + 2 * (2 + 2 * usize::from(ROUNDS))));
-    for mut note in notes {
-        assert!(rt; note.ended(), "a port ends with its guest");
-    }
+    let seen = serves_two::<Box<dyn GuestMem + Send>, Brand, HostRuntime>(
+        rt,
+        alloc,
+        Blank::new(67),
+        memories,
+        line,
+        seats,
+    )?;
+    let kept = 2 + 2 * (2 + 2 * usize::from(ROUNDS));
+    assert_eq!(rt; seen, (2, kept, [true, true]));
     Ok(())
 }

@@ -1,9 +1,12 @@
 //! A port with a device behind it.
+ghost use Rattle.std.specs.Prelude.{◌≡◌};
+ghost use Rattle.lock_support.specs.Lines.{AreSharesOf};
+
 use device::Event;
 use device_lock::{LockedDevice, Shares};
 use guest_memory::GuestMem;
 use guest_port::{GuestPort, LockedPort};
-use lock_support::answer;
+use lock_support::{answer, port_share};
 use std::sync::ledger::Ledger;
 use std::sync::{Arc, Wait};
 
@@ -13,12 +16,22 @@ pub fn open<M: GuestMem, L: Ledger, P: GuestPort, R: Wait>(
     device: &Arc<LockedDevice<M, L>>,
     shares: &mut Shares<L>,
     port: P,
-) -> Option<LockedPort<M, L, P>> {
-    answer(rt, &**device, &mut shares.service, Event::Open(port.pool()))?;
-    if !port.is_open() {
+) -> Option<LockedPort<M, L, P>>
+    requires line { (P.meaning port).seat.line ≡ shares.old.pump.line }
+    requires shares { AreSharesOf shares.old.pump.line shares.old.ports.items }
+    ensures shares { AreSharesOf shares.new.pump.line shares.new.ports.items }
+    ensures pump { shares.new.pump ≡ shares.old.pump }
+{
+    if answer(rt, &**device, &mut shares.service, Event::Open(port.pool())).is_none()
+        || !port.is_open()
+    {
         return None;
     }
-    let share = shares.port(port.pool())?;
-    let device = Arc::try_clone(device).ok()?;
+    let Some(share) = port_share(shares, port.pool()) else {
+        return None;
+    };
+    let Ok(device) = Arc::try_clone(device) else {
+        return None;
+    };
     Some(LockedPort::new(device, share, port))
 }

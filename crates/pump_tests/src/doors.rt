@@ -24,12 +24,14 @@ struct OwnDoor<M: GuestMem, L: Ledger> {
 }
 
 impl<M: GuestMem, L: Ledger> Door for OwnDoor<M, L> {
-    ghost use Rattle.std.specs.Prelude.{option_map};
+    ghost use Rattle.std.specs.Prelude.{option_map, Some};
     ghost use Rattle.history.specs.Entries.{events};
 
     ghost taken = { λ door. events door.share.asked };
 
     ghost calls = { λ door. door.share.asked };
+
+    ghost line = { λ door. Some door.share.line };
 
     ghost refused = { λ door. option_map (λ event. event.value) door.refused };
 

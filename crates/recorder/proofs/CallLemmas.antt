@@ -1,5 +1,5 @@
 -- One more kept call.
-use Rattle.std.proofs.Common.{◌≡◌, ℕ, ◌+◌, ◌-◌, ◌≤◌, true, List, [], ◌∷◌, ◌++◌, length, sym, ◌∙◌, arith}
+use Rattle.std.proofs.Common.{◌≡◌, ℕ, ◌+◌, zero, suc, ◌-◌, ◌≤◌, true, false, List, [], ◌∷◌, ◌++◌, length, refl, sym, ◌∙◌, arith}
 use Rattle.std.specs.Prelude.{slice_index}
 use Rattle.std.proofs.Math.Nat.{suc-ne-zero}
 use Rattle.std.specs.Int.{bit_at}
@@ -10,7 +10,7 @@ use Rattle.device.specs.Events.{Event}
 use Rattle.device.specs.declared.event.Answer.{Answer}
 use Rattle.device.specs.World.{World, world_after}
 use Rattle.history.specs.declared.caller.Caller.{Caller}
-use Rattle.history.specs.Entries.{Entry, entry, events}
+use Rattle.history.specs.Entries.{Entry, entry, events, is_cap}
 use Rattle.recorder.specs.Callers.{may}
 use Rattle.recorder.specs.Legal.{AreAllowed, kept_raises}
 
@@ -44,3 +44,9 @@ kept_raises_few p v (call ∷ calls) =
 pub nothing_kept : (calls : List Entry) (base live z : World) → length calls ≡ 0 → world_after base (events calls) ≡ live → base ≡ z → live ≡ z
 nothing_kept [] base live z none is same = sym is ∙ same
 nothing_kept (call ∷ calls) base live z none is same = absurd (suc-ne-zero _ none)
+
+-- ---- how many may be kept
+
+pub cap_some : (n : ℕ) → (is_cap n ≡ false → ⊥) → 1 ≤ n
+cap_some zero not = absurd (not refl)
+cap_some (suc n) not = omega arith

@@ -1,5 +1,5 @@
 mod CallLemmas
+mod CallerLemmas
 mod RaiseLemmas
-mod ReadLemmas
 mod ShareLemmas
 mod SizeLemmas

@@ -3,8 +3,10 @@ use Rattle.std.specs.Prelude.{◌≡◌, ℕ, ◌+◌, ◌-◌, ◌<◌, Bool, L
 use Rattle.device.specs.Events.{Event}
 use Rattle.device.specs.declared.event.Answer.{Answer}
 use Rattle.device.specs.declared.response.Response.{Response}
+use Rattle.device.specs.declared.room.Room.{Room}
 use Rattle.device.specs.World.{World, step}
 use Rattle.device.specs.Takes.{Takes}
+use Rattle.atomic_table.specs.Seated.{TableId}
 use Rattle.irq_line.specs.Line.{DeviceEnd, raised}
 use Rattle.history.specs.declared.caller.Caller.{Caller}
 use Rattle.history.specs.declared.caller.Caller.TheVariants.{Port}
@@ -35,17 +37,19 @@ folded h = sum h.tallies
 abbrev pub folded_raises : ℕ → ℕ → Held → ℕ
 folded_raises p v h = raised p v h.line.raises - kept_raises p v h.kept
 
--- a caller, and its calls, the oldest first: those that were kept, each with its event and its answer
+-- a caller, the line of the device that it asks, and its calls, the oldest first: those that were kept, each with its event and its
+-- answer
 pub record CallerLog : Type 0 where
   pub caller : Caller
+  pub line : TableId
   pub asked : List Entry
 
 -- how many calls it made
 abbrev pub count_of : CallerLog → ℕ
 count_of m = length m.asked
 
-abbrev pub unused : Caller → CallerLog
-unused c = record { caller = c; asked = [] }
+abbrev pub unused : TableId → Caller → CallerLog
+unused line c = record { caller = c; line = line; asked = [] }
 
 -- what is left of the ports' shares stands at the places of their pools
 abbrev pub AreOfPools : List (Option CallerLog) → Type 0
@@ -59,11 +63,11 @@ left_of (Some m ∷ ports) = m ∷ left_of ports
 
 -- a share with calls behind its own
 abbrev pub having_calls : List Entry → CallerLog → CallerLog
-having_calls calls m = record { caller = m.caller; asked = m.asked ++ calls }
+having_calls calls m = record { caller = m.caller; line = m.line; asked = m.asked ++ calls }
 
 -- a share once it asked one more event, which got this answer
 abbrev pub having_asked : Event → Answer → CallerLog → CallerLog
-having_asked event answer m = record { caller = m.caller; asked = m.asked ++ entry m.caller event answer ∷ [] }
+having_asked event answer m = record { caller = m.caller; line = m.line; asked = m.asked ++ entry m.caller event answer ∷ [] }
 
 -- a share once it asked these events more, in order, whatever each was answered
 pub record HasAsked (asked : List Event) (old new : CallerLog) : Type 0 where
@@ -87,9 +91,9 @@ pub record Keeps (old : Held) (caller : Caller) (event : Event) (new : Held) : T
   pub line : new.line.line ≡ old.line.line
   pub folded_raises : (p v : ℕ) → p < 64 → folded_raises p v new ≡ folded_raises p v old
 
--- the device takes the event, and the call is kept; `taken` is the answer, with the frame that was sent
-pub record Records (old : Held) (caller : Caller) (event : Event) (new : Held) (taken : Response) : Type 0 where
-  pub takes : Takes old.live event new.live taken
+-- the device takes the event, and the call is kept; the response and the room that was lent are its answer, with the frame that was sent
+pub record Records (old : Held) (caller : Caller) (event : Event) (new : Held) (response : Response) (room : Room) : Type 0 where
+  pub takes : Takes old.live event new.live response room
   pub keeps : Keeps old caller event new
 
 -- the live world becomes the base, and no calls are kept any more: they count as folded away. Nothing is raised

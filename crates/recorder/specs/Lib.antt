@@ -2,6 +2,5 @@ pub mod Callers
 pub mod Legal
 pub mod Held
 pub mod Made
-pub mod Read
 pub mod Inside
 pub mod Asked

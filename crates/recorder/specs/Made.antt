@@ -1,6 +1,7 @@
 -- A recorded device as it is made, with the shares of its callers.
 use Rattle.std.specs.Prelude.{◌≡◌, ℕ, ◌<◌, Bool, [], length, replicate, Some, slice_get, List, ◌∷◌}
 use Rattle.device.specs.World.{World, fresh, sizes_of}
+use Rattle.atomic_table.specs.Seated.{TableId}
 use Rattle.irq_line.specs.Line.{DeviceEnd}
 use Rattle.history.specs.declared.caller.Caller.TheVariants.{Port, Driver, Pump, Service}
 use Rattle.recorder.specs.declared.shares.Shares.{Shares}
@@ -26,13 +27,13 @@ begun w cap twin line = record {
   line = line;
 }
 
--- the share of each caller, unused; those of the ports by their pools
-pub record AreUnused {L : Type 0} (shares : Shares L) : Type 0 where
-  pub pf : shares.pf ≡ unused Driver
-  pub pump : shares.pump ≡ unused Pump
-  pub service : shares.service ≡ unused Service
+-- the share of each caller, unused, for a device of this line; those of the ports by their pools
+pub record AreUnused {L : Type 0} (line : TableId) (shares : Shares L) : Type 0 where
+  pub pf : shares.pf ≡ unused line Driver
+  pub pump : shares.pump ≡ unused line Pump
+  pub service : shares.service ≡ unused line Service
   pub many : length shares.ports.items ≡ 64
-  pub ports : (p : ℕ) → p < 64 → slice_get shares.ports.items p ≡ Some (Some (unused (Port p)))
+  pub ports : (p : ℕ) → p < 64 → slice_get shares.ports.items p ≡ Some (Some (unused line (Port p)))
 
 -- the shares that were not handed out
 abbrev pub left_in : {L : Type 0} → Shares L → List CallerLog

@@ -11,20 +11,24 @@
 //! Each of the 67 callers has a [`Share`]: the ports of the 64 pools, the driver of the physical function, the pump of frames
 //! from the wire, and the service. A share knows its caller's calls, each with its event and its answer. It grows in this
 //! crate alone, by the call that the device kept, so whoever tells another answer than was kept can't say of the share what
-//! [`Recorded::record`] says of it. Nobody else can ask for a caller, so [`Recorded::gather`] can say of all shares together
-//! that they count the calls that were kept and folded away.
+//! [`Recorded::record_request`] says of it. Nobody else can ask for a caller, so [`Recorded::gather`] can say of all shares together
+//! that they count the calls that were kept and folded away. A share also has the line of its device, so that a guest's seat can be
+//! told to be of that line; [`Recorded::beside`] compares the two.
 //!
 //! Nothing here waits, and none but the makers takes memory. The crate stands on `device`, `history` and `irq_line`.
 #![tactic(auto)]
 
 mod asked;
-mod journal;
 mod makes;
+mod making;
+mod raises;
 mod recorded;
 mod share;
 mod shares;
+mod tallies;
 
 pub use history::Caller;
-pub use recorded::{Full, Recorded, Tally, answer_of};
+pub use recorded::{Full, Recorded};
 pub use share::{CALLERS, Share};
 pub use shares::Shares;
+pub use tallies::Tally;

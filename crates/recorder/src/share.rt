@@ -2,12 +2,14 @@
 ghost use Rattle.std.specs.Prelude.{◌≡◌, ◌%◌, ◌^◌};
 ghost use Rattle.device.specs.Request.{event_of};
 ghost use Rattle.history.specs.Callers.{caller_number};
-ghost use Rattle.recorder.specs.Callers.{may, is_own, is_of_driver, is_frame};
+ghost use Rattle.recorder.specs.Callers.{may, is_of_service, is_own, is_of_driver, is_frame};
 ghost use Rattle.recorder.specs.Held.{count_of};
 
 use crate::asked::Asked;
-use device::Request;
+use device::{Request, Whose};
 use history::Caller;
+use irq_line::DeviceSeat;
+use shadow::Shadow;
 use std::marker::Model;
 use std::sync::ledger::{Ledger, Share as Part};
 use wire_frame::PoolId;
@@ -15,8 +17,8 @@ use wire_frame::PoolId;
 /// How many callers there are.
 pub const CALLERS: usize = 67;
 
-/// A caller's right to ask a recorded device, with the number of its calls. Contracts see the caller, and those
-/// calls in order, each with its event and its answer.
+/// A caller's right to ask a recorded device, with the number of its calls. Contracts see the caller, the line of the device, and
+/// those calls in order, each with its event and its answer.
 ///
 /// A port may read and write the registers and the memory of its own pool's function and reset it; the driver of the
 /// physical function may read, write and reset that function; the pump may bring frames; the service may make any event.
@@ -26,6 +28,8 @@ pub struct Share<L: Ledger> {
     pub(crate) count: u64,
     pub(crate) part: Part<L>,
     pub(crate) asked: Asked,
+    // the device's seat of its line, as it was when the share was made
+    pub(crate) line: Shadow<DeviceSeat>,
 }
 
 impl<L: Ledger> Model for Share<L> {
@@ -35,7 +39,11 @@ impl<L: Ledger> Model for Share<L> {
 
     ghost use Rattle.std.specs.Prelude.{◌≡◌, ◌%◌, ◌^◌, length};
 
-    ghost view = { λ s. record { caller = s.caller; asked = s.asked.calls } };
+    ghost view = { λ s. record {
+      caller = s.caller;
+      line = s.line.value.line;
+      asked = s.asked.calls;
+    } };
 
     ghost invariant = { λ s. (s.part.parts ≡ 1) × (s.part.amount ≡ length s.asked.calls)
         × (s.count ≡ length s.asked.calls % 2 ^ 64) };
@@ -73,39 +81,44 @@ impl<L: Ledger> Share<L> {
     }
 }
 
+// Whether it is one of a function's own events that its guest can't make.
+#[inline]
+fn is_of_service(request: Request<'_>) -> bool
+    ensures { result ≡ is_of_service (event_of request.entry) }
+{
+    match request {
+        Request::Open(_) | Request::End(_) | Request::Serve(_, _) => true,
+        _ => false,
+    }
+}
+
 // Whether it is an event of a pool's own function, which its port may make.
 #[inline]
+#[tactic(auto, using(crate::proofs::CallerLemmas::whose_asked))]
 fn is_own(own: PoolId, request: Request<'_>) -> bool
     ensures { result ≡ is_own own (event_of request.entry) }
 {
-    match request {
-        Request::VfRead(pool, _) => own.get() == pool,
-        Request::VfWrite(pool, _, _) => own.get() == pool,
-        Request::MemRead(pool, _, _) => own.get() == pool,
-        Request::MemWrite(pool, _, _) => own.get() == pool,
-        Request::Flr(pool) => own.get() == pool,
-        _ => false,
+    let of_service = is_of_service(request);
+    match request.whose() {
+        Whose::Function(pool) => !of_service && own.get() == pool,
+        Whose::Physical | Whose::Wire => false,
     }
 }
 
 // Whether it is an event of the physical function, which its driver may make.
 #[inline]
+#[tactic(auto, using(crate::proofs::CallerLemmas::whose_asked))]
 fn is_of_driver(request: Request<'_>) -> bool
     ensures { result ≡ is_of_driver (event_of request.entry) }
 {
-    match request {
-        Request::PfRead(_) | Request::PfWrite(_, _) | Request::PfReset => true,
-        _ => false,
-    }
+    matches!(request.whose(), Whose::Physical)
 }
 
 // Whether it brings a frame from the wire.
 #[inline]
+#[tactic(auto, using(crate::proofs::CallerLemmas::whose_asked))]
 fn is_frame(request: Request<'_>) -> bool
     ensures { result ≡ is_frame (event_of request.entry) }
 {
-    match request {
-        Request::Wire(_) => true,
-        _ => false,
-    }
+    matches!(request.whose(), Whose::Wire)
 }

@@ -1,11 +1,13 @@
 //! The shares of all callers.
-ghost use Rattle.std.specs.Prelude.{◌≡◌, ℕ, ◌+◌, ◌<◌, ◌≤◌, ◌++◌, IfSome, IfNone, IfOk, OnOk, length, Some, None, slice_get, slice_set, ◌⊎◌};
+ghost use Rattle.std.specs.Prelude.{◌≡◌, ◌+◌, ◌<◌, ◌≤◌, ◌++◌, IfSome, IfNone, IfOk, OnOk, Some, None, slice_get, slice_set, ◌⊎◌};
 ghost use Rattle.history.specs.declared.caller.Caller.TheVariants.{Port};
 ghost use Rattle.recorder.specs.Held.{AreOfPools, left_of, unused};
 
 use crate::asked::Asked;
 use crate::share::Share;
 use history::Caller;
+use irq_line::DeviceSeat;
+use shadow::Shadow;
 use std::alloc::{AllocError, Global};
 use std::sync::ledger::{Ledger, Share as Part};
 use wire_frame::PoolId;
@@ -26,19 +28,23 @@ pub struct Shares<L: Ledger> {
 impl<L: Ledger> Shares<L> {
     ghost use Rattle.recorder.specs.Made.{AreUnused, left_in};
 
-    // The shares of all callers, of the part that all of them make.
-    pub(crate) fn new(alloc: Global, mut all: Part<L>) -> Result<Shares<L>, AllocError>
+    // The shares of all callers, of the part that all of them make, for a device that has this seat.
+    pub(crate) fn new(
+        alloc: Global,
+        mut all: Part<L>,
+        line: &DeviceSeat,
+    ) -> Result<Shares<L>, AllocError>
         requires parts { all.parts ≡ 67 }
         requires amount { all.amount ≡ 0 }
-        ensures { IfOk result AreUnused }
+        ensures { IfOk result (AreUnused line.now.line) }
     {
         let mut ports = Vec::with_capacity(alloc, usize::from(PoolId::COUNT))?;
         for pool in 0..PoolId::COUNT {
-            ports.push(Some(cut(&mut all, port_of(pool))))?;
+            ports.push(Some(cut(&mut all, line, port_of(pool))))?;
         }
-        let pf = cut(&mut all, Caller::Driver);
-        let pump = cut(&mut all, Caller::Pump);
-        let service = cut(&mut all, Caller::Service);
+        let pf = cut(&mut all, line, Caller::Driver);
+        let pump = cut(&mut all, line, Caller::Pump);
+        let service = cut(&mut all, line, Caller::Service);
         Ok(together(pf, pump, service, ports))
     }
 
@@ -105,10 +111,10 @@ fn port_of(pool: u8) -> Caller
 }
 
 // A share of one part, of a caller that made no call.
-fn cut<L: Ledger>(all: &mut Part<L>, caller: Caller) -> Share<L>
+fn cut<L: Ledger>(all: &mut Part<L>, line: &DeviceSeat, caller: Caller) -> Share<L>
     requires parts { 1 ≤ all.old.parts }
     requires amount { all.old.amount ≡ 0 }
-    ensures share { result ≡ unused caller }
+    ensures share { result ≡ unused line.now.line caller }
     ensures parts { all.new.parts + 1 ≡ all.old.parts }
     ensures amount { all.new.amount ≡ 0 }
 {
@@ -117,6 +123,7 @@ fn cut<L: Ledger>(all: &mut Part<L>, caller: Caller) -> Share<L>
         count: 0,
         part: all.split_off(1, 0),
         asked: Asked::new(),
+        line: Shadow::of(line),
     }
 }
 

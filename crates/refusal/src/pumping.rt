@@ -19,11 +19,13 @@ struct Shelf {
 }
 
 impl Door for Shelf {
-    ghost use Rattle.std.specs.Prelude.{[], option_map};
+    ghost use Rattle.std.specs.Prelude.{[], None, option_map};
 
     ghost taken = { λ shelf. shelf.events.items };
 
     ghost calls = { λ _. [] };
+
+    ghost line = { λ _. None };
 
     ghost refused = { λ shelf. option_map (λ event. event.value) shelf.refused };
 

@@ -6,7 +6,7 @@ use device::{Answer, Device, Event};
 use device_lock::{CALLERS, Full, LockedDevice, Share, Shares};
 use guest_memory::FlatMem;
 use guest_port::{EndNote, GuestPort, IrqPort, LockedPort};
-use lock_support::{answer, is_scripted, line_of, locked, script};
+use lock_support::{answer, is_scripted, line_of, locked, port_share, script};
 use std::alloc::Global;
 use std::sync::ledger::{Blank, Ledger};
 use std::sync::{Arc, Wait};
@@ -38,7 +38,7 @@ impl<L: Ledger> Recording<L> {
         let (line, seat) = line_of(alloc, 3)?;
         let (port, note) = IrqPort::new(alloc, 3, seat)?;
         let (device, mut shares) = locked::<FlatMem, L>(alloc, blank, line, live, twins, 4)?;
-        let Some(share) = shares.port(3) else {
+        let Some(share) = port_share(&mut shares, 3) else {
             return Err(Fault::NoSuchVf);
         };
         let (Ok(there), Ok(all)) = (Arc::try_clone(&device), Vec::with_capacity(alloc, CALLERS))

@@ -4,7 +4,7 @@ ghost use Rattle.std.specs.Prelude.{◌≡◌};
 use crate::sheet::Came;
 use guest_memory::FlatMem;
 use guest_port::{GuestPort, IrqPort, LockedPort};
-use lock_support::{line_of, locked};
+use lock_support::{line_of, locked, port_share};
 use log::sink::Discard;
 use script::Script;
 use std::alloc::Global;
@@ -71,7 +71,9 @@ fn ran<L: Ledger + Send + Sync + 'static, R: Threads + Wait + Copy + Send + 'sta
     if prepare(&rt, alloc, &script, &device, &mut shares).is_err() {
         return None;
     }
-    let share = shares.port(port.pool())?;
+    let Some(share) = port_share(&mut shares, port.pool()) else {
+        return None;
+    };
     let there = Arc::try_clone(&device).ok()?;
     let mut ports = Vec::with_capacity(alloc, 1).ok()?;
     ports

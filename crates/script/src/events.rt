@@ -8,7 +8,7 @@ ghost use Rattle.script.specs.Lines.{event_by, Says};
 use crate::fault::Refusal;
 use crate::kind::Kind;
 use crate::record::{Record, record_of_line};
-use crate::room::Room;
+use crate::scratch::Scratch;
 use crate::store::Store;
 use crate::words::Words;
 use device::{MemSlice, Request};
@@ -56,39 +56,39 @@ impl Events {
     }
 
     /// One more event at the end, that of a line of this kind, by the words after its name. Frames may be as long as the
-    /// limit, and are tried in `room`.
+    /// limit, and are tried in `scratch`.
     pub fn push(
         &mut self,
         kind: Kind,
         words: Words<'_>,
         limit: FrameLimit,
-        room: &mut Room,
+        scratch: &mut Scratch,
     ) -> Result<(), Refusal>
         ensures ok { OnOk result (Says (event_by limit kind words.entry) self.old self.new) }
         ensures bad { IfErr result
             (λ e. e ≡ Refusal.BadLine → event_by limit kind words.entry ≡ None) }
         ensures err { OnErr result (self.new ≡ self.old) }
     {
-        let record = record_of_line(kind, words, limit, &mut self.store, room)?;
+        let record = record_of_line(kind, words, limit, &mut self.store, scratch)?;
         self.records.push(record)?;
         Ok(())
     }
 
-    /// An event, as a device is asked it. Its bytes and its frame, where it has some, may be laid out in `room`.
+    /// An event, as a device is asked it. Its bytes and its frame, where it has some, may be laid out in `scratch`.
     #[inline]
-    pub fn request<'a>(&'a self, index: usize, room: &'a mut Room) -> Request<'a>
+    pub fn request<'a>(&'a self, index: usize, scratch: &'a mut Scratch) -> Request<'a>
         requires { index < length self.now }
         ensures { event_of result ≡ slice_index_or self.now index PfReset }
     {
         match self.records[index] {
             Record::MemWrite(pool, at, span) => {
-                Request::MemWrite(pool, at, few(self.store.bytes(span, &mut room.bytes)))
+                Request::MemWrite(pool, at, few(self.store.bytes(span, &mut scratch.bytes)))
             }
             Record::Wire(span) => Request::Wire(framed(
-                self.store.bytes(span, &mut room.bytes),
-                &mut room.frame,
+                self.store.bytes(span, &mut scratch.bytes),
+                &mut scratch.frame,
             )),
-            record => record.with(few(&[]), &room.frame),
+            record => record.with(few(&[]), &scratch.frame),
         }
     }
 }

@@ -2,7 +2,7 @@
 //!
 //! A [`Script`] is read from its text and seen as what the text says by the grammar of `specs/`: the device that it asks for
 //! and the list of its events, or the first bad line. It is kept in few bytes; a request is made of a record where it is
-//! asked for, in a [`Room`] that is lent. The crate stands on `device`.
+//! asked for, in a [`Scratch`] that is lent. The crate stands on `device`.
 #![tactic(auto)]
 
 mod chunks;
@@ -13,7 +13,7 @@ mod kind;
 mod numbers;
 mod reader;
 mod record;
-pub mod room;
+pub mod scratch;
 pub mod script;
 pub mod shape;
 mod store;
@@ -22,6 +22,6 @@ mod words;
 
 pub use fault::Fault;
 pub use numbers::number;
-pub use room::Room;
+pub use scratch::Scratch;
 pub use script::Script;
 pub use shape::Shape;

@@ -7,7 +7,7 @@ ghost use Rattle.script.specs.Shapes.{asked_by};
 use crate::events::Events;
 use crate::fault::{Fault, Refusal};
 use crate::kind::Kind;
-use crate::room::Room;
+use crate::scratch::Scratch;
 use crate::shape::Shape;
 use crate::text::cut;
 use crate::words::Words;
@@ -65,7 +65,7 @@ impl Reader {
     }
 
     // Takes a line that keeps to the limits.
-    fn hear(&mut self, line: &[u8], room: &mut Room) -> Result<(), Refusal>
+    fn hear(&mut self, line: &[u8], scratch: &mut Scratch) -> Result<(), Refusal>
         ensures ok { OnOk result (heard self.old line.now ≡ Some self.new) }
         ensures bad { IfErr result (λ e. e ≡ Refusal.BadLine → heard self.old line.now ≡ None) }
         ensures lines { self.new.lines ≡ self.old.lines }
@@ -85,7 +85,7 @@ impl Reader {
             }
             Some(shape) if self.events.len() < MOST_EVENTS => {
                 let kind = Kind::named(name).ok_or(Refusal::BadLine)?;
-                self.events.push(kind, words, shape.limit, room)?;
+                self.events.push(kind, words, shape.limit, scratch)?;
             }
             _ => return Err(Refusal::BadLine),
         }
@@ -94,7 +94,7 @@ impl Reader {
 
     // Takes a line.
     #[tactic(auto, unfolding(crate::specs::Reading::line_after))]
-    fn line(&mut self, line: &[u8], room: &mut Room) -> Result<(), Fault>
+    fn line(&mut self, line: &[u8], scratch: &mut Scratch) -> Result<(), Fault>
         ensures ok { OnOk result (line_after self.old line.now ≡ Some self.new) }
         ensures bad { IfErr result (λ e. (n : ℕ) → e ≡ Fault.BadScript n
             → (n ≡ self.old.lines + 1) × (line_after self.old line.now ≡ None)) }
@@ -102,7 +102,7 @@ impl Reader {
         if self.lines >= MOST_LINES || line.len() > MOST_LINE_BYTES {
             return Err(self.bad_line());
         }
-        match self.hear(line, room) {
+        match self.hear(line, scratch) {
             Ok(()) => {
                 self.lines += 1;
                 Ok(())
@@ -114,7 +114,7 @@ impl Reader {
 
     /// Takes the lines that end in a text, and tells how many bytes come after them. Those are refused where no end can
     /// make a good line of them.
-    pub fn lines(&mut self, text: &[u8], room: &mut Room) -> Result<usize, Fault>
+    pub fn lines(&mut self, text: &[u8], scratch: &mut Scratch) -> Result<usize, Fault>
         ensures left { IfOk result (λ left. left ≤ length text.now) }
         ensures short { IfOk result (λ left. left ≤ 40000) }
         ensures clear { IfOk result
@@ -130,7 +130,7 @@ impl Reader {
             let (line, after) = cut(0, b'\n', rest);
             match after {
                 Some(after) => {
-                    self.line(line, room)?;
+                    self.line(line, scratch)?;
                     rest = after;
                 }
                 None => break,
@@ -158,7 +158,7 @@ impl Reader {
     }
 
     // Takes a last line without LF, if there is one.
-    fn last_line(&mut self, line: &[u8], room: &mut Room) -> Result<(), Fault>
+    fn last_line(&mut self, line: &[u8], scratch: &mut Scratch) -> Result<(), Fault>
         requires { IsWithout 10 line.now }
         ensures ok { OnOk result (read_on (lines_of line.now) self.old ≡ Ok self.new) }
         ensures bad { IfErr result (λ e. (n : ℕ) → e ≡ Fault.BadScript n
@@ -167,14 +167,14 @@ impl Reader {
         if line.is_empty() {
             return Ok(());
         }
-        self.line(line, room)
+        self.line(line, scratch)
     }
 
     /// The device, how many events come before `go`, and the events, after a last line without LF, if there is one.
     pub fn finish(
         mut self,
         rest: &[u8],
-        room: &mut Room,
+        scratch: &mut Scratch,
     ) -> Result<(Shape, Option<usize>, Events), Fault>
         requires { IsWithout 10 rest.now }
         ensures ok { IfOk result (λ read. ok_then (read_on (lines_of rest.now) self) finished
@@ -183,7 +183,7 @@ impl Reader {
         ensures bad { IfErr result (λ e. (n : ℕ) → e ≡ Fault.BadScript n
             → ok_then (read_on (lines_of rest.now) self) finished ≡ Err n) }
     {
-        self.last_line(rest, room)?;
+        self.last_line(rest, scratch)?;
         let Reader {
             lines: _,
             shape,

@@ -9,7 +9,7 @@ ghost use Rattle.script.specs.Store.{Grows};
 use crate::chunks::{MOST_BYTES, lay_word};
 use crate::fault::Refusal;
 use crate::kind::Kind;
-use crate::room::Room;
+use crate::scratch::Scratch;
 use crate::store::{Store, Stored};
 use crate::words::{Words, length, pool, queue, register};
 use device::Event;
@@ -22,13 +22,13 @@ const MOST_WRITTEN: u16 = 2048;
 pub type Record = Event<Stored, Stored>;
 
 /// The event of a line of this kind, by the words after its name. Its bytes are kept in `store`; frames may be as long as
-/// the limit. The bytes are read in `room`.
+/// the limit. The bytes are read in `scratch`.
 pub fn record_of_line(
     kind: Kind,
     words: Words<'_>,
     limit: FrameLimit,
     store: &mut Store,
-    room: &mut Room,
+    scratch: &mut Scratch,
 ) -> Result<Record, Refusal>
     ensures event { IfOk result
         (λ made. event_by limit kind words.entry ≡ Some (event_at store.new made)) }
@@ -38,7 +38,7 @@ pub fn record_of_line(
     ensures grown { Grows store.old store.new }
 {
     Ok(match kind {
-        Kind::Wire => wire_record(words.one()?, limit, store, room)?,
+        Kind::Wire => wire_record(words.one()?, limit, store, scratch)?,
         Kind::VfRead => {
             let (p, at) = words.two_numbers()?;
             Record::VfRead(pool(p)?, register(at)?)
@@ -58,7 +58,7 @@ pub fn record_of_line(
         Kind::MemWrite => {
             let (p, at, hex) = words.two_numbers_and_word()?;
             let pool = pool(p)?;
-            let bytes = read(hex, MOST_WRITTEN, &mut room.bytes)?;
+            let bytes = read(hex, MOST_WRITTEN, &mut scratch.bytes)?;
             Record::MemWrite(pool, at, store.keep(hex, bytes)?)
         }
         Kind::PfRead => Record::PfRead(register(words.one_number()?)?),
@@ -81,7 +81,7 @@ fn wire_record(
     hex: &[u8],
     limit: FrameLimit,
     store: &mut Store,
-    room: &mut Room,
+    scratch: &mut Scratch,
 ) -> Result<Record, Refusal>
     ensures event { IfOk result
         (λ made. event_by limit Wire (hex.now ∷ []) ≡ Some (event_at store.new made)) }
@@ -90,7 +90,7 @@ fn wire_record(
     ensures fits { IfOk result (λ made. Fits store.new made) }
     ensures grown { Grows store.old store.new }
 {
-    let bytes = read(hex, limit.get(), &mut room.bytes)?;
+    let bytes = read(hex, limit.get(), &mut scratch.bytes)?;
     if !is_frame(bytes, bytes.len()) {
         return Err(Refusal::BadLine);
     }

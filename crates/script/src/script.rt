@@ -10,7 +10,7 @@ ghost use Rattle.script.specs.Shapes.{asked_by};
 use crate::events::Events;
 use crate::fault::Fault;
 use crate::reader::Reader;
-use crate::room::Room;
+use crate::scratch::Scratch;
 use crate::shape::Shape;
 use device::Request;
 use std::alloc::Global;
@@ -52,9 +52,9 @@ impl Script {
         ensures bad { IfErr result (λ e. (n : ℕ) → e ≡ Fault.BadScript n
             → IfSome (R.remaining reader.old) (λ text. script_of text ≡ Err n)) }
     {
-        let mut room = Room::new();
+        let mut scratch = Scratch::new();
         let mut block = vec![in alloc; 0u8; BLOCK]?;
-        let (shape, go, events) = read_all(alloc, reader, block.as_mut_slice(), &mut room)?;
+        let (shape, go, events) = read_all(alloc, reader, block.as_mut_slice(), &mut scratch)?;
         Ok(Script { shape, go, events })
     }
 
@@ -83,13 +83,13 @@ impl Script {
         self.events.len()
     }
 
-    /// An event, as a device is asked it. Its bytes and its frame, where it has some, may be laid out in `room`.
+    /// An event, as a device is asked it. Its bytes and its frame, where it has some, may be laid out in `scratch`.
     #[inline]
-    pub fn request<'a>(&'a self, index: usize, room: &'a mut Room) -> Request<'a>
+    pub fn request<'a>(&'a self, index: usize, scratch: &'a mut Scratch) -> Request<'a>
         requires { index < length self.now.events }
         ensures { event_of result ≡ slice_index_or self.now.events index PfReset }
     {
-        self.events.request(index, room)
+        self.events.request(index, scratch)
     }
 }
 
@@ -98,7 +98,7 @@ fn read_all<R: Read>(
     alloc: Global,
     reader: &mut R,
     block: &mut [u8],
-    room: &mut Room,
+    scratch: &mut Scratch,
 ) -> Result<(Shape, Option<usize>, Events), Fault>
     requires { length block.old ≡ 65536 }
     ensures ok { IfOk result (λ read. IfSome (R.remaining reader.old)
@@ -112,9 +112,9 @@ fn read_all<R: Read>(
     for _ in 0..u64::MAX {
         let count = fill(reader, block, filled)?;
         if count == 0 {
-            return lines.finish(&block[..filled], room);
+            return lines.finish(&block[..filled], scratch);
         }
-        filled = take_lines(&mut lines, block, filled + count, room)?;
+        filled = take_lines(&mut lines, block, filled + count, scratch)?;
     }
     Err(Fault::Io)
 }
@@ -125,7 +125,7 @@ fn take_lines(
     lines: &mut Reader,
     block: &mut [u8],
     end: usize,
-    room: &mut Room,
+    scratch: &mut Scratch,
 ) -> Result<usize, Fault>
     requires { end ≤ length block.old }
     ensures short { IfOk result (λ left. left ≤ 40000) }
@@ -137,7 +137,7 @@ fn take_lines(
         → (more : List ℕ) → read_on (lines_of (take end block.old ++ more)) lines.old ≡ Err n) }
     ensures len { length block.new ≡ length block.old }
 {
-    let left = lines.lines(&block[..end], room)?;
+    let left = lines.lines(&block[..end], scratch)?;
     keep_end(block, end, left);
     Ok(left)
 }

@@ -1,7 +1,7 @@
 //! Values from outside: what texts say by the grammar, written out by hand, and readers that break off.
 use crate::compare::assert_equal;
 use device::{Queue, Request};
-use script::{Fault, Room, Script};
+use script::{Fault, Scratch, Script};
 use std::alloc::{AllocError, Global};
 use std::process::Abort;
 use std::test::Fail;
@@ -23,9 +23,9 @@ fn plain(alloc: Global, script: &Script) -> Result<String, AllocError> {
         shape.memory_size,
         shape.limit.get()
     )?;
-    let mut room = Room::new();
+    let mut scratch = Scratch::new();
     for index in 0..script.len() {
-        push_request(&mut text, script.request(index, &mut room))?;
+        push_request(&mut text, script.request(index, &mut scratch))?;
     }
     Ok(text)
 }

@@ -1,12 +1,12 @@
 //! Values from outside: replies by hand, and writers that break off.
-use device::{Device, Request};
+use device::{Device, Request, Room};
 use guest_memory::{FlatMem, GuestMem};
 use std::alloc::Global;
 use std::io::Write;
 use std::test::Fail;
 use test_support::memories;
 use transcript::Output;
-use wire_frame::{Fault, FrameBuf};
+use wire_frame::Fault;
 
 mod breaking;
 mod replies;
@@ -22,11 +22,11 @@ fn answer<M: GuestMem, W: Write>(
     number: u64,
     device: &mut Device<M>,
     request: Request<'_>,
-    frame: &mut FrameBuf,
+    room: &mut Room,
     writer: &mut W,
 ) -> Result<(), transcript::Fault> {
-    let taken = device.take(request, frame);
-    output.answer(number, device, &taken, writer)
+    let response = device.take(request, room);
+    output.answer(number, &response, room, writer)
 }
 
 // The lines of the answers.
@@ -34,14 +34,14 @@ fn run(alloc: Global, asked: &[Request<'_>]) -> Result<String, Fail> {
     let mut device = device_of_8(alloc)?;
     let mut output = Output::new(alloc)?;
     let mut written = Vec::new(alloc);
-    let mut frame = FrameBuf::blank();
+    let mut room = Room::new();
     for (index, request) in asked.iter().enumerate() {
         answer(
             &mut output,
             index as u64 + 1,
             &mut device,
             *request,
-            &mut frame,
+            &mut room,
             &mut written,
         )?;
     }

@@ -1,6 +1,7 @@
 //! The threads of a round.
 ghost use Rattle.std.specs.Prelude.{◌≡◌};
 ghost use Rattle.history.specs.declared.caller.Caller.TheVariants.{Pump};
+ghost use Rattle.lock_support.specs.Lines.{AreSeatsOf, AreSharesOf};
 
 use crate::guest::{Life, live};
 use crate::round::{Figures, Kind, Plan};
@@ -8,7 +9,9 @@ use crate::wire::{feed, pumping};
 use anyhow::{Result, anyhow};
 use device_lock::{LockedDevice, Share, Shares};
 use guest_memory::GuestMem;
-use guest_port::{GuestPort, LockedPort};
+use guest_port::{GuestPort, IrqPort, LockedPort};
+use irq_line::GuestSeat;
+use lock_support::{last_seat, port_share};
 use std::alloc::Global;
 use std::sync::ledger::Ledger;
 use std::sync::{Arc, Wait};
@@ -17,31 +20,57 @@ use std::thread::{JoinHandle, Threads};
 use std::time::Clock;
 use wire_pump::{LockedDoor, channel};
 
-/// The ports with the device and their shares.
-pub fn seat_all<M: GuestMem, L: Ledger, P: GuestPort>(
+// A port of a seat, with the device and its share.
+fn seated<M: GuestMem, L: Ledger>(
     alloc: Global,
     device: &Arc<LockedDevice<M, L>>,
     shares: &mut Shares<L>,
-    ports: Vec<P>,
-) -> Result<Vec<LockedPort<M, L, P>>>
+    seat: GuestSeat,
+) -> Result<LockedPort<M, L, IrqPort>>
+    requires line { seat.line ≡ shares.old.pump.line }
+    requires shares { AreSharesOf shares.old.pump.line shares.old.ports.items }
+    ensures shares { AreSharesOf shares.new.pump.line shares.new.ports.items }
+    ensures pump { shares.new.pump ≡ shares.old.pump }
+{
+    let pool = seat.pool();
+    let (port, _note) = match IrqPort::new(alloc, pool, seat) {
+        Ok(made) => made,
+        Err(fault) => return Err(anyhow!("no port: {fault}")),
+    };
+    let Some(share) = port_share(shares, pool) else {
+        return Err(anyhow!("a pool has two ports"));
+    };
+    let Ok(device) = Arc::try_clone(device) else {
+        return Err(anyhow!("the device has too many owners"));
+    };
+    Ok(LockedPort::new(device, share, port))
+}
+
+/// The ports of all seats, with the device and their shares.
+pub fn seat_all<M: GuestMem, L: Ledger>(
+    alloc: Global,
+    device: &Arc<LockedDevice<M, L>>,
+    shares: &mut Shares<L>,
+    mut seats: Vec<GuestSeat>,
+) -> Result<Vec<LockedPort<M, L, IrqPort>>>
+    requires seats { AreSeatsOf shares.old.pump.line seats.items }
+    requires shares { AreSharesOf shares.old.pump.line shares.old.ports.items }
     ensures { shares.new.pump ≡ shares.old.pump }
 {
-    let mut seated = Vec::with_capacity(alloc, ports.len())?;
-    for port in ports {
-        if port.is_open() {
-            let Some(share) = shares.port(port.pool()) else {
-                return Err(anyhow!("a pool has two ports"));
-            };
-            seated.push(LockedPort::new(Arc::try_clone(device)?, share, port))?;
-        }
+    let mut ports = Vec::with_capacity(alloc, seats.len())?;
+    for _ in 0..64u8 {
+        let Some(seat) = last_seat(&mut seats, &shares.pump) else {
+            break;
+        };
+        ports.push(seated(alloc, device, shares, seat)?)?;
     }
-    Ok(seated)
+    Ok(ports)
 }
 
 // A guest's life, and the share of its port after it.
-fn live_and_close<M: GuestMem, L: Ledger, P: GuestPort, R: Wait + Clock>(
+fn live_and_close<M: GuestMem, L: Ledger, R: Wait + Clock>(
     rt: &R,
-    port: &mut LockedPort<M, L, P>,
+    port: &mut LockedPort<M, L, IrqPort>,
     plan: Plan,
 ) -> (Life, Option<Share<L>>) {
     let life = live(rt, port, plan);
@@ -65,15 +94,11 @@ pub struct Crew<L: Ledger> {
 
 impl<L: Ledger + Send + Sync + 'static> Crew<L> {
     /// Starts them.
-    pub fn start<
-        M: GuestMem + Send + 'static,
-        P: GuestPort + Send + 'static,
-        R: Threads + Wait + Clock + Copy + Send + 'static,
-    >(
+    pub fn start<M: GuestMem + Send + 'static, R: Threads + Wait + Clock + Copy + Send + 'static>(
         rt: R,
         alloc: Global,
         device: &Arc<LockedDevice<M, L>>,
-        ports: Vec<LockedPort<M, L, P>>,
+        ports: Vec<LockedPort<M, L, IrqPort>>,
         pump: Share<L>,
         plan: Plan,
     ) -> Result<Crew<L>>

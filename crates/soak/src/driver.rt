@@ -1,8 +1,8 @@
 //! The driver of the physical function and the service, in one thread.
 use crate::round::{Kind, Plan};
 use addr_tables::registers::{MPSAR, RAH, RAL};
-use device::Request;
-use device_lock::{LockedDevice, Share};
+use device::{Request, Room};
+use device_lock::{LockedDevice, Share, WhenFull};
 use guest_memory::GuestMem;
 use pool_filter::registers::{PFDTXGSWC, PFVFRE, PFVFTE, VMOLR};
 use rand_pcg::Pcg32;
@@ -11,7 +11,6 @@ use std::sync::Wait;
 use std::sync::ledger::Ledger;
 use std::time::Clock;
 use vf_unit::Queue;
-use wire_frame::FrameBuf;
 
 /// A pool takes broadcasts and untagged frames: BAM and AUPE of VMOLR.
 const ACCEPTS: u32 = 1 << 27 | 1 << 24;
@@ -30,15 +29,14 @@ fn ask<M: GuestMem, L: Ledger, R: Wait>(
     device: &LockedDevice<M, L>,
     share: &mut Share<L>,
     request: Request<'_>,
-    room: &mut FrameBuf,
+    room: &mut Room,
 ) -> bool {
-    match request {
-        Request::MemRead(_, _, _) => false,
-        _ if share.may(request) => device
-            .act_request(rt, share, request, room, &mut [])
-            .is_some(),
-        _ => false,
+    if !share.may(request) {
+        return false;
     }
+    device
+        .act_request(rt, share, request, room, WhenFull::Refuse)
+        .is_some()
 }
 
 /// Opens all functions and sets the filters up, by the service: pool p has the address 02:00:00:00:00:p.
@@ -47,7 +45,7 @@ pub fn set_up<M: GuestMem, L: Ledger, R: Wait>(
     device: &LockedDevice<M, L>,
     service: &mut Share<L>,
 ) {
-    let mut room = FrameBuf::blank();
+    let mut room = Room::new();
     for (offset, value) in SWITCHED {
         ask(
             rt,
@@ -92,7 +90,7 @@ pub fn drive<M: GuestMem, L: Ledger, R: Wait + Clock>(
 ) -> u64 {
     let is_folded = plan.kind == Kind::Fold;
     let mut chance = Pcg32::new(plan.seed, 64);
-    let mut room = FrameBuf::blank();
+    let mut room = Room::new();
     let (mut turns, mut folds) = (0u64, 0u64);
     for _ in rt.forever() {
         if plan.until.is_over(rt, turns) {

@@ -23,8 +23,7 @@ use crate::round::{Figures, Kind, Plan, Stage, round};
 use crate::until::Until;
 use anyhow::{Result, anyhow};
 use guest_memory::FlatMem;
-use guest_port::IrqPort;
-use irq_line::make;
+use lock_support::line;
 use std::alloc::Global;
 use std::env;
 use std::marker::Brand;
@@ -44,17 +43,11 @@ const FEW: usize = 600;
 const TURNS: u64 = 40;
 
 // What a round is done on.
-fn stage(alloc: Global) -> Result<Stage<FlatMem, IrqPort>> {
-    let (line, seats) = make(alloc)?;
-    let mut ports = Vec::with_capacity(alloc, usize::from(GUESTS))?;
-    for seat in seats {
-        let pool = seat.pool();
-        let (port, _note) = IrqPort::new(alloc, pool, seat)?;
-        ports.push(port)?;
-    }
+fn stage(alloc: Global) -> Result<Stage<FlatMem>> {
+    let (line, seats) = line(alloc)?;
     Ok(Stage {
         line,
-        ports,
+        seats,
         live: memories(alloc, usize::from(GUESTS), MEMORY)?,
         other: memories(alloc, usize::from(GUESTS), MEMORY)?,
     })
@@ -112,7 +105,7 @@ fn main(rt: HostRuntime) -> Result<()> {
     let (mut seed, mut all) = (0u64, Figures::default());
     for _ in rt.forever() {
         let plan = plan_of(asked, begin, seed);
-        let figures = round::<FlatMem, Brand, IrqPort, HostRuntime>(
+        let figures = round::<FlatMem, Brand, HostRuntime>(
             rt,
             alloc,
             Blank::new(67),

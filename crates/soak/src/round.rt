@@ -1,6 +1,7 @@
 //! A round: a device as it is made, all its callers in threads of their own, and what came of it.
-ghost use Rattle.std.specs.Prelude.{◌≡◌, []};
+ghost use Rattle.std.specs.Prelude.{◌≡◌, [], IfOk};
 ghost use Rattle.history.specs.declared.caller.Caller.TheVariants.{Pump};
+ghost use Rattle.lock_support.specs.Lines.{AreSeatsOf, AreSharesOf};
 
 use crate::crew::{Crew, seat_all};
 use crate::driver::{drive, set_up};
@@ -10,8 +11,7 @@ use anyhow::{Result, anyhow};
 use device::Device;
 use device_lock::{LockedDevice, Recorded, Share, Shares};
 use guest_memory::GuestMem;
-use guest_port::GuestPort;
-use irq_line::DeviceSeat;
+use irq_line::{DeviceSeat, GuestSeat};
 use std::alloc::Global;
 use std::sync::ledger::{Blank, Ledger};
 use std::sync::{Arc, Wait};
@@ -40,14 +40,15 @@ pub struct Plan {
     pub seed: u64,
 }
 
-/// What a round is done on: a line, ports, and the memories of two devices.
+/// What a round is done on: a line, the seats of its guests, and the memories of two devices.
 #[derive(Drop)]
-pub struct Stage<M: GuestMem, P: GuestPort> {
+pub struct Stage<M: GuestMem> {
     pub line: DeviceSeat,
-    pub ports: Vec<P>,
+    pub seats: Vec<GuestSeat>,
     pub live: Vec<M>,
     pub other: Vec<M>,
     pub ghost unused: { line.raises ≡ [] },
+    pub ghost one: { AreSeatsOf line.line seats.items },
 }
 
 /// What came of a round.
@@ -75,9 +76,11 @@ struct Made<M: GuestMem, L: Ledger> {
     shares: Shares<L>,
     fresh: Option<Device<M>>,
     ghost pump: { shares.pump.caller ≡ Pump },
+    ghost left: { AreSharesOf shares.pump.line shares.ports.items },
 }
 
 // Makes the devices.
+#[tactic(auto, using(lock_support::proofs::Lines::pump_line, lock_support::proofs::Lines::unused_shares))]
 fn make<M: GuestMem, L: Ledger>(
     alloc: Global,
     blank: Blank,
@@ -88,6 +91,7 @@ fn make<M: GuestMem, L: Ledger>(
 ) -> Result<Made<M, L>>
     requires blank { (blank.name ≡ L.name) × (blank.parts ≡ L.parts) × (blank.parts ≡ 67) }
     requires line { line.raises ≡ [] }
+    ensures line { IfOk result (λ made. made.shares.pump.line ≡ line.line) }
 {
     let live = Device::new(alloc, live)?;
     let other = Device::new(alloc, other)?;
@@ -111,14 +115,13 @@ fn make<M: GuestMem, L: Ledger>(
 pub fn round<
     M: GuestMem + Send + 'static,
     L: Ledger + Send + Sync + 'static,
-    P: GuestPort + Send + 'static,
     R: Threads + Wait + Clock + Copy + Send + 'static,
->(rt: R, alloc: Global, blank: Blank, stage: Stage<M, P>, plan: Plan) -> Result<Figures>
+>(rt: R, alloc: Global, blank: Blank, stage: Stage<M>, plan: Plan) -> Result<Figures>
     requires { (blank.name ≡ L.name) × (blank.parts ≡ L.parts) × (blank.parts ≡ 67) }
 {
     let Stage {
         line,
-        ports,
+        seats,
         live,
         other,
     } = stage;
@@ -127,7 +130,7 @@ pub fn round<
         mut shares,
         mut fresh,
     } = make::<M, L>(alloc, blank, line, live, other, plan)?;
-    let guests = seat_all(alloc, &device, &mut shares, ports)?;
+    let guests = seat_all(alloc, &device, &mut shares, seats)?;
     let mut back = Vec::with_capacity(alloc, 67)?;
     shares.put_back(&mut back)?;
     if back.len() != 3 {

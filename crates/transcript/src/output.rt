@@ -2,7 +2,7 @@
 ghost use Rattle.std.specs.Prelude.{◌≡◌, ◌+◌, ◌≤◌, [], ◌++◌, length, IfOk, IfErr, OnOk, OnErr};
 ghost use Rattle.std.specs.Io.KnownBytes.{Appends};
 ghost use Rattle.hex.specs.Hex.{encode_lower};
-ghost use Rattle.device.specs.Outcome.{answer_in};
+ghost use Rattle.device.specs.Outcome.{answer_of};
 ghost use Rattle.lone.specs.Kept.{item_of, observation_of};
 ghost use Rattle.transcript.specs.Known.{Began, Sent};
 ghost use Rattle.transcript.specs.Limits.{MOST_HELD};
@@ -12,10 +12,9 @@ use crate::count::{Count, MOST_DIGITS};
 use crate::fault::Fault;
 use crate::lines::MOST_ITEM;
 use crate::send::send;
-use crate::text::{MOST_READ, put};
-use device::{Device, Response};
-use guest_memory::GuestMem;
-use lone::{Given, Lone, Seen};
+use crate::text::put;
+use device::{Response, Room};
+use lone::{Given, Seen};
 use std::alloc::Global;
 use std::io::Write;
 use std::marker::Model;
@@ -36,8 +35,6 @@ pub struct Output {
     // what is held stands in front, and the bytes behind it mean nothing
     pub(crate) room: Vec<u8>,
     pub(crate) end: usize,
-    // bytes of a guest's memory are read to here before their digits are written
-    pub(crate) read: [u8; MOST_READ],
     // the number of the last line that has one
     pub(crate) count: Count,
 }
@@ -61,31 +58,30 @@ impl Output {
         Ok(Output {
             room: vec![in alloc; 0; ROOM]?,
             end: 0,
-            read: [0; MOST_READ],
             count: Count::new(),
         })
     }
 
-    /// The line of an event's answer: its number, the reply, and a mark for each pool that messages were issued to. The
-    /// device has just taken the event.
-    pub fn answer<M: GuestMem, W: Write>(
+    /// The line of an event's answer: its number, the reply, and a mark for each pool that messages were issued to. The event has just
+    /// been taken with this room.
+    pub fn answer<W: Write>(
         &mut self,
         number: u64,
-        device: &Device<M>,
-        taken: &Response<'_>,
+        response: &Response,
+        lent: &Room,
         writer: &mut W,
     ) -> Result<(), Fault>
         ensures ok { OnOk result
             (Sent (W.contents writer.old) (W.contents writer.new)
-            (self.old ++ line number (answer_in device.now.world taken.now)) self.new) }
+            (self.old ++ line number (answer_of lent.now response.now)) self.new) }
         ensures few { OnOk result (length self.new ≤ MOST_HELD) }
         ensures err { OnErr result
             (Began (W.contents writer.old) (W.contents writer.new)
-            (self.old ++ line number (answer_in device.now.world taken.now))) }
+            (self.old ++ line number (answer_of lent.now response.now))) }
         ensures io { IfErr result (λ e. e ≡ Fault.Io) }
     {
         self.relieve(writer)?;
-        self.hold_answer(number, device, taken);
+        self.hold_answer(number, response, lent);
         Ok(())
     }
 
@@ -127,26 +123,26 @@ impl Output {
     }
 
     /// The line of what is seen of a pool's lone function: the number of the event that it comes of, the reply where there
-    /// is one, and the pool's mark where messages were issued. The function has just shown it.
-    pub fn seen<M: GuestMem, W: Write>(
+    /// is one, and the pool's mark where messages were issued. The function has just shown it with this room.
+    pub fn seen<W: Write>(
         &mut self,
         number: u64,
         pool: PoolId,
-        lone: &Lone<M>,
         seen: Seen,
+        lent: &Room,
         writer: &mut W,
     ) -> Result<(), Fault>
         ensures ok { OnOk result
             (Sent (W.contents writer.old) (W.contents writer.new)
-            (self.old ++ seen_line pool number (observation_of lone.now.function seen)) self.new) }
+            (self.old ++ seen_line pool number (observation_of lent.now seen)) self.new) }
         ensures few { OnOk result (length self.new ≤ MOST_HELD) }
         ensures err { OnErr result
             (Began (W.contents writer.old) (W.contents writer.new)
-            (self.old ++ seen_line pool number (observation_of lone.now.function seen))) }
+            (self.old ++ seen_line pool number (observation_of lent.now seen))) }
         ensures io { IfErr result (λ e. e ≡ Fault.Io) }
     {
         self.relieve(writer)?;
-        self.hold_seen(number, pool, lone, seen);
+        self.hold_seen(number, pool, seen, lent);
         Ok(())
     }
 

@@ -1,15 +1,14 @@
 //! Texts in a room, from an index on. Each call answers the index behind its text; the bytes from there on are no text, and
 //! may be written too as far as the call's premise reaches.
-ghost use Rattle.std.specs.Prelude.{◌≡◌, ℕ, ◌+◌, ◌*◌, ◌<◌, ◌≤◌, List, ◌++◌, codes, false, length, slice_range, take, decimal};
+ghost use Rattle.std.specs.Prelude.{◌≡◌, ◌+◌, ◌*◌, ◌<◌, ◌≤◌, ◌++◌, codes, length, slice_range, take, decimal};
 ghost use Rattle.std.specs.Int.{to_be_bytes, w32};
 ghost use Rattle.hex.specs.Hex.{encode_lower};
 ghost use Rattle.device.specs.declared.event.Reply.{Reply};
-ghost use Rattle.device.specs.declared.span.Span.{Span};
-ghost use Rattle.device.specs.Outcome.{reads, reply_by};
+ghost use Rattle.device.specs.Outcome.{reply_of};
 ghost use Rattle.transcript.specs.Text.{digits_or_none, mark_text, marks_text, reply_text};
 
 use crate::digits::{encode, encode_word};
-use device::Outcome;
+use device::{Outcome, Room};
 use irq_causes::{Messages, Vectors};
 use wire_frame::PoolId;
 
@@ -111,9 +110,9 @@ pub fn put_digits(room: &mut [u8], at: usize, bytes: &[u8]) -> usize
     end
 }
 
-/// The words of a reply of bytes: their digits, or `-` where there are none.
+// The words of a reply of bytes: their digits, or `-` where there are none.
 #[tactic(auto, unfolding(crate::specs::Text::reply_text))]
-pub fn put_bytes_reply(room: &mut [u8], at: usize, bytes: &[u8]) -> usize
+fn put_bytes_reply(room: &mut [u8], at: usize, bytes: &[u8]) -> usize
     requires few { length bytes.now ≤ MOST_READ }
     requires fits { at + MOST_REPLY ≤ length room.old }
     ensures end { result ≤ at + MOST_REPLY }
@@ -127,20 +126,19 @@ pub fn put_bytes_reply(room: &mut [u8], at: usize, bytes: &[u8]) -> usize
     }
 }
 
-/// The words of a reply that is no bytes of a memory, each after a space.
-#[inline(always)]
+/// The words of a reply, each after a space. Bytes that were read stand first in the room that was lent.
+#[inline]
 #[tactic(auto, unfolding(crate::specs::Text::reply_text))]
-pub fn put_plain_reply(room: &mut [u8], at: usize, outcome: Outcome) -> usize
-    requires plain { reads outcome ≡ false }
-    requires fits { at + MOST_REPLY ≤ length room.old }
+pub fn put_reply(room: &mut [u8], at: usize, outcome: Outcome, lent: &Room) -> usize
+    requires { at + MOST_REPLY ≤ length room.old }
     ensures end { result ≤ at + MOST_REPLY }
-    ensures text { (bytes : Span → List ℕ) →
-        take result room.new ≡ take at room.old ++ reply_text (reply_by bytes outcome) }
+    ensures text { take result room.new
+        ≡ take at room.old ++ reply_text (reply_of lent.now.bytes outcome) }
 {
     match outcome {
         Outcome::Done => put_word(room, at, *b" ok"),
         Outcome::Value(value) => put_value(room, at, value),
-        Outcome::Bytes(_) => unreachable!(),
+        Outcome::Bytes(_) => put_bytes_reply(room, at, lent.read(outcome)),
         Outcome::Idle => put_word(room, at, *b" idle"),
         Outcome::More => put_word(room, at, *b" more"),
         Outcome::Sent => put_word(room, at, *b" sent"),

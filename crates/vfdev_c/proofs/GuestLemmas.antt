@@ -1,15 +1,15 @@
 -- A device of guests: the events, and what stays of the other functions.
 use Rattle.std.proofs.Common.{◌≡◌, ℕ, List, Bool, true, false, Some, nat_eq, refl, ap, subst}
-use Rattle.std.specs.Prelude.{Ok}
 use Rattle.device.specs.Events.{Event}
 use Rattle.device.specs.Live.{TracedWorld, trace_of}
 use Rattle.device.specs.Lone.{lone_of}
 use Rattle.spare_memory.specs.Devices.{IsDeviceRemapped, LeavesTheOthers}
 use Rattle.vfdev_c.specs.CardCalls.{number_if}
 use Rattle.vfdev_c.specs.GuestDevices.{HeldGuests, with_device}
-use Rattle.vfdev_c.specs.Handle.{Gives, Held, bytes_on, left_on}
+use Rattle.vfdev_c.specs.Handle.{Held}
+use Rattle.vfdev_c.specs.Wanted.{Hands}
+use Rattle.vfdev_c.specs.declared.handed.Handed.{Handed}
 use Rattle.vfdev_c.specs.declared.handle_state.HandleState.TheVariants.{Guests, Lent}
-use Rattle.vfdev_c.specs.declared.reply.VfdevReply.{VfdevReply}
 
 -- the device that is led to, if it is one over lent blocks
 abbrev lent_in : Held → TracedWorld → TracedWorld
@@ -17,30 +17,24 @@ lent_in (Some (Lent l)) other = l
 lent_in held other = other
 
 -- an event of the device under it is one of the device of guests
-pub guests_give : (seen old : HeldGuests) (new : TracedWorld) (e : Event) (reply : VfdevReply) (raised : List ℕ) → seen ≡ old
-    → Gives (Some (Lent seen.device)) (Ok e) (Some (Lent new)) reply raised → Gives (Some (Guests old)) (Ok e) (Some (Guests (with_device seen new))) reply raised
-guests_give seen old new e reply raised is gives =
-    subst (λ (g : HeldGuests). Gives (Some (Guests g)) (Ok e) (Some (Guests (with_device seen new))) reply raised) is record {
-      called = record {
-        held = ap (λ (h : Held). Some (Guests (with_device seen (lent_in h new)))) gives.called.held;
-        replied = gives.called.replied;
-        isolated = gives.called.isolated;
-        once = gives.called.once;
-        listed = gives.called.listed;
+pub guests_hand : (seen old : HeldGuests) (new : TracedWorld) (e : Event) (handed : Handed) (before after : List ℕ) → seen ≡ old
+    → Hands (Some (Lent seen.device)) e (Some (Lent new)) handed before after → Hands (Some (Guests old)) e (Some (Guests (with_device seen new))) handed before after
+guests_hand seen old new e handed before after is hands =
+    subst (λ (g : HeldGuests). Hands (Some (Guests g)) e (Some (Guests (with_device seen new))) handed before after) is record {
+      gives = record {
+        called = record {
+          held = ap (λ (h : Held). Some (Guests (with_device seen (lent_in h new)))) hands.gives.called.held;
+          replied = hands.gives.called.replied;
+          isolated = hands.gives.called.isolated;
+          once = hands.gives.called.once;
+          listed = hands.gives.called.listed;
+        };
+        raises = hands.gives.raises;
       };
-      raises = gives.raises;
+      left = hands.left;
+      frame = hands.frame;
+      bytes = hands.bytes;
     }
-
--- and so are the bytes that were read
-pub guests_read : (seen old : HeldGuests) (new : TracedWorld) (e : Event) (out now : List ℕ) → seen ≡ old
-    → now ≡ bytes_on (Some (Lent seen.device)) e (Some (Lent new)) out → now ≡ bytes_on (Some (Guests old)) e (Some (Guests (with_device seen new))) out
-guests_read seen old new e out now is read = subst (λ (g : HeldGuests). now ≡ bytes_on (Some (Guests g)) e (Some (Guests (with_device seen new))) out) is read
-
--- and the frame that left
-pub guests_left : (seen old : HeldGuests) (new : TracedWorld) (e : Event) → seen ≡ old
-    → left_on (Some (Lent seen.device)) (Ok e) (Some (Lent new)) ≡ left_on (Some (Guests old)) (Ok e) (Some (Guests (with_device seen new)))
-guests_left seen old new e is =
-    subst (λ (g : HeldGuests). left_on (Some (Lent seen.device)) (Ok e) (Some (Lent new)) ≡ left_on (Some (Guests g)) (Ok e) (Some (Guests (with_device seen new)))) is refl
 
 -- ---- what stays of the other functions
 

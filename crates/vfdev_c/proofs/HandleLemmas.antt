@@ -1,18 +1,19 @@
 -- What a call leaves, and when a device can be made.
 use Rattle.std.proofs.Common.{◌≡◌, ℕ, zero, suc, Bool, true, false, ◌&&◌, nat_le, List, [], replicate, length, refl, sym, ap, subst, ◌∙◌, true≢false, Some}
-use Rattle.std.specs.Prelude.{Ok}
 use Rattle.std.specs.List.{list_all}
 use Rattle.guest_memory.specs.Memory.{is_memory_size}
 use Rattle.device.specs.Events.{Event}
-use Rattle.device.specs.declared.event.Answer.{Answer}
 use Rattle.device.specs.declared.response.Response.{Response}
-use Rattle.device.specs.declared.span.Span.{Span}
-use Rattle.device.specs.Outcome.{answer_in, bytes_in, reply_by}
+use Rattle.device.specs.declared.room.Room.{Room}
 use Rattle.device.specs.Takes.{Takes}
-use Rattle.device.specs.World.{World, step, function_of, is_frame_limit, is_makeable}
+use Rattle.device.specs.World.{World, step, is_frame_limit, is_makeable}
+use Rattle.vfdev_c.specs.declared.handed.Handed.{Handed}
 use Rattle.vfdev_c.specs.declared.handle_state.HandleState.TheVariants.{Made}
-use Rattle.vfdev_c.specs.declared.reply.VfdevReply.{VfdevReply}
-use Rattle.vfdev_c.specs.Handle.{Gives, IsolatedStep, Shows, can_make, shown}
+use Rattle.vfdev_c.specs.declared.wanted.Wanted.{Wanted}
+use Rattle.vfdev_c.specs.Handle.{IsolatedStep, can_make}
+use Rattle.vfdev_c.specs.Recorded.{kept_as}
+use Rattle.vfdev_c.specs.Wanted.{event_in, Hands, HandsOver, IsWanted}
+use Rattle.vfdev_c.proofs.WantedLemmas.{comes_of}
 
 -- a law of all events in all worlds of as many functions
 abbrev pub Isolates : World → Type 0
@@ -23,29 +24,27 @@ pub isolated_at : (w new : World) (e : Event) → new ≡ (step w e).world → I
 isolated_at w new e same law = subst (λ v. IsolatedStep w e v) (sym same) (law w e refl)
 
 -- a device over memories of its own takes an event
-pub made_gives : (w old new : World) (d e : Event) (a : Answer) (reply : VfdevReply) (raised : List ℕ) → w ≡ old → d ≡ e → Shows a reply raised
-    → a ≡ (step w d).answer → new ≡ (step w d).world → Isolates w → Gives (Some (Made old)) (Ok e) (Some (Made new)) reply raised
-made_gives w old new d e a reply raised is same shows answers there law = subst (λ old. Gives (Some (Made old)) (Ok e) (Some (Made new)) reply raised) is
-    (subst (λ e. Gives (Some (Made w)) (Ok e) (Some (Made new)) reply raised) same record {
-      called = record {
-        held = ap (λ v. Some (Made v)) there;
-        replied = shows.replied ∙ ap (λ (a : Answer). shown a.reply) answers;
-        isolated = isolated_at w new d there law;
-        once = tt;
-        listed = tt;
+pub made_hands : (w old new : World) (wanted : Wanted) (d : Event) (response : Response) (room : Room) (handed : Handed) (before after : List ℕ) → w ≡ old → IsWanted wanted
+    → d ≡ kept_as (event_in wanted) → Takes w d new response room → HandsOver response room handed before after → Isolates w
+    → Hands (Some (Made old)) (event_in wanted) (Some (Made new)) handed before after
+made_hands w old new wanted d response room handed before after is wants so takes over law =
+    let e = event_in wanted in
+    let comes = comes_of w new wanted d response room handed before after wants so takes over in
+    subst (λ old. Hands (Some (Made old)) e (Some (Made new)) handed before after) is record {
+      gives = record {
+        called = record {
+          held = ap (λ v. Some (Made v)) comes.world;
+          replied = comes.replied;
+          isolated = isolated_at w new e comes.world law;
+          once = tt;
+          listed = tt;
+        };
+        raises = comes.raises;
       };
-      raises = shows.raises ∙ ap (λ (a : Answer). a.raised) answers;
-    })
-
--- the reply and the messages of a response
-pub shows_of : (w : World) (taken : Response) (reply : VfdevReply) → ((bytes : Span → List ℕ) → reply ≡ shown (reply_by bytes taken.outcome)) → Shows (answer_in w taken) reply taken.messages
-shows_of w taken reply told = record { replied = told (λ span. bytes_in (function_of span.pool w) span); raises = refl }
-
--- the same, where a response tells of it
-pub made_takes : (w old new : World) (e : Event) (taken : Response) (reply : VfdevReply) → w ≡ old → ((bytes : Span → List ℕ) → reply ≡ shown (reply_by bytes taken.outcome))
-    → Takes w e new taken → Isolates w → Gives (Some (Made old)) (Ok e) (Some (Made new)) reply taken.messages
-made_takes w old new e taken reply is told takes law =
-    made_gives w old new e e (answer_in new taken) reply taken.messages is refl (shows_of new taken reply told) takes.answer takes.world law
+      left = comes.left;
+      frame = comes.frame;
+      bytes = comes.bytes;
+    }
 
 -- a device has a function
 pub none_makeable : (b : Bool) → (b && is_makeable []) ≡ true → ⊥

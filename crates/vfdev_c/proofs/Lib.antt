@@ -5,4 +5,6 @@ mod HandleLemmas
 mod LentLemmas
 mod RecordedLemmas
 mod Silence
+mod TakingLemmas
 pub mod Values
+mod WantedLemmas

@@ -15,32 +15,21 @@ use Rattle.device.specs.World.{World, Stepped, function_of, acted, refused, repl
 use Rattle.device.proofs.Arrivals.{raised_nothing}
 use Rattle.vfdev_c.specs.Handle.{is_silent}
 
-performed_silent : (f : Function) (e : Event) → is_silent e ≡ true → (performed f e).messages ≡ 0
-performed_silent f (Open p) is = refl
-performed_silent f (End p) is = refl
-performed_silent f (VfRead p offset) is = refl
-performed_silent f (VfWrite p offset x) is = absurd (true≢false (sym is))
-performed_silent f (MemRead p at count) is = refl
-performed_silent f (MemWrite p at bytes) is = refl
-performed_silent f (Serve p q) is = refl
-performed_silent f (Flr p) is = refl
-performed_silent f (PfRead offset) is = refl
-performed_silent f (PfWrite offset x) is = refl
-performed_silent f PfReset is = refl
-performed_silent f (Wire frame) is = refl
+unless_silent : (why : Option Fault) (f : Function) (e : Event) → (performed f e).messages ≡ 0 → (unless_refused why f e).messages ≡ 0
+unless_silent (Some fault) f e quiet = refl
+unless_silent None f e quiet = quiet
 
-unless_silent : (why : Option Fault) (f : Function) (e : Event) → is_silent e ≡ true → (unless_refused why f e).messages ≡ 0
-unless_silent (Some fault) f e is = refl
-unless_silent None f e is = performed_silent f e is
-
-act_silent : (f : Function) (e : Event) → is_silent e ≡ true → (act f e).messages ≡ 0
+act_silent : (f : Function) (e : Event) → (performed f e).messages ≡ 0 → (act f e).messages ≡ 0
 unfolding act
-act_silent f e is = unless_silent (refusal f e) f e is
+act_silent f e quiet = unless_silent (refusal f e) f e quiet
 
-own_silent : (w : World) (p : ℕ) (e : Event) → is_silent e ≡ true → (there : Bool)
-    → (if there then acted w p (act (function_of p w) e) else refused w NoSuchVf).answer.raised ≡ no_messages
-own_silent w p e is true = ap (λ m. slice_set no_messages p m) (act_silent (function_of p w) e is) ∙ raised_nothing p
-own_silent w p e is false = refl
+-- an event of a function's own that issues nothing where it is performed
+own_silent : (w : World) (p : ℕ) (e : Event) → (performed (function_of p w) e).messages ≡ 0 → (own_step w p e).answer.raised ≡ no_messages
+own_silent w p e quiet = at (nat_lt p (length w.functions))
+  where
+    at : (there : Bool) → (if there then acted w p (act (function_of p w) e) else refused w NoSuchVf).answer.raised ≡ no_messages
+    at true = ap (λ m. slice_set no_messages p m) (act_silent (function_of p w) e quiet) ∙ raised_nothing p
+    at false = refl
 
 flagged_silent : (p : ℕ) (s : Stepped) (done : Bool)
     → (if done then record { world = record s.world { resets = with_bit s.world.resets p }; answer = s.answer } else s).answer.raised ≡ s.answer.raised
@@ -52,16 +41,15 @@ chosen_silent v w r true = refl
 chosen_silent v w r false = refl
 
 pub silent_step : (w : World) (e : Event) → is_silent e ≡ true → (step w e).answer.raised ≡ no_messages
-silent_step w (Open p) is = own_silent w p (Open p) is (nat_lt p (length w.functions))
-silent_step w (End p) is = own_silent w p (End p) is (nat_lt p (length w.functions))
-silent_step w (VfRead p offset) is = own_silent w p (VfRead p offset) is (nat_lt p (length w.functions))
+silent_step w (Open p) is = own_silent w p (Open p) refl
+silent_step w (End p) is = own_silent w p (End p) refl
+silent_step w (VfRead p offset) is = own_silent w p (VfRead p offset) refl
 silent_step w (VfWrite p offset x) is = absurd (true≢false (sym is))
-silent_step w (MemRead p at count) is = own_silent w p (MemRead p at count) is (nat_lt p (length w.functions))
-silent_step w (MemWrite p at bytes) is = own_silent w p (MemWrite p at bytes) is (nat_lt p (length w.functions))
+silent_step w (MemRead p at count) is = own_silent w p (MemRead p at count) refl
+silent_step w (MemWrite p at bytes) is = own_silent w p (MemWrite p at bytes) refl
 silent_step w (Serve p q) is = absurd (true≢false (sym is))
 silent_step w (Flr p) is =
-    flagged_silent p (own_step w p (Flr p)) (is_done (own_step w p (Flr p)).answer.reply)
-    ∙ own_silent w p (Flr p) is (nat_lt p (length w.functions))
+    flagged_silent p (own_step w p (Flr p)) (is_done (own_step w p (Flr p)).answer.reply) ∙ own_silent w p (Flr p) refl
 silent_step w (PfRead offset) is = chosen_silent w w (Value (pf_word w offset)) (is_bad_offset 0x20000 offset)
 silent_step w (PfWrite offset x) is = chosen_silent w (pf_written w offset x) Done (is_bad_offset 0x20000 offset)
 silent_step w PfReset is = refl

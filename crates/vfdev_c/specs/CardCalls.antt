@@ -7,7 +7,7 @@ use Rattle.wire_frame.specs.declared.fault.Fault.{Fault}
 use Rattle.wire_frame.specs.declared.fault.Fault.TheVariants.{BadFrame}
 use Rattle.irq_causes.specs.Causes.{◌without◌, vectors_in}
 use Rattle.irq_causes.specs.Messages.{both}
-use Rattle.live_run.specs.Frames.{Room}
+use Rattle.live_run.specs.Frames.{FramesState}
 use Rattle.device.specs.Accesses.{accesses_by}
 use Rattle.device.specs.declared.event.Event.TheVariants.{Wire}
 use Rattle.device.specs.Guests.{attach_refusal, attached, detached, is_vacant}
@@ -242,7 +242,7 @@ number_if true = 1
 number_if false = 0
 
 -- frames of a former call are gone
-abbrev pub emptied : Room → Room
+abbrev pub emptied : FramesState → FramesState
 emptied r = record r { frames = []; used = 0 }
 
 abbrev pub none_more : VfdevCardMore
@@ -256,7 +256,7 @@ pub record Serves (p : ℕ) (c d : HeldCard) (more : VfdevCardMore) : Type 0 whe
   pub spares : d.spares ≡ c.spares
 
 -- the frame of that number, where there is room for it
-abbrev pub frame_in_room : ℕ → List ℕ → Room → Option (List ℕ)
+abbrev pub frame_in_room : ℕ → List ℕ → FramesState → Option (List ℕ)
 frame_in_room n out r =
     if nat_lt n (length r.frames) && nat_le (length (slice_index_or r.frames n [])) (length out)
     then Some (slice_index_or r.frames n [])

@@ -4,7 +4,7 @@ use Rattle.std.specs.List.{list_all}
 use Rattle.std.specs.Option.{unwrap_or}
 use Rattle.offload.specs.declared.offloads.Offloads.{Offloads}
 use Rattle.offload.specs.Offloads.{no_offloads, offloads_of}
-use Rattle.live_run.specs.Frames.{Room}
+use Rattle.live_run.specs.Frames.{FramesState}
 use Rattle.device.specs.World.{is_frame_limit}
 use Rattle.hosted.specs.Hosted.{host_of_ids}
 use Rattle.card.specs.Card.{CardState, IsMade}
@@ -14,7 +14,7 @@ use Rattle.spare_memory.specs.Spares.{SPACE}
 pub record HeldCard : Type 0 where
   pub card : CardState
   pub spares : List ℕ
-  pub frames : Room
+  pub frames : FramesState
 
 -- ---- as it is made
 

@@ -7,7 +7,7 @@ use Rattle.device.specs.Guests.{attach_refusal, attached, detached, is_vacant}
 use Rattle.device.specs.World.{function_of}
 use Rattle.live_run.specs.Arrivals.{IsWireBurst}
 use Rattle.live_run.specs.Bursts.{IsBurst}
-use Rattle.live_run.specs.Frames.{Room, has_room}
+use Rattle.live_run.specs.Frames.{has_room}
 use Rattle.spare_memory.specs.Devices.{IsDeviceRemapped, LeavesTheOthers}
 use Rattle.spare_memory.specs.Refused.{no_guest, without_place}
 use Rattle.vfdev_c.specs.CardCalls.{IsMapAnswer, IsUnmapAnswer, emptied, fault_number}

@@ -1,8 +1,8 @@
 -- A device of guests that come and go, and the blocks that are mapped for them.
-use Rattle.std.specs.Prelude.{◌≡◌, ℕ, ◌&&◌, Bool, false, not, nat_eq, nat_le, nat_lt, List, [], ◌∷◌, length, replicate, is_some, if◌then◌else◌}
+use Rattle.std.specs.Prelude.{◌≡◌, ℕ, ◌&&◌, Bool, false, not, nat_eq, nat_le, nat_lt, List, [], ◌∷◌, length, replicate, is_some}
 use Rattle.std.specs.List.{filter, list_any}
 use Rattle.offload.specs.Offloads.{offloads_of}
-use Rattle.live_run.specs.Frames.{Room}
+use Rattle.live_run.specs.Frames.{FramesState}
 use Rattle.device.specs.Live.{TracedWorld}
 use Rattle.device.specs.World.{fresh_with, is_frame_limit}
 use Rattle.spare_memory.specs.Spares.{SPACE}
@@ -47,7 +47,7 @@ without_function p blocks = filter (λ b. not (nat_eq b.function p)) blocks
 pub record HeldGuests : Type 0 where
   pub device : TracedWorld
   pub spares : List ℕ
-  pub frames : Room
+  pub frames : FramesState
   pub blocks : List MappedBlock
 
 -- another device under the same

@@ -10,11 +10,10 @@ use Rattle.vf_unit.specs.declared.registers.Queue.{Queue}
 use Rattle.vf_unit.specs.declared.registers.Queue.TheVariants.{Q0, Q1}
 use Rattle.device.specs.Events.{Event}
 use Rattle.device.specs.declared.event.Answer.{Answer}
-use Rattle.device.specs.declared.event.Event.TheVariants.{VfWrite, MemRead, MemWrite, Serve, Wire}
+use Rattle.device.specs.declared.event.Event.TheVariants.{VfWrite, MemWrite, Serve, Wire}
 use Rattle.device.specs.Replies.{Reply}
 use Rattle.device.specs.declared.event.Reply.TheVariants.{Done, Value, Bytes, Idle, More, Sent, Dropped, Faulted, Refused}
 use Rattle.device.specs.World.{World, fresh, step, answers, world_after, is_frame_limit}
-use Rattle.device.specs.Live.{TracedWorld}
 use Rattle.device.specs.Outcome.{left_by}
 use Rattle.device.specs.Lone.{keep, lone_of, lone_seen, lone_after, seen_by}
 use Rattle.history.specs.Entries.{Entry, is_cap, events, given}
@@ -166,11 +165,6 @@ is_silent (VfWrite p offset x) = false
 is_silent (Serve p q) = false
 is_silent (Wire frame) = false
 is_silent e = true
-
--- it reads a guest's memory for the caller
-abbrev pub is_mem_read : Event → Bool
-is_mem_read (MemRead p at count) = true
-is_mem_read e = false
 
 -- ---- isolation
 

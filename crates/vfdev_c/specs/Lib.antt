@@ -9,3 +9,4 @@ pub mod Ownership
 pub mod Pages
 pub mod Recorded
 pub mod Spans
+pub mod Wanted

@@ -155,7 +155,7 @@ impl CardHeld {
         let Some(pool) = PoolId::new(function) else {
             return VfdevCardMore::none();
         };
-        let goes_on = self.card.more(pool, &mut self.frames, &mut self.frame);
+        let goes_on = self.card.more(pool, &mut self.frames, &mut self.room);
         VfdevCardMore {
             goes_on: u32::from(goes_on),
             frames: self.frames.len(),

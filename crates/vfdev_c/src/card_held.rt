@@ -6,6 +6,7 @@ ghost use Rattle.spare_memory.specs.Spares.{unmapped};
 ghost use Rattle.vfdev_c.specs.Cards.{IsMadeCard, are_ids, can_make_card, function_at, is_function};
 
 use card::Card;
+use device::Room;
 use live_memory::Shared;
 use live_run::Frames;
 use mapped_memory::LiveMem;
@@ -27,13 +28,14 @@ pub(crate) const MOST_FRAMES: usize = 256;
 /// How many bytes they may have together. With less room for one more than the longest frame has, no descriptor is taken.
 pub(crate) const FRAME_BYTES: usize = 262_144;
 
-/// A card over memories of guests, with spare memories for those that come, and room for frames that leave.
+/// A card over memories of guests, with spare memories for those that come, and room for frames that come and leave.
 #[derive(Drop)]
 pub struct CardHeld {
     pub(crate) card: Card<LiveMem<'static>, Shared>,
     pub(crate) spares: Spares<'static>,
     pub(crate) frames: Frames,
     pub(crate) frame: FrameBuf,
+    pub(crate) room: Room,
 }
 
 impl Model for CardHeld {
@@ -78,6 +80,7 @@ impl CardHeld {
             spares,
             frames,
             frame: FrameBuf::blank(),
+            room: Room::new(),
         })
     }
 }

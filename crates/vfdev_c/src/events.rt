@@ -3,11 +3,10 @@ ghost use Rattle.std.specs.Prelude.{◌≡◌, length, Ok};
 ghost use Rattle.device.specs.declared.event.Event.{Event};
 ghost use Rattle.vfdev_c.specs.Handle.{Calls, raised_on, messages_in, bytes_on, where_room, wire_asked, write_asked};
 
-use crate::device_kind::DeviceKind;
 use crate::handle::Vfdev;
 use crate::handle_state::MOST_FRAME;
-use crate::on_device::on_device;
 use crate::reply::VfdevReply;
+use crate::wanted::Wanted;
 use device::{MemSlice, Request};
 use irq_causes::Messages;
 use std::alloc::Global;
@@ -21,7 +20,7 @@ pub const POOLS: usize = 64;
 pub extern "C" fn vfdev_open(alloc: Global, handle: &mut Vfdev, function: u8) -> VfdevReply
     ensures { Calls handle.old.owner.held (Ok (Event.Open function)) handle.new.owner.held result }
 {
-    on_device!(handle, alloc, device => device.take(Request::Open(function))).0
+    handle.ask(alloc, Request::Open(function)).reply
 }
 
 /// Closes a virtual function.
@@ -29,7 +28,7 @@ pub extern "C" fn vfdev_open(alloc: Global, handle: &mut Vfdev, function: u8) ->
 pub extern "C" fn vfdev_end(alloc: Global, handle: &mut Vfdev, function: u8) -> VfdevReply
     ensures { Calls handle.old.owner.held (Ok (Event.End function)) handle.new.owner.held result }
 {
-    on_device!(handle, alloc, device => device.take(Request::End(function))).0
+    handle.ask(alloc, Request::End(function)).reply
 }
 
 /// Resets a virtual function (SR-IOV 1.1, function-level reset).
@@ -37,7 +36,7 @@ pub extern "C" fn vfdev_end(alloc: Global, handle: &mut Vfdev, function: u8) -> 
 pub extern "C" fn vfdev_flr(alloc: Global, handle: &mut Vfdev, function: u8) -> VfdevReply
     ensures { Calls handle.old.owner.held (Ok (Event.Flr function)) handle.new.owner.held result }
 {
-    on_device!(handle, alloc, device => device.take(Request::Flr(function))).0
+    handle.ask(alloc, Request::Flr(function)).reply
 }
 
 /// Reads the register of a virtual function at an offset in bytes.
@@ -50,7 +49,7 @@ pub extern "C" fn vfdev_vf_read(
 ) -> VfdevReply
     ensures { Calls handle.old.owner.held (Ok (Event.VfRead function offset)) handle.new.owner.held result }
 {
-    on_device!(handle, alloc, device => device.take(Request::VfRead(function, offset))).0
+    handle.ask(alloc, Request::VfRead(function, offset)).reply
 }
 
 /// Writes the register of a virtual function at an offset in bytes. The messages that this issues stand in the first 64
@@ -71,10 +70,9 @@ pub extern "C" fn vfdev_vf_write(
     if messages.len() < POOLS {
         return VfdevReply::no_room();
     }
-    let (reply, raised) =
-        on_device!(handle, alloc, device => device.take(Request::VfWrite(function, offset, value)));
-    put_messages(raised, messages);
-    reply
+    let handed = handle.ask(alloc, Request::VfWrite(function, offset, value));
+    put_messages(handed.messages, messages);
+    handed.reply
 }
 
 /// Fills `out` with the bytes of a guest's memory from an address on, at most 2048. Where it is refused, `out` stays.
@@ -89,7 +87,9 @@ pub extern "C" fn vfdev_mem_read(
     ensures called { Calls handle.old.owner.held (Ok (Event.MemRead function at (length out.old))) handle.new.owner.held result }
     ensures bytes { out.new ≡ bytes_on handle.old.owner.held (Event.MemRead function at (length out.old)) handle.new.owner.held out.old }
 {
-    on_device!(handle, alloc, device => device.mem_read(function, at, out)).0
+    handle
+        .give(alloc, Wanted::Read(function, at, out.len()), out)
+        .reply
 }
 
 /// Writes bytes of a guest's memory from an address on. More than 2048 are refused as too long before the device is asked.
@@ -105,7 +105,9 @@ pub extern "C" fn vfdev_mem_write(
 {
     match MemSlice::new(bytes) {
         Ok(written) => {
-            on_device!(handle, alloc, device => device.take(Request::MemWrite(function, at, written))).0
+            handle
+                .ask(alloc, Request::MemWrite(function, at, written))
+                .reply
         }
         Err(fault) => VfdevReply::refused(fault),
     }
@@ -116,7 +118,7 @@ pub extern "C" fn vfdev_mem_write(
 pub extern "C" fn vfdev_pf_read(alloc: Global, handle: &mut Vfdev, offset: u32) -> VfdevReply
     ensures { Calls handle.old.owner.held (Ok (Event.PfRead offset)) handle.new.owner.held result }
 {
-    on_device!(handle, alloc, device => device.take(Request::PfRead(offset))).0
+    handle.ask(alloc, Request::PfRead(offset)).reply
 }
 
 /// Writes the register of the physical function at an offset in bytes.
@@ -129,7 +131,7 @@ pub extern "C" fn vfdev_pf_write(
 ) -> VfdevReply
     ensures { Calls handle.old.owner.held (Ok (Event.PfWrite offset value)) handle.new.owner.held result }
 {
-    on_device!(handle, alloc, device => device.take(Request::PfWrite(offset, value))).0
+    handle.ask(alloc, Request::PfWrite(offset, value)).reply
 }
 
 /// Resets the device: every virtual function is closed and every setting initial.
@@ -137,7 +139,7 @@ pub extern "C" fn vfdev_pf_write(
 pub extern "C" fn vfdev_pf_reset(alloc: Global, handle: &mut Vfdev) -> VfdevReply
     ensures { Calls handle.old.owner.held (Ok Event.PfReset) handle.new.owner.held result }
 {
-    on_device!(handle, alloc, device => device.take(Request::PfReset)).0
+    handle.ask(alloc, Request::PfReset).reply
 }
 
 /// A frame comes from the wire. The messages that this issues stand in the first 64 bytes of `messages`. Bytes that are no
@@ -160,9 +162,9 @@ pub extern "C" fn vfdev_wire(
         put_messages(Messages::none(), messages);
         return VfdevReply::refused(Fault::BadFrame);
     }
-    let (reply, raised) = on_device!(handle, alloc, device => device.wire(bytes));
-    put_messages(raised, messages);
-    reply
+    let handed = handle.give(alloc, Wanted::Frame(bytes), &mut []);
+    put_messages(handed.messages, messages);
+    handed.reply
 }
 
 // Lays the messages into the first 64 bytes, where there is room.

@@ -1,6 +1,5 @@
 //! A device of guests that come and go.
-ghost use Rattle.std.specs.Prelude.{◌≡◌, ◌≤◌, ◌&&◌, true, false, [], is_some, nat_eq, nat_le, replicate, Some, Ok, Err, IfErr, IfOk};
-ghost use Rattle.device.specs.Request.{event_of};
+ghost use Rattle.std.specs.Prelude.{◌≡◌, ◌≤◌, ◌&&◌, true, false, [], is_some, nat_eq, nat_le, replicate, Some, Err, IfErr, IfOk};
 ghost use Rattle.device.specs.World.{fresh_with};
 ghost use Rattle.vfdev_c.specs.GuestDevices.{IsMadeGuests, can_make_guests};
 
@@ -8,10 +7,11 @@ use crate::blocks::Blocks;
 use crate::card_held::{FRAME_BYTES, MOST_FRAMES, vacancies};
 use crate::counts::VfdevCounts;
 use crate::device_kind::DeviceKind;
+use crate::handed::Handed;
 use crate::lent_device::LentDevice;
 use crate::reply::VfdevReply;
-use device::{Device, Queue, Request};
-use irq_causes::Messages;
+use crate::wanted::Wanted;
+use device::Device;
 use live_memory::Shared;
 use live_run::Frames;
 use mapped_memory::LiveMem;
@@ -78,26 +78,8 @@ impl DeviceKind for GuestDevice {
     ghost held = { λ g. Some (Guests g) };
 
     #[inline(always)]
-    fn take(&mut self, request: Request<'_>) -> (VfdevReply, Messages) {
-        self.lent.take(request)
-    }
-
-    fn wire(&mut self, bytes: &[u8]) -> (VfdevReply, Messages) {
-        self.lent.wire(bytes)
-    }
-
-    fn mem_read(&mut self, function: u8, at: u64, out: &mut [u8]) -> (VfdevReply, Messages) {
-        self.lent.mem_read(function, at, out)
-    }
-
-    fn serve(
-        &mut self,
-        function: u8,
-        queue: Queue,
-        out: &mut [u8],
-        left: &mut usize,
-    ) -> (VfdevReply, Messages) {
-        self.lent.serve(function, queue, out, left)
+    fn give(&mut self, wanted: Wanted<'_>, out: &mut [u8]) -> Handed {
+        self.lent.give(wanted, out)
     }
 
     fn counts(&self, function: u8, counts: &mut VfdevCounts) -> VfdevReply {

@@ -1,5 +1,5 @@
 //! A device whose calls are kept.
-ghost use Rattle.std.specs.Prelude.{◌≡◌, ◌<◌, ◌↔◌, IsTrue, true, false, nat_le, [], length, Some, IfOk, IfErr, if◌then◌else◌};
+ghost use Rattle.std.specs.Prelude.{◌≡◌, ◌<◌, ◌↔◌, IsTrue, true, false, [], length, Some, IfOk, IfErr};
 ghost use Rattle.device.specs.World.{answers, world_after};
 ghost use Rattle.history.specs.Entries.{events, given, is_cap};
 ghost use Rattle.history.specs.Recording.{made_like};
@@ -7,12 +7,13 @@ ghost use Rattle.vfdev_c.specs.Recorded.{is_full, recorded};
 
 use crate::counts::{VfdevCounts, count};
 use crate::device_kind::DeviceKind;
-use crate::handle_state::{HandleState, Running, isolates, issued, lay, put_frame};
+use crate::handed::Handed;
+use crate::handle_state::{Running, isolates};
 use crate::reply::VfdevReply;
-use device::{Device, Queue, Request};
+use crate::wanted::Wanted;
+use device::{Device, Room};
 use guest_memory::FlatMem;
 use history::{Caller, History, Recording};
-use irq_causes::Messages;
 use local_switch::Source;
 use std::alloc::Global;
 use std::marker::Model;
@@ -20,14 +21,13 @@ use wire_frame::{Fault, FrameBuf};
 
 // Who makes the calls: whoever holds the handle, for all functions, as a driver of the physical function does.
 const CALLER: Caller = Caller::Driver;
-// How many bytes an entry names at most.
-const MOST_NAMED: usize = 65_535;
 
-/// A device with the calls that were made on it since it was made, and room for a frame that comes or goes.
+/// A device with the calls that were made on it since it was made, with room for a frame that comes, and for what its events send and read.
 #[derive(Drop)]
 pub struct Recorder {
     recording: Recording<FlatMem>,
     frame: FrameBuf,
+    room: Room,
 }
 
 impl Model for Recorder {
@@ -57,6 +57,7 @@ impl Recorder {
         Ok(Recorder {
             recording: Recording::new(live, None, history),
             frame: FrameBuf::blank(),
+            room: Room::new(),
         })
     }
 
@@ -89,57 +90,21 @@ impl Recorder {
     }
 }
 
-#[tactic(auto, using(crate::proofs::RecordedLemmas::full_gives))]
+#[tactic(auto, using(crate::proofs::RecordedLemmas::full_hands))]
 impl DeviceKind for Recorder {
     ghost use Rattle.vfdev_c.specs.declared.handle_state.HandleState.TheVariants.{Kept};
 
     ghost held = { λ r. Some (Kept r) };
 
-    fn take(&mut self, request: Request<'_>) -> (VfdevReply, Messages) {
+    #[inline(always)]
+    fn give(&mut self, wanted: Wanted<'_>, out: &mut [u8]) -> Handed {
         if self.is_full() {
-            return (VfdevReply::history_full(), Messages::none());
+            return Handed::none(VfdevReply::history_full());
         }
         isolates(self.recording.device());
-        let taken = self.recording.record(CALLER, request, &mut self.frame);
-        (VfdevReply::of(taken.outcome), taken.messages)
-    }
-
-    fn wire(&mut self, bytes: &[u8]) -> (VfdevReply, Messages) {
-        if self.is_full() {
-            return (VfdevReply::history_full(), Messages::none());
-        }
-        isolates(self.recording.device());
-        lay(&mut self.frame, bytes);
-        issued(self.recording.wire(CALLER, &self.frame))
-    }
-
-    fn mem_read(&mut self, function: u8, at: u64, out: &mut [u8]) -> (VfdevReply, Messages) {
-        if self.is_full() {
-            return (VfdevReply::history_full(), Messages::none());
-        }
-        isolates(self.recording.device());
-        let request = Request::MemRead(function, at, named(out.len()));
-        let _read = self.recording.device().mem_read(function, at, out);
-        let taken = self.recording.record(CALLER, request, &mut self.frame);
-        (VfdevReply::of(taken.outcome), taken.messages)
-    }
-
-    fn serve(
-        &mut self,
-        function: u8,
-        queue: Queue,
-        out: &mut [u8],
-        left: &mut usize,
-    ) -> (VfdevReply, Messages) {
-        if self.is_full() {
-            *left = 0;
-            return (VfdevReply::history_full(), Messages::none());
-        }
-        isolates(self.recording.device());
-        let request = Request::Serve(function, queue);
-        let taken = self.recording.record(CALLER, request, &mut self.frame);
-        *left = put_frame(taken.left, out);
-        (VfdevReply::of(taken.outcome), taken.messages)
+        let request = wanted.laid(&mut self.frame);
+        let response = self.recording.record(CALLER, request, &mut self.room);
+        Handed::of(&response, &self.room, out)
     }
 
     fn counts(&self, function: u8, counts: &mut VfdevCounts) -> VfdevReply {
@@ -148,17 +113,5 @@ impl DeviceKind for Recorder {
 
     fn unclaimed(&self) -> u32 {
         self.recording.device().unclaimed(Source::Wire)
-    }
-}
-
-// How many of so many bytes an entry names.
-#[inline]
-pub(crate) fn named(count: usize) -> u16
-    ensures { result ≡ (if nat_le count 65535 then count else 65535) }
-{
-    if count <= MOST_NAMED {
-        count as u16
-    } else {
-        MOST_NAMED as u16
     }
 }

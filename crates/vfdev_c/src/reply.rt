@@ -1,7 +1,6 @@
 //! A reply, as C sees it.
 ghost use Rattle.std.specs.Prelude.{◌≡◌, ℕ, List};
-ghost use Rattle.device.specs.declared.span.Span.{Span};
-ghost use Rattle.device.specs.Outcome.{reply_by};
+ghost use Rattle.device.specs.Outcome.{reply_of};
 ghost use Rattle.vfdev_c.specs.Handle.{shown, numbered, no_device, no_room, no_queue, history_full, refused_as};
 
 use device::Outcome;
@@ -89,7 +88,7 @@ impl VfdevReply {
     /// What an outcome stands for.
     #[inline]
     pub fn of(outcome: Outcome) -> VfdevReply
-        ensures { (bytes : Span → List ℕ) → result ≡ shown (reply_by bytes outcome) }
+        ensures { (cells : List ℕ) → result ≡ shown (reply_of cells outcome) }
     {
         match outcome {
             Outcome::Done => VfdevReply::done(),

@@ -2,13 +2,12 @@
 ghost use Rattle.std.specs.Prelude.{◌≡◌};
 ghost use Rattle.vfdev_c.specs.Handle.{Calls, raised_on, messages_in, left_on, frame_in, length_in, where_room, serve_asked, queue_of};
 
-use crate::device_kind::DeviceKind;
 use crate::events::{POOLS, put_messages};
 use crate::handle::Vfdev;
 use crate::handle_state::MOST_FRAME;
-use crate::on_device::on_device;
 use crate::reply::VfdevReply;
-use device::Queue;
+use crate::wanted::Wanted;
+use device::{Queue, Request};
 use irq_causes::Messages;
 use std::alloc::Global;
 
@@ -47,10 +46,11 @@ pub extern "C" fn vfdev_serve_frame(
         put_messages(Messages::none(), messages);
         return VfdevReply::no_room();
     }
-    let (reply, raised) =
-        on_device!(handle, alloc, device => device.serve(function, queue, out, left));
-    put_messages(raised, messages);
-    reply
+    let request = Request::Serve(function, queue);
+    let handed = handle.give(alloc, Wanted::Other(request), out);
+    put_messages(handed.messages, messages);
+    *left = handed.left;
+    handed.reply
 }
 
 // The transmit queue of that number.

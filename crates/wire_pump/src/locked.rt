@@ -1,15 +1,10 @@
 //! The door to a device that threads share.
-ghost use Rattle.std.specs.Prelude.{◌≡◌, [], Some, None, IfSome, IfNone};
-ghost use Rattle.device.specs.declared.event.Event.TheVariants.{Wire};
-ghost use Rattle.device.specs.Outcome.{bytes_told};
-ghost use Rattle.recorder.specs.Held.{having_asked};
-ghost use Rattle.recorder.specs.Read.{answer_with};
-ghost use Rattle.device_lock.specs.Answers.{MayAnswer};
+ghost use Rattle.std.specs.Prelude.{◌≡◌, None};
 ghost use Rattle.history.specs.declared.caller.Caller.TheVariants.{Pump};
 
 use crate::pumping::Door;
-use device::{Answer, Event, Request, Response};
-use device_lock::{Full, LockedDevice, Share, answer_of};
+use device::{Answer, Event, Request, Room};
+use device_lock::{Full, LockedDevice, Share, WhenFull};
 use guest_memory::GuestMem;
 use shadow::Shadow;
 use std::marker::Model;
@@ -22,11 +17,10 @@ use wire_frame::FrameBuf;
 #[derive(Drop)]
 pub struct LockedDoor<M: GuestMem, L: Ledger> {
     device: Arc<LockedDevice<M, L>>,
-    // whether kept calls are folded away where no more can be kept
-    folds: bool,
+    when_full: WhenFull,
     share: Share<L>,
-    // for the frames that the device sends, of which an event from the wire has none
-    room: FrameBuf,
+    // lent to each call; an event from the wire reads and sends nothing
+    room: Room,
     // the frame of the event that came back last, unless one was taken since
     refused: Option<Shadow<FrameBuf>>,
 }
@@ -56,21 +50,21 @@ impl<M: GuestMem, L: Ledger> LockedDoor<M, L> {
     {
         LockedDoor {
             device,
-            folds: false,
+            when_full: WhenFull::Refuse,
             share,
-            room: FrameBuf::blank(),
+            room: Room::new(),
             refused: None,
         }
     }
 
     /// The same, and where the device can keep no more calls, those that it keeps are folded away first, as
-    /// [`LockedDevice::act_folding`] does: an event comes back only where they can't be.
+    /// [`WhenFull::Fold`] says: an event comes back only where they can't be.
     pub fn folding(device: Arc<LockedDevice<M, L>>, share: Share<L>) -> LockedDoor<M, L>
         requires pump { share.caller ≡ Pump }
         ensures { result ≡ record { share = share; refused = None } }
     {
         LockedDoor {
-            folds: true,
+            when_full: WhenFull::Fold,
             ..LockedDoor::new(device, share)
         }
     }
@@ -100,6 +94,8 @@ impl<M: GuestMem, L: Ledger> Door for LockedDoor<M, L> {
 
     ghost refused = { λ d. d.refused };
 
+    ghost line = { λ d. Some d.share.line };
+
     /// Gives the event to the device, as one call of the pump. It comes back where the kept history is full.
     #[tactic(auto, using(crate::proofs::Moves::pump_may, crate::proofs::Taken::one_taken, crate::proofs::Taken::one_behind_it, crate::proofs::Taken::stand_first_same))]
     fn act<R: Wait>(&mut self, rt: &R, event: Event) -> Result<Answer, Full>
@@ -115,21 +111,22 @@ impl<M: GuestMem, L: Ledger> Door for LockedDoor<M, L> {
         ensures answered { OnOk result (self.new.refused ≡ None) }
         ensures refused { OnErr result (self.new.refused ≡ Some event) }
         ensures same { OnErr result (self.new ≡ record self.old { refused = Some event }) }
+        ensures line { Some self.new.share.line ≡ Some self.old.share.line }
     {
         let Event::Wire(frame) = &event else {
             unreachable!();
         };
-        match give(
+        let response = self.device.act_request(
             rt,
-            &self.device,
-            self.folds,
             &mut self.share,
-            frame,
+            Request::Wire(frame),
             &mut self.room,
-        ) {
-            Some(taken) => {
+            self.when_full,
+        );
+        match response {
+            Some(response) => {
                 self.refused = None;
-                Ok(answer_of(&taken, &[]))
+                Ok(response.answer(&self.room))
             }
             None => {
                 self.refused = Some(Shadow::of(frame));
@@ -151,42 +148,14 @@ impl<M: GuestMem, L: Ledger> Door for LockedDoor<M, L> {
             → HasAskedOne (Wire frame.now) self.old.share self.new.share }
         ensures same { result ≡ false
             → self.new ≡ record self.old { refused = Some (Wire frame.now) } }
+        ensures line { Some self.new.share.line ≡ Some self.old.share.line }
     {
-        let taken = give(
-            rt,
-            &self.device,
-            self.folds,
-            &mut self.share,
-            frame,
-            &mut self.room,
-        )
-        .is_some();
+        let request = Request::Wire(frame);
+        let taken = self
+            .device
+            .act_request(rt, &mut self.share, request, &mut self.room, self.when_full)
+            .is_some();
         self.refused = if taken { None } else { Some(Shadow::of(frame)) };
         taken
-    }
-}
-
-// Gives the device the event of a frame, as a call of a share; where it `folds`, kept calls are folded away first where no more can
-// be kept.
-fn give<'f, M: GuestMem, L: Ledger, R: Wait>(
-    rt: &R,
-    device: &LockedDevice<M, L>,
-    folds: bool,
-    share: &mut Share<L>,
-    frame: &FrameBuf,
-    room: &'f mut FrameBuf,
-) -> Option<Response<'f>>
-    requires pump { share.old.caller ≡ Pump }
-    ensures answer { IfSome result (λ taken. MayAnswer (Wire frame.now) (answer_with [] taken)) }
-    ensures unread { IfSome result (λ taken. bytes_told taken.outcome ≡ 0) }
-    ensures counted { IfSome result
-        (λ taken. share.new ≡ having_asked (Wire frame.now) (answer_with [] taken) share.old) }
-    ensures unchanged { IfNone result (share.new ≡ share.old) }
-{
-    let request = Request::Wire(frame);
-    if folds {
-        device.act_folding(rt, share, request, room, &mut [])
-    } else {
-        device.act_request(rt, share, request, room, &mut [])
     }
 }

@@ -1,5 +1,6 @@
 //! Frames out of the channel, to what takes them.
 ghost use Rattle.std.specs.Prelude.{◌≡◌, ◌++◌, ◌∷◌, [], List, ℕ, Option, None, Some, true, map, if◌then◌else◌, OnOk, OnErr, IfErr};
+ghost use Rattle.atomic_table.specs.Seated.{TableId};
 ghost use Rattle.history.specs.Entries.{Entry};
 ghost use Rattle.device.specs.Events.{Event};
 ghost use Rattle.device.specs.declared.event.Event.TheVariants.{Wire};
@@ -27,6 +28,9 @@ pub trait Door {
     /// as an `Option` of a `Shadow`, which has no bytes of the event.
     ghost refused: { Self → Option Event };
 
+    /// The line of the device that it gives the events to; none where it knows of no line.
+    ghost line: { Self → Option TableId };
+
     /// Takes an event, which is an [`Event::Wire`], and answers it. Where there is no room the event comes back, and nothing
     /// changed. It may wait.
     fn act<R: Wait>(&mut self, rt: &R, event: Event) -> Result<Answer, Full>
@@ -36,7 +40,8 @@ pub trait Door {
         ensures full { IfErr result (λ full. full.0 ≡ event) }
         ensures unchanged { OnErr result (taken self.new ≡ taken self.old) }
         ensures answered { OnOk result (refused self.new ≡ None) }
-        ensures refused { OnErr result (refused self.new ≡ Some event) };
+        ensures refused { OnErr result (refused self.new ≡ Some event) }
+        ensures line { line self.new ≡ line self.old };
 
     /// Takes the event of a frame that is lent, and tells whether it did. A pump calls this, so a door that takes a frame
     /// without a copy of it may do so here, with the same meaning.
@@ -46,6 +51,7 @@ pub trait Door {
         ensures calls { StandFirst (calls self.old) (calls self.new) }
         ensures refused { refused self.new
             ≡ (if result then None else Some (Wire frame.now)) }
+        ensures line { line self.new ≡ line self.old }
     {
         self.act(rt, Event::Wire(frame.copy())).is_ok()
     }
@@ -92,6 +98,7 @@ pub fn pump<D: Door, R: Wait>(receiver: &mut FrameReceiver, rt: &R, door: &mut D
         × HasGivenBack (emptied frames result) receiver.old receiver.new }
     ensures refused { IsRefused result (D.refused door.new) }
     ensures calls { StandFirst (D.calls door.old) (D.calls door.new) }
+    ensures line { D.line door.new ≡ D.line door.old }
     ensures whole { IsAll receiver.new.received result }
     ensures wire { IsFromWire result }
 {

@@ -50,7 +50,7 @@ fn seen_of_two<L: Ledger + Send + Sync + 'static, R: Threads + Wait + Copy + Sen
     requires name { blank.name ≡ L.name }
     requires parts { (blank.parts ≡ L.parts) × (blank.parts ≡ 67) }
 {
-    let setting = setting_of(alloc, 0, 1, cap, has_twin)?;
+    let setting = setting_of(alloc, &[0, 1], 2, cap, has_twin)?;
     let script = read(alloc, TWO_GUESTS)?;
     let gate = Arc::new(alloc, OpenGate)?;
     match done::<L, OpenGate, R, Discard>(rt, &Discard, alloc, blank, setting, script, gate) {
@@ -102,7 +102,7 @@ fn seen_of_many<L: Ledger + Send + Sync + 'static, R: Threads + Wait + Copy + Se
     requires name { blank.name ≡ L.name }
     requires parts { (blank.parts ≡ L.parts) × (blank.parts ≡ 67) }
 {
-    let setting = setting_of(alloc, 0, 0, cap, false)?;
+    let setting = setting_of(alloc, &[], 1, cap, false)?;
     let script = read(alloc, many_frames(alloc)?.as_str())?;
     let gate = Arc::new(alloc, OpenGate)?;
     match done::<L, OpenGate, R, Discard>(rt, &Discard, alloc, blank, setting, script, gate) {

@@ -246,10 +246,7 @@ fn open_after<L: Ledger + Send + Sync + 'static, R: Threads + Wait + Copy + Send
 #[test]
 fn functions_of_ended_ports_are_closed(rt: HostRuntime) -> Result<(), Fail> {
     let alloc = rt.alloc();
-    let mut setting = setting_of(alloc, 0, 2, 40, false)?;
-    if setting.ports.len() == 3 {
-        let _ = setting.ports.remove(1);
-    }
+    let setting = setting_of(alloc, &[0, 2], 3, 40, false)?;
     let script = read(alloc, THREE_OPEN)?;
     let gate = Arc::new(alloc, OpenGate)?;
     let open = open_after::<Brand, HostRuntime>(rt, alloc, Blank::new(67), setting, script, gate)?;
@@ -273,9 +270,8 @@ fn seen_with_note<L: Ledger + Send + Sync + 'static, R: Threads + Wait + Copy + 
     requires name { blank.name ≡ L.name }
     requires parts { (blank.parts ≡ L.parts) × (blank.parts ≡ 67) }
 {
-    let mut setting = setting_of(alloc, 0, 0, 40, false)?;
-    let (port, _) = setting.ports.pop().ok_or("no port")?;
-    setting.ports.push((port, note))?;
+    let mut setting = setting_of(alloc, &[0], 1, 40, false)?;
+    setting.note = Some(note);
     let script = read(alloc, ONE_READ)?;
     let gate = Arc::new(alloc, OpenGate)?;
     Ok(done::<L, OpenGate, R, Discard>(rt, &Discard, alloc, blank, setting, script, gate)?)

@@ -103,7 +103,7 @@ fn guests_run_beside_each_other(rt: HostRuntime) -> Result<(), Fail> {
     )?;
     let sink = Sink::new(alloc);
     let log = Logged::new(rt, Level::Debug, &sink);
-    let setting = setting_of(alloc, 1, 2, 71, false)?;
+    let setting = setting_of(alloc, &[1, 2], 3, 71, false)?;
     let seen = hold_two::<Brand, HostRuntime, Logged<HostRuntime, &Sink>>(
         rt,
         &log,

@@ -34,11 +34,10 @@ fn shares_after<L: Ledger + Send + Sync + 'static, R: Threads + Wait + Copy + Se
 {
     let Setting {
         line,
-        ports: _,
         memories,
-        twins: _,
         cap,
-    } = setting_of(alloc, 0, 0, 40, false)?;
+        ..
+    } = setting_of(alloc, &[], 1, 40, false)?;
     let script = read(alloc, ONE_OPEN)?;
     let (device, mut shares) = locked::<FlatMem, L>(alloc, blank, line, memories, None, cap)?;
     prepare(&rt, alloc, &script, &device, &mut shares)?;

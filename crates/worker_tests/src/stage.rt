@@ -1,12 +1,13 @@
 //! A script that is done by workers, and what is seen of it; and a device whose function 3 is set up, with its port.
 ghost use Rattle.std.specs.Prelude.{◌≡◌, []};
 ghost use Rattle.history.specs.declared.caller.Caller.TheVariants.{Pump, Service};
+ghost use Rattle.lock_support.specs.Lines.{AreSeatsOf, AreSharesOf};
 
 use device_lock::{LockedDevice, Shares};
 use guest_memory::FlatMem;
 use guest_port::{EndNote, GuestPort, IrqPort, LockedPort};
-use irq_line::{DeviceSeat, make};
-use lock_support::{line_of, locked};
+use irq_line::{DeviceSeat, GuestSeat};
+use lock_support::{last_seat, line, line_of, locked, port_share};
 use log::Log;
 use script::Script;
 use script_support::short::long_script;
@@ -31,45 +32,38 @@ pub struct Seen {
     pub entries: [u64; 67],
 }
 
-/// What a test hands in: the line, ports of some pools, the memories of the device, those of its twin, if it has one, and how many
-/// calls are kept.
+/// What a test hands in: the line and its seats, the pools that have ports, a note that the first of these has in the place of its own, if
+/// any, the memories of the device, those of its twin, if it has one, and how many calls are kept.
 #[derive(Drop)]
 pub struct Setting {
     pub line: DeviceSeat,
-    pub ports: Vec<(IrqPort, EndNote)>,
+    pub seats: Vec<GuestSeat>,
+    pub pools: &'static [u8],
+    pub note: Option<EndNote>,
     pub memories: Vec<FlatMem>,
     pub twins: Option<Vec<FlatMem>>,
     pub cap: usize,
     pub ghost unused: { line.raises ≡ [] },
+    pub ghost one: { AreSeatsOf line.line seats.items },
 }
 
-/// Ports of the pools from `first` to `last`, and so many functions with memories of 4096 bytes, which has a twin or none.
+/// Ports of these pools, and so many functions with memories of 4096 bytes, which has a twin or none.
 pub fn setting_of(
     alloc: Global,
-    first: u8,
-    last: u8,
+    pools: &'static [u8],
+    count: usize,
     cap: usize,
     has_twin: bool,
 ) -> Result<Setting, Fail> {
-    let (line, seats) = make(alloc)?;
-    let mut ports = Vec::new(alloc);
-    for seat in seats {
-        let pool = seat.pool();
-        if first <= pool && pool <= last {
-            ports.push(IrqPort::new(alloc, pool, seat)?)?;
-        }
-    }
-    let count = usize::from(last) + 1;
-    let twins = if has_twin {
-        Some(memories(alloc, count, 4096)?)
-    } else {
-        None
-    };
+    let (live, twins) = (memories(alloc, count, 4096)?, memories(alloc, count, 4096)?);
+    let (line, seats) = line(alloc)?;
     Ok(Setting {
         line,
-        ports,
-        memories: memories(alloc, count, 4096)?,
-        twins,
+        seats,
+        pools,
+        note: None,
+        memories: live,
+        twins: if has_twin { Some(twins) } else { None },
         cap,
     })
 }
@@ -80,6 +74,9 @@ fn seat<L: Ledger>(
     shares: &mut Shares<L>,
     port: IrqPort,
 ) -> Option<Port<L>>
+    requires line { port.port.seat.line ≡ shares.old.pump.line }
+    requires shares { AreSharesOf shares.old.pump.line shares.old.ports.items }
+    ensures shares { AreSharesOf shares.new.pump.line shares.new.ports.items }
     ensures pf { shares.new.pf ≡ shares.old.pf }
     ensures pump { shares.new.pump ≡ shares.old.pump }
     ensures service { shares.new.service ≡ shares.old.service }
@@ -87,42 +84,62 @@ fn seat<L: Ledger>(
     if !port.is_open() {
         return None;
     }
-    let share = shares.port(port.pool())?;
-    let device = Arc::try_clone(device).ok()?;
+    let Some(share) = port_share(shares, port.pool()) else {
+        return None;
+    };
+    let Ok(device) = Arc::try_clone(device) else {
+        return None;
+    };
     Some(LockedPort::new(device, share, port))
 }
 
-// One of them, put behind others.
-fn push_seated<L: Ledger>(
+// The port of a seat, with another note of its end.
+fn port_of<L: Ledger>(
+    alloc: Global,
     device: &Arc<LockedDevice<FlatMem, L>>,
     shares: &mut Shares<L>,
-    port: IrqPort,
-    note: EndNote,
-    ports: &mut Vec<(Port<L>, EndNote)>,
-) -> Option<()>
+    place: GuestSeat,
+) -> Option<(Port<L>, EndNote)>
+    requires line { place.line ≡ shares.old.pump.line }
+    requires shares { AreSharesOf shares.old.pump.line shares.old.ports.items }
+    ensures shares { AreSharesOf shares.new.pump.line shares.new.ports.items }
     ensures pf { shares.new.pf ≡ shares.old.pf }
     ensures pump { shares.new.pump ≡ shares.old.pump }
     ensures service { shares.new.service ≡ shares.old.service }
 {
-    ports.push((seat(device, shares, port)?, note)).ok()
+    let pool = place.pool();
+    let Ok((port, note)) = IrqPort::new(alloc, pool, place) else {
+        return None;
+    };
+    match seat(device, shares, port) {
+        Some(port) => Some((port, note)),
+        None => None,
+    }
 }
 
-// The ports of pools that are open, with the device and their shares.
+// The ports of pools, with the device and their shares. The last of them has the note that is handed in, if one is.
 fn seated<L: Ledger>(
     alloc: Global,
     device: &Arc<LockedDevice<FlatMem, L>>,
     shares: &mut Shares<L>,
-    all: Vec<(IrqPort, EndNote)>,
+    mut seats: Vec<GuestSeat>,
     pools: &[u8],
+    mut other: Option<EndNote>,
 ) -> Option<Vec<(Port<L>, EndNote)>>
+    requires seats { AreSeatsOf shares.old.pump.line seats.items }
+    requires shares { AreSharesOf shares.old.pump.line shares.old.ports.items }
     ensures pf { shares.new.pf ≡ shares.old.pf }
     ensures pump { shares.new.pump ≡ shares.old.pump }
     ensures service { shares.new.service ≡ shares.old.service }
 {
-    let mut ports = Vec::with_capacity(alloc, all.len()).ok()?;
-    for (port, note) in all {
-        if pools.contains(&port.pool()) {
-            push_seated(device, shares, port, note, &mut ports)?;
+    let mut ports = Vec::with_capacity(alloc, pools.len()).ok()?;
+    for _ in 0..64u8 {
+        let Some(place) = last_seat(&mut seats, &shares.pump) else {
+            break;
+        };
+        if pools.contains(&place.pool()) {
+            let (port, note) = port_of(alloc, device, shares, place)?;
+            ports.push((port, other.take().unwrap_or(note))).ok()?;
         }
     }
     Some(ports)
@@ -154,14 +171,18 @@ pub fn ran<
 {
     let Setting {
         line,
-        ports,
+        seats,
+        pools,
+        note,
         memories,
         twins,
         cap,
     } = setting;
     let (device, mut shares) = locked::<FlatMem, L>(alloc, blank, line, memories, twins, cap)?;
-    let pools = prepare(&rt, alloc, &script, &device, &mut shares)?;
-    let Some(ports) = seated(alloc, &device, &mut shares, ports, &pools) else {
+    if let Err(fault) = prepare(&rt, alloc, &script, &device, &mut shares) {
+        return Err(fault);
+    }
+    let Some(ports) = seated(alloc, &device, &mut shares, seats, pools, note) else {
         return Err(Fault::NoMemory);
     };
     let (Ok(script), Ok(other)) = (Arc::new(alloc, script), Arc::try_clone(&device)) else {
@@ -236,7 +257,9 @@ pub fn begin<L: Ledger, R: Wait>(rt: &R, alloc: Global, blank: Blank) -> Result<
     if pools.as_slice() != [3].as_slice() || device.kept(rt) != SET_UP_EVENTS {
         return Err(Fail::from("not set up"));
     }
-    let port = seat(&device, &mut shares, port).ok_or("no port")?;
+    let Some(port) = seat(&device, &mut shares, port) else {
+        return Err(Fail::from("no port"));
+    };
     Ok(Begun {
         device,
         shares,

@@ -3,7 +3,7 @@ use Rattle.std.proofs.Common.{◌≡◌, ℕ, ◌+◌, ◌<◌, ◌≤◌, List,
 use Rattle.std.specs.Prelude.{slice_index_or}
 use Rattle.std.proofs.lemmas.List.{get_or-set_same, length-set, map-append, take_all, take_more}
 use Rattle.device.specs.Events.{Event}
-use Rattle.device.specs.Replies.{Reply}
+use Rattle.device.specs.declared.event.Answer.{Answer}
 use Rattle.device.specs.declared.event.Event.TheVariants.{End}
 use Rattle.history.specs.declared.caller.Caller.TheVariants.{Service}
 use Rattle.recorder.specs.Held.{HasAsked, CallerLog}
@@ -31,10 +31,10 @@ pools_all ports k pools through are = are ∙ ap (map pool_of) (take_all k ports
 pub ending_begins : (old : CallerLog) → HasAsked [] old old
 ending_begins old = asked_none old
 
-pub ending_more : (pools : List ℕ) (k pool : ℕ) (reply : Reply) (old mid new : CallerLog) → k < length pools → pool ≡ slice_index_or pools k pool → HasAsked (map End (take k pools)) old mid → HasTold (End pool) reply mid new
+pub ending_more : (pools : List ℕ) (k pool : ℕ) (answer : Answer) (old mid new : CallerLog) → k < length pools → pool ≡ slice_index_or pools k pool → HasAsked (map End (take k pools)) old mid → HasTold (End pool) answer mid new
     → HasAsked (map End (take (k + 1) pools)) old new
-ending_more pools k pool reply old mid new less is before more =
-    subst (λ (es : List Event). HasAsked es old new) (map_more End pools k pool less is) (asked_behind (map End (take k pools)) (End pool ∷ []) old mid new before (asked_one (End pool) reply mid new more))
+ending_more pools k pool answer old mid new less is before more =
+    subst (λ (es : List Event). HasAsked es old new) (map_more End pools k pool less is) (asked_behind (map End (take k pools)) (End pool ∷ []) old mid new before (asked_one (End pool) answer mid new more))
 
 pub ending_all : (pools : List ℕ) (k : ℕ) (old new : CallerLog) → length pools ≤ k → HasAsked (map End (take k pools)) old new → HasAsked (map End pools) old new
 ending_all pools k old new through asked = subst (λ (ps : List ℕ). HasAsked (map End ps) old new) (take_all k pools through) asked

@@ -4,8 +4,11 @@ use Rattle.std.specs.Prelude.{MatchOption, None, Option, Some, slice_index_or, u
 use Rattle.std.proofs.lemmas.List.{append-nil, map-append, take_more}
 use Rattle.std.proofs.lemmas.List.Elements.{All-append, All-nil, All-push, filter-append}
 use Rattle.device.specs.Events.{Event}
-use Rattle.device.specs.declared.event.Event.TheVariants.{Open, End, VfRead, VfWrite, MemRead, MemWrite, Serve, Flr, PfRead, PfWrite, PfReset, Wire}
-use Rattle.device.specs.Replies.{Reply}
+use Rattle.device.specs.declared.event.Answer.{Answer}
+use Rattle.device.specs.declared.event.Event.TheVariants.{PfReset}
+use Rattle.device.specs.declared.event.Whose.{Whose}
+use Rattle.device.specs.declared.event.Whose.TheVariants.{Function, Physical, Wire}
+use Rattle.device.specs.Whose.{whose_of}
 use Rattle.history.specs.declared.caller.Caller.{Caller}
 use Rattle.history.specs.declared.caller.Caller.TheVariants.{Driver, Service}
 use Rattle.history.specs.Entries.{Entry, entry}
@@ -13,20 +16,20 @@ use Rattle.recorder.specs.declared.shares.Shares.{Shares}
 use Rattle.recorder.specs.Held.{CallerLog, having_calls}
 use Rattle.script.specs.Reading.{Meaning}
 use Rattle.workers.specs.Asked.{HasTold}
-use Rattle.workers.specs.Callers.{caller_before, is_same}
+use Rattle.workers.specs.Callers.{caller_before, first_caller, is_same}
 use Rattle.workers.specs.Counts.{HasRecorded, HaveKept, HaveRecorded, IsFirst, made_by}
 use Rattle.workers.specs.Opens.{HaveLeft, IsPrepared, all_closed, opened, opened_after, pools_from}
 
 -- ---- calls behind others
 
 made_none : (m : CallerLog) → having_calls [] m ≡ m
-made_none m = ap (λ (xs : List Entry). record { caller = m.caller; asked = xs }) (append-nil m.asked)
+made_none m = ap (λ (xs : List Entry). record m { asked = xs }) (append-nil m.asked)
 
 made_more : (c : Caller) (calls more : List Entry) (old mid new : CallerLog) → mid ≡ having_calls (made_by c calls) old → new ≡ having_calls (made_by c more) mid
     → new ≡ having_calls (made_by c (calls ++ more)) old
 made_more c calls more old mid new before after =
     after ∙ ap (having_calls (made_by c more)) before
-    ∙ ap (λ (xs : List Entry). record { caller = old.caller; asked = xs })
+    ∙ ap (λ (xs : List Entry). record old { asked = xs })
     (append_assoc old.asked (made_by c calls) (made_by c more) ∙ ap (λ (xs : List Entry). old.asked ++ xs) (sym (filter-append (λ (call : Entry). is_same call.caller c) calls more)))
 
 kept_more : {L : Type 0} (calls more : List Entry) (old mid new : Shares L) → HaveKept calls old mid → HaveKept more mid new → HaveKept (calls ++ more) old new
@@ -53,23 +56,21 @@ pub opened_last : (calls : List Entry) (call : Entry) (pools : List Bool) → op
 opened_last [] call pools = refl
 opened_last (x ∷ calls) call pools = opened_last calls call (opened x.event x.answer.reply pools)
 
-left_more : {L : Type 0} (es : List Event) (e : Event) (reply : Reply) (pools left : List Bool) (old mid new : Shares L) → HaveLeft es pools old mid → HasRecorded e reply mid new → left ≡ opened e reply pools
+left_more : {L : Type 0} (es : List Event) (e : Event) (answer : Answer) (pools left : List Bool) (old mid new : Shares L) → HaveLeft es pools old mid → HasRecorded e answer mid new → left ≡ opened e answer.reply pools
     → HaveLeft (es ++ e ∷ []) left old new
-left_more es e reply pools left old mid new before more is =
-    let call : Entry = entry (caller_before e) e more.answer in
+left_more es e answer pools left old mid new before more is =
+    let call : Entry = entry (caller_before e) e answer in
     record {
       calls = before.calls ++ call ∷ [];
       asked = map-append (λ (c : Entry). c.event) before.calls (call ∷ []) ∙ ap (λ (xs : List Event). xs ++ e ∷ []) before.asked;
-      kept = kept_more before.calls (call ∷ []) old mid new before.kept more.kept;
-      left =
-          is ∙ ap (opened e reply) before.left ∙ ap (λ (r : Reply). opened e r (opened_after before.calls all_closed)) (sym more.told)
-          ∙ sym (opened_last before.calls call all_closed);
+      kept = kept_more before.calls (call ∷ []) old mid new before.kept more;
+      left = is ∙ ap (opened e answer.reply) before.left ∙ sym (opened_last before.calls call all_closed);
     }
 
-pub left_next : {L : Type 0} (es : List Event) (k : ℕ) (e : Event) (reply : Reply) (pools left : List Bool) (old mid new : Shares L) → k < length es → e ≡ slice_index_or es k PfReset
-    → HaveLeft (take k es) pools old mid → HasRecorded e reply mid new → left ≡ opened e reply pools → HaveLeft (take (k + 1) es) left old new
-left_next es k e reply pools left old mid new less is before more by =
-    subst (λ (xs : List Event). HaveLeft xs left old new) (ap (λ (x : Event). take k es ++ x ∷ []) is ∙ sym (take_more es k PfReset less)) (left_more (take k es) e reply pools left old mid new before more by)
+pub left_next : {L : Type 0} (es : List Event) (k : ℕ) (e : Event) (answer : Answer) (pools left : List Bool) (old mid new : Shares L) → k < length es → e ≡ slice_index_or es k PfReset
+    → HaveLeft (take k es) pools old mid → HasRecorded e answer mid new → left ≡ opened e answer.reply pools → HaveLeft (take (k + 1) es) left old new
+left_next es k e answer pools left old mid new less is before more by =
+    subst (λ (xs : List Event). HaveLeft xs left old new) (ap (λ (x : Event). take k es ++ x ∷ []) is ∙ sym (take_more es k PfReset less)) (left_more (take k es) e answer pools left old mid new before more by)
 
 -- where a list begins
 pub left_none : {L : Type 0} (pools : List Bool) (shares : Shares L) → pools ≡ all_closed → HaveLeft [] pools shares shares
@@ -108,48 +109,32 @@ prepared_go script go pools left old new is listed all = record {
 -- ---- one event
 
 -- the driver's call, or the service's
-pub recorded_pf : {L : Type 0} (e : Event) (reply : Reply) (old new : Shares L) → caller_before e ≡ Driver → old.pf.caller ≡ Driver → HasTold e reply old.pf new.pf → new.service ≡ old.service → new.pump ≡ old.pump → new.ports ≡ old.ports
-    → HasRecorded e reply old new
-recorded_pf e reply old new is own told service_same pump_same ports_same = record {
-  answer = told.answer;
-  kept = subst (λ (c : Caller). HaveKept (entry c e told.answer ∷ []) old new) (sym is) (record {
-    first = All-push IsFirst [] (entry Driver e told.answer) (All-nil IsFirst) (sym is, told.given);
-    pf = told.kept ∙ ap (λ (c : Caller). record { caller = old.pf.caller; asked = old.pf.asked ++ entry c e told.answer ∷ [] }) own;
-    service = service_same ∙ sym (made_none old.service);
-    pump = pump_same;
-    ports = ports_same;
-  });
-  told = told.told;
-}
+pub recorded_pf : {L : Type 0} (e : Event) (answer : Answer) (old new : Shares L) → caller_before e ≡ Driver → old.pf.caller ≡ Driver → HasTold e answer old.pf new.pf → new.service ≡ old.service → new.pump ≡ old.pump → new.ports ≡ old.ports
+    → HasRecorded e answer old new
+recorded_pf e answer old new is own told service_same pump_same ports_same = subst (λ (c : Caller). HaveKept (entry c e answer ∷ []) old new) (sym is) (record {
+  first = All-push IsFirst [] (entry Driver e answer) (All-nil IsFirst) (sym is, told.given);
+  pf = told.kept ∙ ap (λ (c : Caller). record old.pf { asked = old.pf.asked ++ entry c e answer ∷ [] }) own;
+  service = service_same ∙ sym (made_none old.service);
+  pump = pump_same;
+  ports = ports_same;
+})
 
-is_pf_or_service : (e : Event) → caller_before e ≢ Driver → caller_before e ≡ Service
-is_pf_or_service (Open p) other = refl
-is_pf_or_service (End p) other = refl
-is_pf_or_service (VfRead p offset) other = refl
-is_pf_or_service (VfWrite p offset x) other = refl
-is_pf_or_service (MemRead p at count) other = refl
-is_pf_or_service (MemWrite p at bytes) other = refl
-is_pf_or_service (Serve p q) other = refl
-is_pf_or_service (Flr p) other = refl
-is_pf_or_service (PfRead offset) other = absurd (other refl)
-is_pf_or_service (PfWrite offset x) other = absurd (other refl)
-is_pf_or_service PfReset other = absurd (other refl)
-is_pf_or_service (Wire frame) other = refl
+by_service : {L : Type 0} (e : Event) (answer : Answer) (old new : Shares L) → caller_before e ≡ Service → old.service.caller ≡ Service → HasTold e answer old.service new.service → new.pf ≡ old.pf → new.pump ≡ old.pump
+    → new.ports ≡ old.ports → HasRecorded e answer old new
+by_service e answer old new is own told pf_same pump_same ports_same = subst (λ (c : Caller). HaveKept (entry c e answer ∷ []) old new) (sym is) (record {
+  first = All-push IsFirst [] (entry Service e answer) (All-nil IsFirst) (sym is, told.given);
+  pf = pf_same ∙ sym (made_none old.pf);
+  service = told.kept ∙ ap (λ (c : Caller). record old.service { asked = old.service.asked ++ entry c e answer ∷ [] }) own;
+  pump = pump_same;
+  ports = ports_same;
+})
 
-by_service : {L : Type 0} (e : Event) (reply : Reply) (old new : Shares L) → caller_before e ≡ Service → old.service.caller ≡ Service → HasTold e reply old.service new.service → new.pf ≡ old.pf → new.pump ≡ old.pump
-    → new.ports ≡ old.ports → HasRecorded e reply old new
-by_service e reply old new is own told pf_same pump_same ports_same = record {
-  answer = told.answer;
-  kept = subst (λ (c : Caller). HaveKept (entry c e told.answer ∷ []) old new) (sym is) (record {
-    first = All-push IsFirst [] (entry Service e told.answer) (All-nil IsFirst) (sym is, told.given);
-    pf = pf_same ∙ sym (made_none old.pf);
-    service = told.kept ∙ ap (λ (c : Caller). record { caller = old.service.caller; asked = old.service.asked ++ entry c e told.answer ∷ [] }) own;
-    pump = pump_same;
-    ports = ports_same;
-  });
-  told = told.told;
-}
+-- who is not the driver is the service
+driver_or_service : (whose : Whose) → first_caller whose ≢ Driver → first_caller whose ≡ Service
+driver_or_service (Function p) other = refl
+driver_or_service Physical other = absurd (other refl)
+driver_or_service Wire other = refl
 
-pub recorded_service : {L : Type 0} (e : Event) (reply : Reply) (old new : Shares L) → caller_before e ≢ Driver → old.service.caller ≡ Service → HasTold e reply old.service new.service → new.pf ≡ old.pf → new.pump ≡ old.pump
-    → new.ports ≡ old.ports → HasRecorded e reply old new
-recorded_service e reply old new other own told pf_same pump_same ports_same = by_service e reply old new (is_pf_or_service e other) own told pf_same pump_same ports_same
+pub recorded_service : {L : Type 0} (e : Event) (answer : Answer) (old new : Shares L) → caller_before e ≢ Driver → old.service.caller ≡ Service → HasTold e answer old.service new.service → new.pf ≡ old.pf → new.pump ≡ old.pump
+    → new.ports ≡ old.ports → HasRecorded e answer old new
+recorded_service e answer old new other own told pf_same pump_same ports_same = by_service e answer old new (driver_or_service (whose_of e) other) own told pf_same pump_same ports_same

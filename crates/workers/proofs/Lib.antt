@@ -1,3 +1,4 @@
+pub mod Whose
 pub mod Turns
 pub mod Places
 pub mod Asks

@@ -1,5 +1,5 @@
 -- The own events of the pump are frames.
-use Rattle.std.proofs.Common.{◌≡◌, ℕ, ◌<◌, ◌≤◌, ◌+◌, Bool, true, false, List, [], ◌∷◌, ◌++◌, length, map, take, refl, sym, ap, ◌∙◌, subst, arith}
+use Rattle.std.proofs.Common.{◌≡◌, ℕ, ◌<◌, ◌≤◌, ◌+◌, Bool, true, false, List, [], ◌∷◌, ◌++◌, length, map, take, refl, sym, ap, ◌∙◌, subst}
 use Rattle.std.specs.Prelude.{slice_index_or}
 use Rattle.std.specs.List.{AllByRecursion}
 use Rattle.std.proofs.lemmas.Bool.{false≢true}
@@ -8,9 +8,13 @@ use Rattle.std.proofs.lemmas.List.Elements.{All-from_get_or, recursion_from_All}
 use Rattle.device.specs.Request.{event_of}
 use Rattle.device.specs.Request.{Request}
 use Rattle.device.specs.Events.{Event}
-use Rattle.device.specs.declared.event.Event.TheVariants.{Open, End, VfRead, VfWrite, MemRead, MemWrite, Serve, Flr, PfRead, PfWrite, PfReset, Wire}
+use Rattle.device.specs.declared.event.Event.TheVariants.{PfReset, Wire}
+use Rattle.device.specs.declared.event.Whose.{Whose}
+use Rattle.device.specs.declared.event.Whose.TheVariants.{Function, Physical, Wire as TheWire}
+use Rattle.device.specs.Whose.{whose_of}
 use Rattle.history.specs.declared.caller.Caller.{Caller}
 use Rattle.history.specs.declared.caller.Caller.TheVariants.{Driver, Pump, Service}
+use Rattle.recorder.specs.Callers.{is_of_wire}
 use Rattle.recorder.specs.Held.{HasAsked, CallerLog}
 use Rattle.wire_pump.specs.declared.feeding.FeedEnd.{FeedEnd}
 use Rattle.wire_pump.specs.declared.message.WireMsg.TheVariants.{Frame, Last}
@@ -18,35 +22,30 @@ use Rattle.wire_pump.specs.declared.message.WireMsg.{WireMsg}
 use Rattle.wire_pump.specs.declared.pumping.PumpEnd.{PumpEnd}
 use Rattle.wire_pump.specs.Ends.{ReceiveEnd, SendEnd, HasReceived, fed, frame_in, is_wire, pumped}
 use Rattle.wire_pump.specs.Pump.{is_ended}
-use Rattle.workers.specs.Callers.{caller_of, port_or_service}
+use Rattle.workers.specs.Callers.{caller_among, caller_of, is_of_host}
 use Rattle.workers.specs.declared.worker.Came.{Came}
 use Rattle.workers.specs.Duties.{Duty, HaveDone, OfShare}
 use Rattle.workers.specs.Frames.{came_by, frames_of}
 use Rattle.workers.specs.Pair.{AreNew, HasPumped, HasRead}
 use Rattle.workers.specs.Plans.{Planned, own_events}
 use Rattle.workers.proofs.Turns.{apart, not_port, own_at}
+use Rattle.workers.proofs.Whose.{a_frame, whose_asked}
 use Rattle.workers.proofs.Worked.{one_done}
 
 abbrev pub IsWire : Event → Type 0
 IsWire e = e ≡ Wire (frame_in e)
 
--- what a guest may do is not the pump's
-no_guest : (ports : List Bool) (q : ℕ) (e : Event) → port_or_service ports q ≡ Pump → IsWire e
-no_guest ports q e is = absurd (apart Pump Service refl (not_port ports q Pump refl is))
+a_wire : (e : Event) → is_wire e ≡ true → IsWire e
+a_wire e is = let (frame, same) = a_frame e is in same ∙ ap Wire (sym (ap frame_in same))
 
 from_wire : (ports : List Bool) (e : Event) → caller_of ports e ≡ Pump → IsWire e
-from_wire ports (Open q) is = absurd (apart Service Pump refl is)
-from_wire ports (End q) is = no_guest ports q (End q) is
-from_wire ports (VfRead q offset) is = no_guest ports q (VfRead q offset) is
-from_wire ports (VfWrite q offset x) is = no_guest ports q (VfWrite q offset x) is
-from_wire ports (MemRead q at count) is = no_guest ports q (MemRead q at count) is
-from_wire ports (MemWrite q at bytes) is = no_guest ports q (MemWrite q at bytes) is
-from_wire ports (Serve q n) is = absurd (apart Service Pump refl is)
-from_wire ports (Flr q) is = no_guest ports q (Flr q) is
-from_wire ports (PfRead offset) is = absurd (apart Driver Pump refl is)
-from_wire ports (PfWrite offset x) is = absurd (apart Driver Pump refl is)
-from_wire ports PfReset is = absurd (apart Driver Pump refl is)
-from_wire ports (Wire frame) is = refl
+from_wire ports e is = a_wire e (go (is_of_host e) (whose_of e) is)
+  where
+    go : (of_host : Bool) (whose : Whose) → caller_among ports of_host whose ≡ Pump → is_of_wire whose ≡ true
+    go true (Function q) by = absurd (apart Service Pump refl by)
+    go false (Function q) by = absurd (apart Pump Service refl (not_port ports q Pump refl by))
+    go of_host Physical by = absurd (apart Driver Pump refl by)
+    go of_host TheWire by = refl
 
 frames_all : (es : List Event) → AllByRecursion IsWire es → frames_of es ≡ map frame_in es
 frames_all [] all = refl
@@ -79,18 +78,7 @@ no_other plan turn e less is = subst IsWire (sym is) (from_wire plan.ports _ (ow
 
 -- a request of a frame from the wire is none of the others
 other_request : (r : Request) → is_wire (event_of r) ≡ true → ((frame : _) → r ≡ Wire frame → ⊥) → ⊥
-other_request (Wire frame) is other = other frame refl
-other_request (Open p) is other = false≢true is
-other_request (End p) is other = false≢true is
-other_request (VfRead p offset) is other = false≢true is
-other_request (VfWrite p offset x) is other = false≢true is
-other_request (MemRead p at count) is other = false≢true is
-other_request (MemWrite p at bytes) is other = false≢true is
-other_request (Serve p q) is other = false≢true is
-other_request (Flr p) is other = false≢true is
-other_request (PfRead offset) is other = false≢true is
-other_request (PfWrite offset x) is other = false≢true is
-other_request PfReset is other = false≢true is
+other_request r is other = let (frame, same) = a_frame r (ap is_of_wire (whose_asked r) ∙ is) in other frame same
 
 pub only_frames : (plan : Planned) (turn : ℕ) (r : Request) → turn < length (frames_of (own_events plan Pump)) → event_of r ≡ slice_index_or (own_events plan Pump) turn PfReset
     → ((frame : _) → r ≡ Wire frame → ⊥) → ⊥
@@ -151,11 +139,11 @@ gone_not_last : Came.Gone ≡ Came.Last → ⊥
 gone_not_last is = false≢true (ap is_last is)
 
 pub has_pumped : (frames : List (List ℕ)) (end : PumpEnd) (share left : CallerLog) (old new : ReceiveEnd) → share.caller ≡ Pump → came_by end ≡ Came.Last → HasReceived (pumped frames end) old new
-    → HasAsked (map Wire frames) (record { caller = Pump; asked = share.asked }) left → HasPumped share left old new
+    → HasAsked (map Wire frames) (record share { caller = Pump }) left → HasPumped share left old new
 has_pumped frames PumpEnd.Last share left old new is came received asked = record {
   frames = frames;
   received = received;
-  asked = subst (λ (c : Caller). HasAsked (map Wire frames) (record { caller = c; asked = share.asked }) left) (sym is) asked;
+  asked = subst (λ (c : Caller). HasAsked (map Wire frames) (record share { caller = c }) left) (sym is) asked;
 }
 has_pumped frames (PumpEnd.Full event) share left old new is came received asked = absurd (full_not_last came)
 has_pumped frames PumpEnd.Gone share left old new is came received asked = absurd (gone_not_last came)

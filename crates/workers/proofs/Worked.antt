@@ -35,9 +35,6 @@ handed_back plan old new (Some share) done seat calls = record { new = new; done
 
 -- ---- many
 
-pub none_done : (old : List CallerLog) → HaveDone [] old old
-none_done old = record { left = []; done = tt; behind = sym (append-nil old) }
-
 are_done_more : (duties more : List Duty) (left rest : List (Option CallerLog)) → AreDone duties left → AreDone more rest → AreDone (duties ++ more) (left ++ rest)
 are_done_more [] more [] rest are also = also
 are_done_more [] more (l ∷ left) rest are also = absurd are
@@ -79,10 +76,10 @@ all_duties plan ports shares pf_share pump_share service_share none guests with_
 pub worked_more : {X : Type 0} (xs : List X) (x : X) (duty : X → Duty) (old mid new : List CallerLog) → HaveDone (map duty xs) old mid → HaveDone (duty x ∷ []) mid new → HaveDone (map duty (xs ++ x ∷ [])) old new
 worked_more xs x duty old mid new before more = subst (λ (ds : List Duty). HaveDone ds old new) (sym (map-append duty xs (x ∷ []))) (done_more (map duty xs) (duty x ∷ []) old mid new before more)
 
-pub done_with : {L : Type 0} (plan now : Planned) (ports : List (CallingPort × Known)) (shares : Shares L) (all : List Duty) (back new : List CallerLog) → now ≡ plan → all ≡ duties_of now ports shares → back ≡ left_of shares.ports.items → HaveDone all back new
+pub done_with : {L : Type 0} (plan : Planned) (ports : List (CallingPort × Known)) (shares : Shares L) (all : List Duty) (back new : List CallerLog) → all ≡ duties_of plan ports shares → back ≡ left_of shares.ports.items → HaveDone all back new
     → HaveDone (duties_of plan ports shares) (left_of shares.ports.items) new
-done_with plan now ports shares all back new is duties others done =
-    subst (λ (ds : List Duty). HaveDone ds (left_of shares.ports.items) new) (duties ∙ ap (λ (p : Planned). duties_of p ports shares) is) (subst (λ (ms : List CallerLog). HaveDone all ms new) others done)
+done_with plan ports shares all back new duties others done =
+    subst (λ (ds : List Duty). HaveDone ds (left_of shares.ports.items) new) duties (subst (λ (ms : List CallerLog). HaveDone all ms new) others done)
 
 -- ---- whose the shares are
 
@@ -168,10 +165,10 @@ last_caller plan ports shares now at share own done many is =
     ap (λ (m : CallerLog). m.caller) (is ∙ last_is at (left_of shares.ports.items ++ left_of r.left ++ r.others.pf_left ∷ r.others.pump_left ∷ []) now r.others.service_left share r.all many)
     ∙ same_caller (own_events plan shares.service.caller) shares.service r.others.service_left r.others.service_asked ∙ own
 
-pub have_run : {L : Type 0} (plan : Planned) (ports : List (CallingPort × Known)) (pools : List ℕ) (shares : Shares L) (now : List CallerLog) (at : ℕ) (before share : CallerLog) → shares.pf.caller ≡ Driver → shares.pump.caller ≡ Pump → shares.service.caller ≡ Service
+has_run : {L : Type 0} (plan : Planned) (ports : List (CallingPort × Known)) (pools : List ℕ) (shares : Shares L) (now : List CallerLog) (at : ℕ) (before share : CallerLog) → shares.pf.caller ≡ Driver → shares.pump.caller ≡ Pump → shares.service.caller ≡ Service
     → HaveDone (duties_of plan ports shares) (left_of shares.ports.items) now → at + 1 ≡ length now → before ≡ get_or now at before → pools ≡ map pool_of ports → HasAsked (map End pools) before share
     → HaveRun plan ports shares (set now at share)
-have_run plan ports pools shares now at before share own_pf own_pump own_service done many is noted asked =
+has_run plan ports pools shares now at before share own_pf own_pump own_service done many is noted asked =
     let r = is_run plan ports shares now done in
     let front : List CallerLog = left_of shares.ports.items ++ left_of r.left ++ r.others.pf_left ∷ r.others.pump_left ∷ [] in
     let same : before ≡ r.others.service_left = is ∙ last_is at front now r.others.service_left before r.all many in
@@ -190,6 +187,13 @@ have_run plan ports pools shares now at before share own_pf own_pump own_service
           (subst (λ (c : Caller). HasAsked (own_events plan c) shares.service r.others.service_left) own_service r.others.service_asked) ends;
       all = last_set at front now r.others.service_left share r.all many ∙ sym (last_apart (left_of shares.ports.items) (left_of r.left) r.others.pf_left r.others.pump_left share);
     }
+
+-- by a plan that is this one
+pub have_run : {L : Type 0} (plan own : Planned) (ports : List (CallingPort × Known)) (pools : List ℕ) (shares : Shares L) (now : List CallerLog) (at : ℕ) (before share : CallerLog) → own ≡ plan → shares.pf.caller ≡ Driver → shares.pump.caller ≡ Pump
+    → shares.service.caller ≡ Service → HaveDone (duties_of own ports shares) (left_of shares.ports.items) now → at + 1 ≡ length now → before ≡ get_or now at before → pools ≡ map pool_of ports → HasAsked (map End pools) before share
+    → HaveRun plan ports shares (set now at share)
+have_run plan own ports pools shares now at before share same own_pf own_pump own_service done many is noted asked =
+    subst (λ (p : Planned). HaveRun p ports shares (set now at share)) same (has_run own ports pools shares now at before share own_pf own_pump own_service done many is noted asked)
 
 -- ---- how many shares come back
 

@@ -2,7 +2,6 @@
 use Rattle.std.specs.Prelude.{◌≡◌, List, [], ◌∷◌, filter}
 use Rattle.std.specs.List.{All}
 use Rattle.device.specs.Events.{Event}
-use Rattle.device.specs.Replies.{Reply}
 use Rattle.device.specs.declared.event.Answer.{Answer}
 use Rattle.history.specs.declared.caller.Caller.{Caller}
 use Rattle.history.specs.declared.caller.Caller.TheVariants.{Driver, Service}
@@ -34,8 +33,6 @@ pub record HaveRecorded {L : Type 0} (first : List Event) (old new : Shares L) :
   pub asked : events calls ≡ first
   pub kept : HaveKept calls old new
 
--- the shares once one is, with this reply
-pub record HasRecorded {L : Type 0} (event : Event) (reply : Reply) (old new : Shares L) : Type 0 where
-  pub answer : Answer
-  pub kept : HaveKept (entry (caller_before event) event answer ∷ []) old new
-  pub told : answer.reply ≡ reply
+-- the shares once one is, with this answer
+abbrev pub HasRecorded : {L : Type 0} → Event → Answer → Shares L → Shares L → Type 0
+HasRecorded event answer old new = HaveKept (entry (caller_before event) event answer ∷ []) old new

@@ -1,14 +1,14 @@
 //! One event by a guest's port.
-ghost use Rattle.std.specs.Prelude.{◌≡◌, ◌≤◌, true, IfErr, OnOk, OnErr, length};
+ghost use Rattle.std.specs.Prelude.{◌≡◌, true, IfErr, OnOk, OnErr};
 ghost use Rattle.wire_frame.specs.declared.fault.Fault.{Fault};
-ghost use Rattle.device.specs.Outcome.{bytes_asked};
 ghost use Rattle.device.specs.Request.{event_of};
 ghost use Rattle.history.specs.declared.caller.Caller.TheVariants.{Port};
 ghost use Rattle.recorder.specs.Callers.{may};
+ghost use Rattle.workers.specs.Callers.{is_end};
 ghost use Rattle.workers.specs.Calls.{HasDone, HasMade, IsPortEvent};
 
 use device::Request;
-use device::bytes::MOST_BYTES;
+use device_lock::WhenFull;
 use guest_memory::GuestMem;
 use guest_port::{GuestPort, LockedPort};
 use std::sync::Wait;
@@ -17,34 +17,29 @@ use wire_frame::Fault;
 
 /// Does what an event asks of a port: a call, or its end. Where the history is full it is folded first.
 /// [`Fault::HistoryFull`] where it can't be folded: nothing was done.
-///
-/// `read` is lent for what a call reads.
-#[tactic(auto, using(crate::proofs::Turns::room_for))]
+#[tactic(auto, using(crate::proofs::Turns::may_call, crate::proofs::Turns::has_ended, crate::proofs::Turns::has_made))]
 pub fn call<M: GuestMem, L: Ledger, P: GuestPort, R: Wait>(
     rt: &R,
     port: &mut LockedPort<M, L, P>,
     request: Request<'_>,
-    read: &mut [u8; MOST_BYTES],
 ) -> Result<(), Fault>
-    requires event { IsPortEvent port.old.port.pool (event_of request) }
-    requires read { length read.old ≡ 2048 }
+    requires { IsPortEvent port.old.port.pool (event_of request) }
     ensures done { OnOk result (HasDone (event_of request.entry) port.old port.new) }
     ensures undone { OnErr result (port.new ≡ port.old) }
     ensures full { IfErr result (λ e. e ≡ Fault.HistoryFull) }
-    ensures read { length read.new ≡ 2048 }
 {
-    match request {
-        Request::End(_) => {
-            port.end();
-            Ok(())
-        }
-        Request::VfRead(_, _) => make(rt, port, request, read),
-        Request::VfWrite(_, _, _) => make(rt, port, request, read),
-        Request::MemRead(_, _, _) => make(rt, port, request, read),
-        Request::MemWrite(_, _, _) => make(rt, port, request, read),
-        Request::Flr(_) => make(rt, port, request, read),
-        _ => unreachable!(),
+    if is_end(request) {
+        port.end();
+        return Ok(());
     }
+    make(rt, port, request)
+}
+
+// Whether an event is an end.
+fn is_end(request: Request<'_>) -> bool
+    ensures { result ≡ is_end (event_of request.entry) }
+{
+    matches!(request, Request::End(_))
 }
 
 // Makes a call, which is kept until the port has ended.
@@ -52,19 +47,16 @@ fn make<M: GuestMem, L: Ledger, P: GuestPort, R: Wait>(
     rt: &R,
     port: &mut LockedPort<M, L, P>,
     request: Request<'_>,
-    read: &mut [u8],
 ) -> Result<(), Fault>
-    requires may { may (Port port.old.port.pool) (event_of request) ≡ true }
-    requires room { bytes_asked (event_of request) ≤ length read.old }
+    requires { may (Port port.old.port.pool) (event_of request) ≡ true }
     ensures made { OnOk result (HasMade (event_of request.entry) port.old port.new) }
     ensures undone { OnErr result (port.new ≡ port.old) }
     ensures full { IfErr result (λ e. e ≡ Fault.HistoryFull) }
-    ensures read { length read.new ≡ length read.old }
 {
     if !port.is_open() {
         return Ok(());
     }
-    match port.ask_folding(rt, request, read) {
+    match port.ask(rt, request, WhenFull::Fold) {
         Ok(_) => Ok(()),
         Err(fault) => Err(fault),
     }

@@ -115,7 +115,7 @@ impl<M: GuestMem, L: Ledger + Send + 'static, P: GuestPort> Crew<M, L, P> {
         ensures one { self.new.was_refused ≡ false
             → self.new.duties ≡ self.old.duties ++ duty_in running ∷ [] }
     {
-        log_start(log, worker);
+        log_start(log, &worker);
         if self.running.push((worker, running)).is_err() {
             self.was_refused = true;
         }
@@ -144,19 +144,19 @@ impl<M: GuestMem, L: Ledger + Send + 'static, P: GuestPort> Crew<M, L, P> {
         };
         for (worker, one) in running {
             join_one(rt, log, one, shares, &mut ends);
-            log_end(log, worker);
+            log_end(log, &worker);
         }
         ends
     }
 }
 
 /// Logs that a worker starts.
-pub fn log_start<O: Log>(log: &O, worker: Worker) {
+pub fn log_start<O: Log>(log: &O, worker: &Worker) {
     debug!(log; "worker {worker} starts");
 }
 
 /// Logs that a worker ends.
-pub fn log_end<O: Log>(log: &O, worker: Worker) {
+pub fn log_end<O: Log>(log: &O, worker: &Worker) {
     debug!(log; "worker {worker} ends");
 }
 

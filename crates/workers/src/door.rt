@@ -43,6 +43,7 @@ impl<M: GuestMem, L: Ledger, G: Gate + Drop> GatedDoor<M, L, G> {
 }
 
 impl<M: GuestMem, L: Ledger, G: Gate + Drop> Door for GatedDoor<M, L, G> {
+    ghost use Rattle.std.specs.Prelude.{Some};
     ghost use Rattle.history.specs.Entries.{events};
 
     ghost taken = { λ d. events d.inner.share.asked };
@@ -50,6 +51,8 @@ impl<M: GuestMem, L: Ledger, G: Gate + Drop> Door for GatedDoor<M, L, G> {
     ghost calls = { λ d. d.inner.share.asked };
 
     ghost refused = { λ d. d.inner.refused };
+
+    ghost line = { λ d. Some d.inner.share.line };
 
     fn act<R: Wait>(&mut self, rt: &R, event: Event) -> Result<Answer, Full> {
         self.n = self.n.wrapping_add(1);

@@ -10,6 +10,7 @@
 
 mod asking;
 mod calling;
+mod context;
 mod crew;
 mod door;
 mod gate;

@@ -1,7 +1,6 @@
 //! The pools that are open, by the replies to the events so far.
 ghost use Rattle.std.specs.Prelude.{◌≡◌, ℕ, List, length, IfOk};
-ghost use Rattle.device.specs.declared.span.Span.{Span};
-ghost use Rattle.device.specs.Outcome.{reply_by};
+ghost use Rattle.device.specs.Outcome.{reply_of};
 ghost use Rattle.device.specs.Request.{event_of};
 ghost use Rattle.workers.specs.Opens.{all_closed, opened, opened_by, pools_from, with_pool};
 
@@ -20,8 +19,8 @@ pub fn closed_pools() -> Ports
 /// Notes which pools an event leaves open, by what came of it.
 pub fn note(request: Request<'_>, outcome: Outcome, is_open: &mut Ports)
     requires { length is_open.old ≡ 64 }
-    ensures open { (bytes : Span → List ℕ) →
-        is_open.new ≡ opened (event_of request.entry) (reply_by bytes outcome) is_open.old }
+    ensures open { (cells : List ℕ) →
+        is_open.new ≡ opened (event_of request.entry) (reply_of cells outcome) is_open.old }
     ensures len { length is_open.new ≡ 64 }
 {
     if matches!(outcome, Outcome::Done) {

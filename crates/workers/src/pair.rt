@@ -5,13 +5,13 @@ ghost use Rattle.history.specs.declared.caller.Caller.TheVariants.{Pump};
 ghost use Rattle.workers.specs.Duties.{HaveDone, OfShare};
 ghost use Rattle.workers.specs.Pair.{AreNew, HasPumped, HasRead};
 
+use crate::context::WorkerContext;
 use crate::crew::{Crew, CrewEnds, RunningWorker, log_end, log_start};
 use crate::door::GatedDoor;
 use crate::gate::Gate;
-use crate::starting::WorkerContext;
 use crate::work::{Pumping, Reading};
 use crate::worker::{Came, Pumped, Worker, pumping, reader};
-use device_lock::Share;
+use device_lock::{Caller, Share};
 use guest_memory::GuestMem;
 use guest_port::GuestPort;
 use log::Log;
@@ -70,7 +70,7 @@ impl<L: Ledger + Send + 'static> Pair<L> {
             receiver,
             was_full,
         } = pump_thread.join(rt);
-        log_end(log, Worker::Pump);
+        log_end(log, &Worker::Of(Caller::Pump));
         let mut sender = reader_thread.join(rt);
         let Some(receiver) = receiver else {
             // a sender that went without `Last`, which can't be, is answered as a start that was refused
@@ -94,27 +94,27 @@ pub fn start_pair<
 >(
     rt: R,
     log: &O,
-    common: &WorkerContext<M, L, G>,
+    context: &WorkerContext<M, L, G>,
     share: Share<L>,
-    sender: FrameSender,
-    receiver: FrameReceiver,
+    ends: (FrameSender, FrameReceiver),
     crew: &mut Crew<M, L, P>,
 )
     requires pump { share.caller ≡ Pump }
-    requires new { AreNew sender receiver }
+    requires new { AreNew ends.0 ends.1 }
     ensures stays { crew.new.was_refused ≡ false → crew.old.was_refused ≡ false }
     ensures duty { crew.new.was_refused ≡ false
         → crew.new.duties
-        ≡ crew.old.duties ++ OfShare (arc_value common.now.plan) share ∷ [] }
+        ≡ crew.old.duties ++ OfShare (arc_value context.now.plan) share ∷ [] }
 {
     if !crew.is_ready() {
         return;
     }
-    let Ok(pump_thread) = start_pump(rt, common, share, receiver) else {
+    let (sender, receiver) = ends;
+    let Ok(pump_thread) = start_pump(rt, context, share, receiver) else {
         return crew.refuse();
     };
-    log_start(log, Worker::Pump);
-    match start_reader(rt, common, sender) {
+    log_start(log, &Worker::Of(Caller::Pump));
+    match start_reader(rt, context, sender) {
         Ok(reader_thread) => {
             let pair = Pair {
                 pump_thread,
@@ -125,13 +125,13 @@ pub fn start_pair<
         Err(_) => {
             // the sender is gone, so the pump ends
             drop(pump_thread.join(&rt));
-            log_end(log, Worker::Pump);
+            log_end(log, &Worker::Of(Caller::Pump));
             crew.refuse();
         }
     }
 }
 
-// Starts the pump. Its door has room for a frame, which is to be gone from the stack once the workers run.
+// Starts the pump. Its door has room for what its calls send and read, which is to be gone from the stack once the workers run.
 #[inline(never)]
 fn start_pump<
     M: GuestMem + Send + 'static,
@@ -140,7 +140,7 @@ fn start_pump<
     R: Threads + Wait + Copy + Send + 'static,
 >(
     rt: R,
-    common: &WorkerContext<M, L, G>,
+    context: &WorkerContext<M, L, G>,
     share: Share<L>,
     receiver: FrameReceiver,
 ) -> Result<PromisedHandle<Pumped<L>, Pumping<L>>, AllocError>
@@ -148,7 +148,7 @@ fn start_pump<
     ensures share { IfOk result (λ thread. thread.promise.share.value ≡ share) }
     ensures receiver { IfOk result (λ thread. thread.promise.receiver.value ≡ receiver) }
 {
-    let mine = common.another()?;
+    let mine = context.another()?;
     let work = Pumping {
         share: Shadow::of(&share),
         receiver: Shadow::of(&receiver),
@@ -199,14 +199,14 @@ fn start_reader<
     R: Threads + Wait + Copy + Send + 'static,
 >(
     rt: R,
-    common: &WorkerContext<M, L, G>,
+    context: &WorkerContext<M, L, G>,
     sender: FrameSender,
 ) -> Result<PromisedHandle<FrameSender, Reading>, AllocError>
     ensures plan { IfOk result (λ thread.
-        thread.promise.plan.value ≡ arc_value common.now.plan) }
+        thread.promise.plan.value ≡ arc_value context.now.plan) }
     ensures sender { IfOk result (λ thread. thread.promise.sender.value ≡ sender) }
 {
-    let mine = common.another()?;
+    let mine = context.another()?;
     let work = Reading {
         plan: Shadow::of(&*mine.plan),
         sender: Shadow::of(&sender),

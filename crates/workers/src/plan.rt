@@ -3,15 +3,16 @@ ghost use Rattle.std.specs.Prelude.{◌≡◌, ◌<◌, ◌≤◌, [], ◌∷◌
 ghost use Rattle.std.specs.Arc.{arc_value};
 ghost use Rattle.device.specs.Request.{event_of};
 ghost use Rattle.device.specs.declared.event.Event.TheVariants.{PfReset, Wire};
+ghost use Rattle.device.specs.declared.event.Whose.TheVariants.{Function};
 ghost use Rattle.history.specs.declared.caller.Caller.TheVariants.{Pump};
-ghost use Rattle.workers.specs.Callers.{caller_before, caller_of, port_or_service};
+ghost use Rattle.workers.specs.Callers.{caller_among, caller_before, caller_of, is_of_host, port_or_service};
 ghost use Rattle.workers.specs.Frames.{frames_of};
 ghost use Rattle.workers.specs.Plans.{own_events, planned};
 ghost use Rattle.workers.specs.Turns.{AreTurns};
 
-use device::Request;
+use device::{Request, Whose};
 use device_lock::{CALLERS, Caller};
-use script::{Room, Script};
+use script::{Scratch, Script};
 use std::alloc::{AllocError, Global};
 use std::marker::Model;
 use std::sync::Arc;
@@ -105,15 +106,20 @@ impl Plan {
     }
 
     /// One of the events after `go` that a caller does, as a device is asked it. Its bytes and its frame, where it has some,
-    /// may be laid out in `room`.
+    /// may be laid out in `scratch`.
     #[inline]
     #[tactic(auto, using(crate::proofs::Places::turn_number, crate::proofs::Places::turns_count, crate::proofs::Places::turn_inside, crate::proofs::Places::turn_event))]
-    pub fn request<'a>(&'a self, caller: Caller, turn: usize, room: &'a mut Room) -> Request<'a>
+    pub fn request<'a>(
+        &'a self,
+        caller: Caller,
+        turn: usize,
+        scratch: &'a mut Scratch,
+    ) -> Request<'a>
         requires { turn < length (own_events self.now caller) }
         ensures { event_of result ≡ slice_index_or (own_events self.now caller) turn PfReset }
     {
         let place = place_of(&self.turns, caller.number(), turn);
-        self.script.request(place, room)
+        self.script.request(place, scratch)
     }
 
     /// How many frames come from the wire after `go`: all that the pump does.
@@ -125,12 +131,12 @@ impl Plan {
         self.turns(Caller::Pump)
     }
 
-    /// One of the frames that come from the wire after `go`. It may be laid out in `room`.
-    pub fn frame<'a>(&'a self, turn: usize, room: &'a mut Room) -> &'a FrameBuf
+    /// One of the frames that come from the wire after `go`. It may be laid out in `scratch`.
+    pub fn frame<'a>(&'a self, turn: usize, scratch: &'a mut Scratch) -> &'a FrameBuf
         requires { turn < length (frames_of (own_events self.now Pump)) }
         ensures { result.now ≡ slice_index_or (frames_of (own_events self.now Pump)) turn [] }
     {
-        match self.request(Caller::Pump, turn, room) {
+        match self.request(Caller::Pump, turn, scratch) {
             Request::Wire(frame) => frame,
             _ => unreachable!(),
         }
@@ -146,7 +152,7 @@ fn place_of(turns: &[Turns], number: u8, turn: usize) -> usize
     turns[usize::from(number)].at(turn)
 }
 
-// The places of each caller's events after `go`, found in one pass over the script. The room for an event is gone from the stack
+// The places of each caller's events after `go`, found in one pass over the script. What an event is laid out in is gone from the stack
 // after it, since this is a call of its own.
 #[inline(never)]
 #[tactic(auto, using(crate::proofs::Places::found_all))]
@@ -154,10 +160,10 @@ fn turns_of(alloc: Global, script: &Script, ports: &Ports) -> Result<Vec<Turns>,
     requires { length ports.now ≡ 64 }
     ensures { IfOk result (λ turns. AreTurns (planned script.now ports.now) turns.items) }
 {
-    let mut room = Room::new();
+    let mut scratch = Scratch::new();
     let mut turns = no_turns(alloc)?;
     for place in start_of(script)..script.len() {
-        let caller = caller_of(ports, script.request(place, &mut room));
+        let caller = caller_of(ports, script.request(place, &mut scratch));
         add_turn(&mut turns, caller.number(), place)?;
     }
     Ok(turns)
@@ -202,9 +208,9 @@ fn start_of(script: &Script) -> usize
 pub fn caller_before(request: Request<'_>) -> Caller
     ensures { result ≡ caller_before (event_of request.entry) }
 {
-    match request {
-        Request::PfRead(_) | Request::PfWrite(_, _) | Request::PfReset => { Caller::Driver }
-        _ => Caller::Service,
+    match request.whose() {
+        Whose::Physical => Caller::Driver,
+        Whose::Function(_) | Whose::Wire => Caller::Service,
     }
 }
 
@@ -213,15 +219,21 @@ fn caller_of(ports: &Ports, request: Request<'_>) -> Caller
     requires { length ports.now ≡ 64 }
     ensures { result ≡ caller_of ports.now (event_of request.entry) }
 {
+    match request.whose() {
+        Whose::Function(pool) => caller_of_own(ports, pool, request),
+        Whose::Physical => Caller::Driver,
+        Whose::Wire => Caller::Pump,
+    }
+}
+
+// The caller that does an event of a function's own after `go`: a function is opened, and its queues are served, by the service.
+fn caller_of_own(ports: &Ports, pool: u8, request: Request<'_>) -> Caller
+    requires { length ports.now ≡ 64 }
+    ensures { result ≡ caller_among ports.now (is_of_host (event_of request.entry)) (Function pool) }
+{
     match request {
-        Request::VfRead(pool, _) | Request::VfWrite(pool, _, _) => port_or_service(ports, pool),
-        Request::MemRead(pool, _, _) | Request::MemWrite(pool, _, _) => port_or_service(
-            ports, pool,
-        ),
-        Request::Flr(pool) | Request::End(pool) => port_or_service(ports, pool),
         Request::Open(_) | Request::Serve(_, _) => Caller::Service,
-        Request::PfRead(_) | Request::PfWrite(_, _) | Request::PfReset => Caller::Driver,
-        Request::Wire(_) => Caller::Pump,
+        _ => port_or_service(ports, pool),
     }
 }
 

@@ -2,7 +2,7 @@
 ghost use Rattle.std.specs.Prelude.{◌≡◌, ℕ, ◌<◌, ◌≤◌, ◌⊎◌, [], length, take, IfErr, IfOk, OnErr, OnOk};
 ghost use Rattle.wire_frame.specs.declared.fault.Fault.{Fault};
 ghost use Rattle.device.specs.Request.{event_of};
-ghost use Rattle.device.specs.Outcome.{reply_by, bytes_told};
+ghost use Rattle.device.specs.Outcome.{answer_of};
 ghost use Rattle.history.specs.declared.caller.Caller.TheVariants.{Driver, Service};
 ghost use Rattle.workers.specs.Callers.{caller_before};
 ghost use Rattle.workers.specs.Counts.{HasRecorded, HaveKept, HaveRecorded};
@@ -12,15 +12,14 @@ ghost use Rattle.workers.specs.Opens.{HaveLeft, IsPrepared};
 use crate::asking::ask;
 use crate::opens::{closed_pools, note, pools_in};
 use crate::plan::caller_before;
-use device::bytes::MOST_BYTES;
-use device::{Outcome, Request};
+use device::{Request, Response, Room};
 use device_lock::{Caller, LockedDevice, Shares};
 use guest_memory::GuestMem;
-use script::{Room, Script};
+use script::{Scratch, Script};
 use std::alloc::Global;
 use std::sync::Wait;
 use std::sync::ledger::Ledger;
-use wire_frame::{Fault, FrameBuf};
+use wire_frame::Fault;
 
 /// Records the events before `go`, and all where there is none, in order: those of the physical function by its driver's
 /// share, and all others by the service's. Answers the pools that are open at `go`, rising, and none where there is none: those
@@ -82,41 +81,37 @@ fn record_first<M: GuestMem, L: Ledger, R: Wait>(
         × HaveRecorded (take done script.now.events) shares.old shares.new) }
     ensures len { IfOk result (λ pools. length pools ≡ 64) }
 {
+    let mut scratch = Scratch::new();
     let mut room = Room::new();
-    let mut frame = FrameBuf::blank();
-    let mut read = [0; MOST_BYTES];
     let mut pools = closed_pools();
     for at in 0..count {
-        let request = script.request(at, &mut room);
-        let outcome = record(rt, device, shares, request, &mut frame, &mut read)?;
-        note(request, outcome, &mut pools);
+        let request = script.request(at, &mut scratch);
+        let response = record(rt, device, shares, request, &mut room)?;
+        note(request, response.outcome, &mut pools);
     }
     Ok(pools)
 }
 
 // Records an event before `go`, and answers what came of it.
-#[tactic(auto, using(crate::proofs::Turns::may_first, crate::proofs::Turns::room_for))]
+#[tactic(auto, using(crate::proofs::Turns::may_first))]
 fn record<M: GuestMem, L: Ledger, R: Wait>(
     rt: &R,
     device: &LockedDevice<M, L>,
     shares: &mut Shares<L>,
     request: Request<'_>,
-    frame: &mut FrameBuf,
-    read: &mut [u8; MOST_BYTES],
-) -> Result<Outcome, Fault>
-    requires read { length read.old ≡ 2048 }
+    room: &mut Room,
+) -> Result<Response, Fault>
     requires pf { shares.old.pf.caller ≡ Driver }
     requires service { shares.old.service.caller ≡ Service }
     ensures pf { shares.new.pf.caller ≡ Driver }
     ensures service { shares.new.service.caller ≡ Service }
-    ensures recorded { IfOk result (λ outcome. HasRecorded (event_of request.entry)
-        (reply_by (λ span. take (bytes_told outcome) read.new) outcome) shares.old shares.new) }
+    ensures recorded { IfOk result (λ response.
+        HasRecorded (event_of request.entry) (answer_of room.new response) shares.old shares.new) }
     ensures unchanged { OnErr result (HaveKept [] shares.old shares.new) }
     ensures full { IfErr result (λ e. e ≡ Fault.HistoryFull) }
-    ensures read { length read.new ≡ 2048 }
 {
     match caller_before(request) {
-        Caller::Driver => ask(rt, device, &mut shares.pf, request, frame, read),
-        _ => ask(rt, device, &mut shares.service, request, frame, read),
+        Caller::Driver => ask(rt, device, &mut shares.pf, request, room),
+        _ => ask(rt, device, &mut shares.service, request, room),
     }
 }

@@ -10,13 +10,13 @@ ghost use Rattle.workers.specs.Ends.{HaveEnded, pool_of};
 ghost use Rattle.workers.specs.Run.{HaveRun, duties_of, plan_of, shares_back, with_ports};
 
 use crate::asking::ask;
+use crate::context::WorkerContext;
 use crate::crew::{Crew, Ended};
 use crate::gate::Gate;
 use crate::pair::start_pair;
 use crate::plan::{Plan, Ports};
-use crate::starting::{WorkerContext, start_driver, start_guests};
-use crate::worker::Worker;
-use device::Request;
+use crate::starting::{start_driver, start_guests};
+use device::{Request, Room};
 use device_lock::{CALLERS, Caller, LockedDevice, Share, Shares};
 use guest_memory::GuestMem;
 use guest_port::{EndNote, GuestPort, LockedPort};
@@ -26,7 +26,7 @@ use std::alloc::{AllocError, Global};
 use std::sync::ledger::Ledger;
 use std::sync::{Arc, Wait};
 use std::thread::Threads;
-use wire_frame::{Fault, FrameBuf};
+use wire_frame::Fault;
 use wire_pump::channel;
 
 /// Does the events of a script after `go`, each worker its own in the order of the script, in a thread of its own: each port
@@ -69,14 +69,13 @@ pub fn run_workers<
         (λ ended. HaveRun (plan_of (arc_value script) ports.items) ports.items shares ended.shares.items) }
     ensures why { IfErr result (λ e. (e ≡ Fault.NoMemory) ⊎ (e ≡ Fault.HistoryFull)) }
 {
-    let RunOfWorkers { mut shares, pools } = match run(
-        rt, log, alloc, script, &device, shares, ports, gate,
-    ) {
+    let context = context_of(alloc, script, device, gate, &ports)?;
+    let RunOfWorkers { mut shares, pools } = match run(rt, log, alloc, &context, shares, ports) {
         Ok(ran) => ran,
         Err(fault) => return Err(fault),
     };
     let last = last_of(&shares);
-    record_ends(&rt, &device, &pools, &mut shares[last])?;
+    record_ends(&rt, &context.device, &pools, &mut shares[last])?;
     Ok(Ended { shares })
 }
 
@@ -108,23 +107,20 @@ fn run<
     rt: R,
     log: &O,
     alloc: Global,
-    script: Arc<Script>,
-    device: &Arc<LockedDevice<M, L>>,
+    context: &WorkerContext<M, L, G>,
     shares: Shares<L>,
     ports: Vec<(LockedPort<M, L, P>, EndNote)>,
-    gate: Arc<G>,
 ) -> Result<RunOfWorkers<L>, Fault>
     requires pf { shares.pf.caller ≡ Driver }
     requires pump { shares.pump.caller ≡ Pump }
     requires service { shares.service.caller ≡ Service }
     ensures pools { IfOk result (λ ran. ran.pools.items ≡ map pool_of ports.items) }
     ensures done { IfOk result (λ ran.
-        HaveDone (duties_of (plan_of (arc_value script) ports.items) ports.items shares)
+        HaveDone (duties_of (arc_value context.now.plan) ports.items shares)
         (left_of shares.ports.items) ran.shares.items) }
     ensures why { IfErr result (λ e. (e ≡ Fault.NoMemory) ⊎ (e ≡ Fault.HistoryFull)) }
 {
-    let common = common_of(alloc, script, device, gate, &ports)?;
-    let Ok((sender, receiver)) = channel(alloc) else {
+    let Ok(wire) = channel(alloc) else {
         return Err(Fault::NoMemory);
     };
     let pools = pools_in_order(alloc, &ports)?;
@@ -135,26 +131,10 @@ fn run<
         service,
         others: mut back,
     } = split_shares(alloc, shares)?;
-    start_guests(rt, log, &common, ports, &mut crew);
-    start_driver(
-        rt,
-        log,
-        &common,
-        Worker::Driver,
-        Caller::Driver,
-        pf,
-        &mut crew,
-    );
-    start_pair(rt, log, &common, pump, sender, receiver, &mut crew);
-    start_driver(
-        rt,
-        log,
-        &common,
-        Worker::Service,
-        Caller::Service,
-        service,
-        &mut crew,
-    );
+    start_guests(rt, log, context, ports, &mut crew);
+    start_driver(rt, log, context, &Caller::Driver, pf, &mut crew);
+    start_pair(rt, log, context, pump, wire, &mut crew);
+    start_driver(rt, log, context, &Caller::Service, service, &mut crew);
     let ends = crew.join(&rt, log, &mut back);
     if let Some(fault) = ends.fault() {
         return Err(fault);
@@ -165,21 +145,21 @@ fn run<
     })
 }
 
-// What the workers have in common.
-fn common_of<M: GuestMem, L: Ledger, P: GuestPort, G: Gate + Drop>(
+// What the workers share.
+fn context_of<M: GuestMem, L: Ledger, P: GuestPort, G: Gate + Drop>(
     alloc: Global,
     script: Arc<Script>,
-    device: &Arc<LockedDevice<M, L>>,
+    device: Arc<LockedDevice<M, L>>,
     gate: Arc<G>,
     ports: &[(LockedPort<M, L, P>, EndNote)],
 ) -> Result<WorkerContext<M, L, G>, AllocError>
     ensures { IfOk result
-        (λ common. arc_value common.plan ≡ plan_of (arc_value script) ports.now) }
+        (λ context. arc_value context.plan ≡ plan_of (arc_value script) ports.now) }
 {
     let plan = Plan::new(alloc, script, pools_of(ports))?;
     Ok(WorkerContext {
         plan: Arc::new(alloc, plan)?,
-        device: Arc::try_clone(device)?,
+        device,
         gate,
     })
 }
@@ -261,9 +241,9 @@ fn record_ends<M: GuestMem, L: Ledger, R: Wait>(
     ensures full { IfErr result (λ e. e ≡ Fault.HistoryFull) }
     ensures ends { OnOk result (HasAsked (map End pools.now) share.old share.new) }
 {
-    let mut frame = FrameBuf::blank();
+    let mut room = Room::new();
     for pool in pools {
-        ask(rt, device, share, Request::End(*pool), &mut frame, &mut [])?;
+        ask(rt, device, share, Request::End(*pool), &mut room)?;
     }
     Ok(())
 }

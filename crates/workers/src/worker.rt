@@ -1,5 +1,6 @@
 //! The workers, and what each of them does in its thread.
 ghost use Rattle.std.specs.Prelude.{◌≡◌, ℕ, ◌<◌, List, [], ◌∷◌, ◌++◌, slice_index_or, true, false, length, map, take, Some, IfSome, MatchOption};
+ghost use Rattle.std.specs.Arc.{arc_value};
 ghost use Rattle.wire_pump.specs.declared.feeding.FeedEnd.{FeedEnd};
 ghost use Rattle.device.specs.declared.event.Event.TheVariants.{PfReset, Wire};
 ghost use Rattle.history.specs.declared.caller.Caller.TheVariants.{Port, Pump};
@@ -14,44 +15,38 @@ ghost use Rattle.workers.specs.Plans.{own_events};
 
 use crate::asking::ask;
 use crate::calling::call;
+use crate::context::WorkerContext;
 use crate::door::GatedDoor;
 use crate::gate::Gate;
 use crate::plan::Plan;
-use device::bytes::MOST_BYTES;
-use device_lock::{Caller, LockedDevice, Share};
+use device::Room;
+use device_lock::{Caller, Share};
 use guest_memory::GuestMem;
 use guest_port::{GuestPort, LockedPort};
-use script::Room;
+use script::Scratch;
 use std::fmt;
 use std::fmt::{Display, Formatter, Write};
 use std::sync::Wait;
 use std::sync::ledger::Ledger;
-use wire_frame::FrameBuf;
 use wire_pump::{FeedEnd, FrameReceiver, FrameSender, PumpEnd, pump};
 
 /// A worker, which has a thread of its own.
 #[derive(Clone, Copy, Debug, PartialEq, Eq)]
 pub enum Worker {
-    /// The guest of that pool.
-    Port(u8),
-    /// The driver of the physical function.
-    Driver,
-    /// The reader of the wire.
+    /// That of a caller, which makes the caller's calls.
+    Of(Caller),
+    /// The reader of the wire, which makes none.
     Reader,
-    /// The pump of frames from the wire.
-    Pump,
-    /// The service.
-    Service,
 }
 
 impl Display for Worker {
     fn fmt<W: Write>(&self, f: &mut Formatter<W>) -> fmt::Result {
         match self {
-            Worker::Port(pool) => write!(f, "port{pool}"),
-            Worker::Driver => f.write_str("pf"),
+            Worker::Of(Caller::Port(pool)) => write!(f, "port{}", pool.get()),
+            Worker::Of(Caller::Driver) => f.write_str("pf"),
+            Worker::Of(Caller::Pump) => f.write_str("pump"),
+            Worker::Of(Caller::Service) => f.write_str("service"),
             Worker::Reader => f.write_str("reader"),
-            Worker::Pump => f.write_str("pump"),
-            Worker::Service => f.write_str("service"),
         }
     }
 }
@@ -88,23 +83,22 @@ pub struct Pumped<L: Ledger> {
 }
 
 /// Does a port's events, and closes it.
-pub fn guest<M: GuestMem, L: Ledger, P: GuestPort, G: Gate, R: Wait>(
+pub fn guest<M: GuestMem, L: Ledger, P: GuestPort, G: Gate + Drop, R: Wait>(
     rt: &R,
-    plan: &Plan,
+    context: &WorkerContext<M, L, G>,
     port: &mut LockedPort<M, L, P>,
-    gate: &G,
 ) -> WorkerResult<L>
     ensures all { result.was_full ≡ false →
-        HasClosed (own_events plan.now (Port port.old.port.pool)) port.old port.new }
+        HasClosed (own_events (arc_value context.now.plan) (Port port.old.port.pool)) port.old port.new }
     ensures part { result.was_full ≡ true
-        → (done : ℕ) × (done < length (own_events plan.now (Port port.old.port.pool)))
-        × HasClosed (take done (own_events plan.now (Port port.old.port.pool))) port.old port.new }
+        → (done : ℕ) × (done < length (own_events (arc_value context.now.plan) (Port port.old.port.pool)))
+        × HasClosed (take done (own_events (arc_value context.now.plan) (Port port.old.port.pool))) port.old port.new }
     ensures share { MatchOption result.share (port.old.port.is_closed ≡ true)
         (λ share. (port.old.port.is_closed ≡ false) × (share.caller ≡ Port port.old.port.pool)) }
     ensures asked { IfSome result.share
         (λ share. share ≡ having_calls port.new.calls port.new.made) }
 {
-    let was_full = !calls(rt, plan, port, gate);
+    let was_full = !calls(rt, &context.plan, port, &*context.gate);
     let share = match port.close() {
         Some((share, tokens)) => {
             drop(tokens);
@@ -132,13 +126,12 @@ fn calls<M: GuestMem, L: Ledger, P: GuestPort, G: Gate, R: Wait>(
         × (port.new.port.is_closed ≡ port.old.port.is_closed) }
 {
     let number = port.pool();
-    let mut room = Room::new();
-    let mut read = [0; MOST_BYTES];
+    let mut scratch = Scratch::new();
     let mut n = 0u32;
     for turn in 0..plan.turns(port.caller()) {
         n = n.wrapping_add(1);
         gate.before(number, n);
-        let done = call_turn(rt, plan, port, turn, &mut room, &mut read);
+        let done = call_turn(rt, plan, port, turn, &mut scratch);
         gate.after(number, n);
         if !done {
             return false;
@@ -154,41 +147,55 @@ fn call_turn<M: GuestMem, L: Ledger, P: GuestPort, R: Wait>(
     plan: &Plan,
     port: &mut LockedPort<M, L, P>,
     turn: usize,
-    room: &mut Room,
-    read: &mut [u8; MOST_BYTES],
+    scratch: &mut Scratch,
 ) -> bool
-    requires turn { turn < length (own_events plan.now (Port port.old.port.pool)) }
-    requires read { length read.old ≡ 2048 }
+    requires { turn < length (own_events plan.now (Port port.old.port.pool)) }
     ensures done { result ≡ true
         → HasDone (slice_index_or (own_events plan.now (Port port.old.port.pool)) turn PfReset) port.old port.new }
     ensures undone { result ≡ false → port.new ≡ port.old }
-    ensures read { length read.new ≡ 2048 }
 {
-    let request = plan.request(port.caller(), turn, room);
-    match call(rt, port, request, read) {
+    let request = plan.request(port.caller(), turn, scratch);
+    match call(rt, port, request) {
         Ok(()) => true,
         Err(_) => false,
     }
 }
 
+// What the worker of a share lends to each of its events in turn.
+#[derive(Drop)]
+struct Lent {
+    // where the request may be laid out
+    scratch: Scratch,
+    // for what the event sends and reads
+    room: Room,
+}
+
+impl Lent {
+    // Room that nothing was laid into.
+    fn new() -> Lent {
+        Lent {
+            scratch: Scratch::new(),
+            room: Room::new(),
+        }
+    }
+}
+
 /// Does the events of a caller that is no port, the driver of the physical function or the service, by its share.
-pub fn driver<M: GuestMem, L: Ledger, G: Gate, R: Wait>(
+pub fn driver<M: GuestMem, L: Ledger, G: Gate + Drop, R: Wait>(
     rt: &R,
-    plan: &Plan,
-    device: &LockedDevice<M, L>,
+    context: &WorkerContext<M, L, G>,
     caller: Caller,
     mut share: Share<L>,
-    gate: &G,
 ) -> WorkerResult<L>
     requires caller { share.caller ≡ caller }
     requires other { is_port caller ≡ false }
     ensures all { result.was_full ≡ false →
-        HasLeft (own_events plan.now share.caller) share result.share }
+        HasLeft (own_events (arc_value context.now.plan) share.caller) share result.share }
     ensures part { result.was_full ≡ true
-        → (done : ℕ) × (done < length (own_events plan.now share.caller))
-        × HasLeft (take done (own_events plan.now share.caller)) share result.share }
+        → (done : ℕ) × (done < length (own_events (arc_value context.now.plan) share.caller))
+        × HasLeft (take done (own_events (arc_value context.now.plan) share.caller)) share result.share }
 {
-    let was_full = !events(rt, plan, device, caller, &mut share, gate);
+    let was_full = !events(rt, context, caller, &mut share);
     WorkerResult {
         share: Some(share),
         was_full,
@@ -197,34 +204,28 @@ pub fn driver<M: GuestMem, L: Ledger, G: Gate, R: Wait>(
 
 // Does the events of a share's caller, and tells whether all were done.
 #[tactic(auto, using(crate::proofs::Asks::asked_turn, crate::proofs::Asks::asked_none))]
-fn events<M: GuestMem, L: Ledger, G: Gate, R: Wait>(
+fn events<M: GuestMem, L: Ledger, G: Gate + Drop, R: Wait>(
     rt: &R,
-    plan: &Plan,
-    device: &LockedDevice<M, L>,
+    context: &WorkerContext<M, L, G>,
     caller: Caller,
     share: &mut Share<L>,
-    gate: &G,
 ) -> bool
     requires caller { share.old.caller ≡ caller }
     requires other { is_port caller ≡ false }
     ensures all { result ≡ true
-        → HasAsked (own_events plan.now share.old.caller) share.old share.new }
+        → HasAsked (own_events (arc_value context.now.plan) share.old.caller) share.old share.new }
     ensures part { result ≡ false
-        → (done : ℕ) × (done < length (own_events plan.now share.old.caller))
-        × HasAsked (take done (own_events plan.now share.old.caller)) share.old share.new }
+        → (done : ℕ) × (done < length (own_events (arc_value context.now.plan) share.old.caller))
+        × HasAsked (take done (own_events (arc_value context.now.plan) share.old.caller)) share.old share.new }
 {
     let number = caller.number();
-    let mut room = Room::new();
-    let mut frame = FrameBuf::blank();
-    let mut read = [0; MOST_BYTES];
+    let mut lent = Lent::new();
     let mut n = 0u32;
-    for turn in 0..plan.turns(caller) {
+    for turn in 0..context.plan.turns(caller) {
         n = n.wrapping_add(1);
-        gate.before(number, n);
-        let done = ask_turn(
-            rt, plan, device, &caller, share, turn, &mut room, &mut frame, &mut read,
-        );
-        gate.after(number, n);
+        context.gate.before(number, n);
+        let done = ask_turn(rt, context, &caller, share, turn, &mut lent);
+        context.gate.after(number, n);
         if !done {
             return false;
         }
@@ -233,30 +234,25 @@ fn events<M: GuestMem, L: Ledger, G: Gate, R: Wait>(
 }
 
 // Does one of the events of a share's caller, and tells whether it was done.
-#[tactic(auto, using(crate::proofs::Turns::own_may, crate::proofs::Turns::room_for, crate::proofs::Asks::told_one))]
-fn ask_turn<M: GuestMem, L: Ledger, R: Wait>(
+#[tactic(auto, using(crate::proofs::Turns::own_may, crate::proofs::Asks::told_one))]
+fn ask_turn<M: GuestMem, L: Ledger, G: Gate + Drop, R: Wait>(
     rt: &R,
-    plan: &Plan,
-    device: &LockedDevice<M, L>,
+    context: &WorkerContext<M, L, G>,
     caller: &Caller,
     share: &mut Share<L>,
     turn: usize,
-    room: &mut Room,
-    frame: &mut FrameBuf,
-    read: &mut [u8; MOST_BYTES],
+    lent: &mut Lent,
 ) -> bool
     requires caller { share.old.caller ≡ caller.now }
     requires other { is_port caller.now ≡ false }
-    requires turn { turn < length (own_events plan.now caller.now) }
-    requires read { length read.old ≡ 2048 }
+    requires turn { turn < length (own_events (arc_value context.now.plan) caller.now) }
     ensures asked { result ≡ true
-        → HasAsked (slice_index_or (own_events plan.now caller.now) turn PfReset ∷ []) share.old share.new }
+        → HasAsked (slice_index_or (own_events (arc_value context.now.plan) caller.now) turn PfReset ∷ []) share.old share.new }
     ensures undone { result ≡ false → share.new ≡ share.old }
     ensures caller { share.new.caller ≡ share.old.caller }
-    ensures read { length read.new ≡ 2048 }
 {
-    let request = plan.request(*caller, turn, room);
-    match ask(rt, device, share, request, frame, read) {
+    let request = context.plan.request(*caller, turn, &mut lent.scratch);
+    match ask(rt, &context.device, share, request, &mut lent.room) {
         Ok(_) => true,
         Err(_) => false,
     }
@@ -278,10 +274,10 @@ fn send_frames<R: Wait>(rt: &R, plan: &Plan, sender: &mut FrameSender) -> FeedEn
     ensures count { IsCounted (length (frames_of (own_events plan.now Pump))) result }
     ensures wire { map Wire (frames_of (own_events plan.now Pump)) ≡ own_events plan.now Pump }
 {
-    let mut room = Room::new();
+    let mut scratch = Scratch::new();
     let count = plan.frames();
     for sent in 0..count {
-        if !sender.frame(rt, plan.frame(sent, &mut room)) {
+        if !sender.frame(rt, plan.frame(sent, &mut scratch)) {
             return FeedEnd::Gone(sent);
         }
     }
@@ -301,7 +297,7 @@ pub fn pumping<M: GuestMem, L: Ledger, G: Gate + Drop, R: Wait>(
 ) -> (Share<L>, Came)
     ensures asked { (frames : List (List ℕ)) × (end : PumpEnd)
         × HasReceived (pumped frames end) receiver.old receiver.new
-        × HasAsked (map Wire frames) (record { caller = Pump; asked = door.inner.share.asked }) result.0
+        × HasAsked (map Wire frames) (record door.inner.share { caller = Pump }) result.0
         × (result.1 ≡ came_by end) }
 {
     let came = match pump(receiver, rt, &mut door) {

@@ -33,10 +33,10 @@ fn caller_at(index: usize) -> Option<Caller> {
 fn assert_kept<R: Abort>(rt: &R, alloc: Global, asked: &[Request<'_>]) -> Result<(), Fail> {
     let mut device = device_of_64(alloc)?;
     let mut history = History::new(alloc, 16)?;
-    let mut frame = FrameBuf::blank();
+    let (mut frame, mut room) = (FrameBuf::blank(), Room::new());
     for i in 0..asked.len() {
         let caller = caller_at(i).ok_or("no caller")?;
-        keep(rt, &mut history, &mut device, caller, asked[i], &mut frame);
+        keep(rt, &mut history, &mut device, caller, asked[i], &mut room);
     }
     assert_equal(rt, history.len(), asked.len());
     for i in 0..history.len() {
@@ -47,7 +47,11 @@ fn assert_kept<R: Abort>(rt: &R, alloc: Global, asked: &[Request<'_>]) -> Result
         }
     }
     let mut twin = device_of_64(alloc)?;
-    assert_equal(rt, first_other(&history, &mut twin, &mut Room::new()), None);
+    assert_equal(
+        rt,
+        first_other(&history, &mut twin, &mut Replay::new()),
+        None,
+    );
     Ok(())
 }
 
@@ -109,7 +113,7 @@ fn events_with_bytes_read_back(rt: HostRuntime) -> Result<(), Fail> {
 fn there_are_as_many_entries_as_the_cap(rt: HostRuntime) -> Result<(), Fail> {
     let mut device = device_of_64(rt.alloc())?;
     let mut history = History::new(rt.alloc(), 2)?;
-    let mut frame = FrameBuf::blank();
+    let (mut frame, mut room) = (FrameBuf::blank(), Room::new());
     assert!(rt; history.is_empty());
     for offset in [PFVFRE, PFVFRE + 4] {
         assert!(rt; !history.is_full());
@@ -119,7 +123,7 @@ fn there_are_as_many_entries_as_the_cap(rt: HostRuntime) -> Result<(), Fail> {
             &mut device,
             Caller::Driver,
             Request::PfRead(offset),
-            &mut frame,
+            &mut room,
         );
     }
     assert!(rt; history.is_full());
@@ -135,7 +139,7 @@ fn there_are_as_many_entries_as_the_cap(rt: HostRuntime) -> Result<(), Fail> {
         &mut device,
         port_of(9),
         Request::MemWrite(9, 7, written),
-        &mut frame,
+        &mut room,
     );
     assert!(rt; 0 < history.len());
     assert_equal(&rt, history.caller(0), port_of(9));

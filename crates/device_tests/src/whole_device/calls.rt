@@ -1,7 +1,7 @@
 //! Each call by name, once as whoever embeds a device makes it.
 use super::*;
 use crate::compare::assert_equal;
-use device::{MemSlice, Outcome, Request, Span};
+use device::{MemSlice, Outcome, Response, Room};
 use irq_causes::Messages;
 use script_support::registers::{
     ENABLE, PFDTXGSWC, PFVFLRE0, PFVFRE, PFVFSPOOF, TDH0, TDT0, TXDCTL0, VFLINKS, VTEICR, VTEICS,
@@ -120,11 +120,17 @@ fn wire_tells_who_got_messages(rt: HostRuntime) -> Result<(), Fail> {
     Ok(())
 }
 
+// What comes of the service of function 3. It promises nothing, so what the call promises isn't carried along in what calls it.
+fn serve<M: GuestMem>(device: &mut Device<M>, room: &mut Room) -> Response {
+    device.serve(3, Queue::Q0, room)
+}
+
 // Function 3 sends a frame from slot 0 of its ring: what came of it, and whether it left for the wire.
 fn send_one<R: Abort, M: GuestMem>(
     rt: &R,
     device: &mut Device<M>,
     to: u8,
+    room: &mut Room,
 ) -> Result<(Outcome, bool), Fail> {
     let frame = frame_to(to, 7)?;
     assert_equal(
@@ -149,18 +155,19 @@ fn send_one<R: Abort, M: GuestMem>(
     }
     // the cause of the former frame stands no more once it is read
     assert!(rt; device.vf_read(3, VTEICR).is_ok());
-    let mut room = FrameBuf::blank();
-    let taken = device.serve(3, Queue::Q0, &mut room);
-    assert_equal(rt, taken.messages.pools().bits(), 8);
-    if let Some(sent) = taken.sent {
-        assert_equal(rt, sent.bytes(), frame.bytes());
+    let response = serve(device, room);
+    assert_equal(rt, response.messages.pools().bits(), 8);
+    let is_sent = room.sent(&response).is_some();
+    assert_equal(rt, is_sent, response.outcome == Outcome::Sent);
+    for there in [room.sent(&response), room.left(&response)] {
+        if let Some(there) = there {
+            assert_equal(rt, there.bytes(), frame.bytes());
+        }
     }
-    if let Some(left) = taken.left {
-        assert_equal(rt, left.bytes(), frame.bytes());
-    }
-    Ok((taken.outcome, taken.left.is_some()))
+    Ok((response.outcome, room.left(&response).is_some()))
 }
 
+// One room serves all these events: a frame of an earlier one is none of theirs.
 #[test]
 fn serve_hands_out_the_frame_that_left(rt: HostRuntime) -> Result<(), Fail> {
     let mut device = Device::new(rt.alloc(), memories(rt.alloc(), 8, 65536)?)?;
@@ -168,52 +175,24 @@ fn serve_hands_out_the_frame_that_left(rt: HostRuntime) -> Result<(), Fail> {
     for (offset, value) in TRANSMIT {
         do_silently(&rt, &mut device, &Event::VfWrite(3, offset, value));
     }
-    // without loopback each frame leaves
-    assert_equal(&rt, send_one(&rt, &mut device, 4)?, (Outcome::Sent, true));
-    // under loopback one for an address that a pool holds stays, and one for another leaves
-    assert_equal(&rt, device.pf_write(PFDTXGSWC, 1), Ok(()));
-    assert_equal(&rt, send_one(&rt, &mut device, 3)?, (Outcome::Sent, false));
-    assert_equal(&rt, send_one(&rt, &mut device, 4)?, (Outcome::Sent, true));
-    assert_equal(&rt, device.wire_len(), 2);
-    // a frame that the sender's settings don't permit goes nowhere
-    assert_equal(&rt, device.pf_write(PFVFSPOOF, 0x8), Ok(()));
-    assert_equal(
-        &rt,
-        send_one(&rt, &mut device, 4)?,
-        (Outcome::Dropped, false),
-    );
-    assert_equal(&rt, device.wire_len(), 2);
-    let mut room = FrameBuf::blank();
-    let idle = device.serve(3, Queue::Q0, &mut room);
-    assert_equal(&rt, idle.outcome, Outcome::Idle);
-    assert!(rt; idle.sent.is_none() && idle.left.is_none());
-    Ok(())
-}
-
-// Where the bytes lie that a request reads, if it reads some.
-fn span_of<M: GuestMem>(device: &mut Device<M>, request: Request<'_>) -> Option<Span> {
-    let mut room = FrameBuf::blank();
-    match device.take(request, &mut room).outcome {
-        Outcome::Bytes(span) => Some(span),
-        _ => None,
+    let mut room = Room::new();
+    // PFDTXGSWC, PFVFSPOOF, the receiver, and what is due: without loopback each frame leaves; under loopback one for an address that a
+    // pool holds stays, and one for another leaves; a frame that the sender's settings don't permit goes nowhere
+    for (loopback, spoof, to, due) in [
+        (0, 0, 4, (Outcome::Sent, true)),
+        (1, 0, 3, (Outcome::Sent, false)),
+        (1, 0, 4, (Outcome::Sent, true)),
+        (1, 0x8, 4, (Outcome::Dropped, false)),
+    ] {
+        assert_equal(&rt, device.pf_write(PFDTXGSWC, loopback), Ok(()));
+        assert_equal(&rt, device.pf_write(PFVFSPOOF, spoof), Ok(()));
+        let came = send_one(&rt, &mut device, to, &mut room)?;
+        assert_equal(&rt, came, due);
     }
-}
-
-#[test]
-fn take_says_where_bytes_lie(rt: HostRuntime) -> Result<(), Fail> {
-    let mut device = Device::new(rt.alloc(), memories(rt.alloc(), 8, 65536)?)?;
-    assert!(rt; span_of(&mut device, Request::Open(3)).is_none());
-    let written = MemSlice::new(&[5, 6, 7])?;
-    assert!(rt; span_of(&mut device, Request::MemWrite(3, 40, written)).is_none());
-    let span = span_of(&mut device, Request::MemRead(3, 41, 2)).ok_or("no bytes")?;
-    assert_equal(&rt, (span.pool(), span.at(), span.count()), (3, 41, 2));
-    let mut out = [9; 2];
-    device.read_span(span, &mut out);
-    assert_equal(&rt, out, [6, 7]);
-    // closed, it has zeros
-    assert_equal(&rt, device.end(3), Ok(()));
-    device.read_span(span, &mut out);
-    assert_equal(&rt, out, [0, 0]);
+    assert_equal(&rt, device.wire_len(), 2);
+    let idle = serve(&mut device, &mut room);
+    assert_equal(&rt, idle.outcome, Outcome::Idle);
+    assert!(rt; room.sent(&idle).is_none() && room.left(&idle).is_none());
     Ok(())
 }
 

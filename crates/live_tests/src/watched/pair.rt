@@ -6,7 +6,7 @@ use super::log::{Access, Log};
 use super::memory::{Guest, Watched};
 use super::tally::Tally;
 use device::bytes::MOST_BYTES;
-use device::{Device, MemSlice, Outcome, Request, Response};
+use device::{Device, MemSlice, Outcome, Request, Response, Room};
 use guest_memory::FlatMem;
 use live_memory::Shared;
 use std::alloc::Global;
@@ -33,7 +33,7 @@ pub struct Pair<G: Guest> {
     live: Device<Watched<G>, Shared>,
     plain: Device<FlatMem>,
     known: Vec<Known>,
-    rooms: (FrameBuf, FrameBuf),
+    rooms: (Room, Room),
     // What came up.
     pub tally: Tally,
 }
@@ -68,7 +68,7 @@ impl<G: Guest> Pair<G> {
             live: Device::new(alloc, memories)?,
             plain: Device::new(alloc, plain)?,
             known,
-            rooms: (FrameBuf::blank(), FrameBuf::blank()),
+            rooms: (Room::new(), Room::new()),
             tally: Tally::default(),
         })
     }
@@ -83,16 +83,14 @@ impl<G: Guest> Pair<G> {
                 .map_err(|_| "the log is lent")?
                 .clear();
         }
-        let mut bytes = [0; MOST_BYTES];
-        let taken = self.live.take_live(request, &mut self.rooms.0, &mut bytes);
+        let taken = take_live(&mut self.live, request, &mut self.rooms.0);
         write_what_was_read(&mut self.plain, &self.known)?;
-        let sent = taken.sent.map(|frame| frame.bytes());
+        let sent = self.rooms.0.sent(&taken).map(|frame| frame.bytes());
         for known in self.known.iter_mut() {
             known.due.work_out(&mut self.plain, request, sent);
         }
-        let due = self.plain.take(request, &mut self.rooms.1);
-        compare(&taken, &due)?;
-        compare_bytes(&self.plain, taken.outcome, &bytes)?;
+        let due = take_plain(&mut self.plain, request, &mut self.rooms.1);
+        compare(&self.rooms, &taken, &due)?;
         let outcome = taken.outcome;
         self.tally.add_response(request, &taken);
         self.look_at_accesses(request, outcome)?;
@@ -128,6 +126,20 @@ impl<G: Guest> Pair<G> {
         }
         Ok(())
     }
+}
+
+// Takes an event on the first device. It promises nothing, so what the call promises isn't carried along in what calls it.
+fn take_live<G: Guest>(
+    live: &mut Device<Watched<G>, Shared>,
+    request: Request<'_>,
+    room: &mut Room,
+) -> Response {
+    live.take_live(request, room)
+}
+
+// The same on the second one.
+fn take_plain(plain: &mut Device<FlatMem>, request: Request<'_>, room: &mut Room) -> Response {
+    plain.take(request, room)
 }
 
 // Gives the plain memories what was read, each by writes of its function's own.
@@ -169,35 +181,22 @@ fn is_same_frame(one: Option<&FrameBuf>, other: Option<&FrameBuf>) -> bool {
     }
 }
 
-// Whether both devices answered the same.
-fn compare(taken: &Response<'_>, due: &Response<'_>) -> Result<(), Wrong> {
+// Whether both devices answered the same, each into its room.
+fn compare(rooms: &(Room, Room), taken: &Response, due: &Response) -> Result<(), Wrong> {
     if taken.outcome != due.outcome {
         return Err("another outcome");
     }
     if taken.messages != due.messages {
         return Err("other messages");
     }
-    if !is_same_frame(taken.sent, due.sent) {
+    if !is_same_frame(rooms.0.sent(taken), rooms.1.sent(due)) {
         return Err("another frame was sent");
     }
-    if !is_same_frame(taken.left, due.left) {
+    if !is_same_frame(rooms.0.left(taken), rooms.1.left(due)) {
         return Err("another frame left");
     }
-    Ok(())
-}
-
-// Whether the bytes that were read are those of the plain memory.
-fn compare_bytes(
-    plain: &Device<FlatMem>,
-    outcome: Outcome,
-    bytes: &[u8; MOST_BYTES],
-) -> Result<(), Wrong> {
-    if let Outcome::Bytes(span) = outcome {
-        let mut due = [0; MOST_BYTES];
-        plain.read_span(span, &mut due[..span.count()]);
-        if bytes[..span.count()] != due[..span.count()] {
-            return Err("other bytes were read");
-        }
+    if rooms.0.read(taken.outcome) != rooms.1.read(due.outcome) {
+        return Err("other bytes were read");
     }
     Ok(())
 }

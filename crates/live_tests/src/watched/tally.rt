@@ -42,12 +42,12 @@ fn one_where(count: &mut u64, is_so: bool) {
 
 impl Tally {
     // Adds what came of an event.
-    pub fn add_response(&mut self, request: Request<'_>, taken: &Response<'_>) {
+    pub fn add_response(&mut self, request: Request<'_>, response: &Response) {
         one_where(&mut self.events, true);
-        one_where(&mut self.left, taken.left.is_some());
-        one_where(&mut self.interrupts, !taken.messages.pools().is_empty());
+        one_where(&mut self.left, response.left);
+        one_where(&mut self.interrupts, !response.messages.pools().is_empty());
         let is_write = matches!(request, Request::MemWrite(_, _, _));
-        match taken.outcome {
+        match response.outcome {
             Outcome::Sent => one_where(&mut self.sent, true),
             Outcome::More => one_where(&mut self.more, true),
             Outcome::Dropped => one_where(&mut self.dropped, true),

@@ -1,7 +1,7 @@
 // Each form of a reply, and marks.
-use super::{device_of_8, run};
+use super::run;
 use crate::compare::assert_equal;
-use device::{MemSlice, Outcome, Request, Response};
+use device::{MemSlice, Outcome, Request, Response, Room};
 use irq_causes::Messages;
 use script_support::registers::{PF_VT_CTL, SRRCTL0, VFCTRL, VFLINKS};
 use std::test::Fail;
@@ -41,8 +41,8 @@ fn reads_and_refusals(rt: HostRuntime) -> Result<(), Fail> {
 #[test]
 fn services_and_marks(rt: HostRuntime) -> Result<(), Fail> {
     let alloc = rt.alloc();
-    let device = device_of_8(alloc)?;
     let mut output = Output::new(alloc)?;
+    let room = Room::new();
     let mut written = Vec::new(alloc);
     for (number, outcome, words) in [
         (1, Outcome::Done, [0, 0, 0]),
@@ -53,13 +53,12 @@ fn services_and_marks(rt: HostRuntime) -> Result<(), Fail> {
         (6, Outcome::Sent, [1 | 1 << 63, 1 << 63, 1 << 9 | 1 << 63]),
         (u64::MAX, Outcome::Value(0x0012_ABCD), [0, 0, 0]),
     ] {
-        let taken = Response {
+        let response = Response {
             outcome,
             messages: Messages::from_words(words),
-            sent: None,
-            left: None,
+            left: false,
         };
-        output.answer(number, &device, &taken, &mut written)?;
+        output.answer(number, &response, &room, &mut written)?;
     }
     output.frame(&[0; 14], &mut written)?;
     output.finish(&mut written)?;

@@ -11,10 +11,10 @@ pub returns-clause-met : goal.returns-clause-met
 returns-clause-met c = λ shared before now w traced. sym (written_by_each shared before now w traced)
 
 pub returns-clause-world : goal.returns-clause-world
-returns-clause-world c = λ shared before now old new e taken takes.
+returns-clause-world c = λ shared before now old new e taken room takes.
     takes.takes.world ∙ ap (λ (w : World). (step w e).world) (sym (written_by_each shared before now old takes.met))
     ∙ sym (world_after_append old (writes_of before now (range_with_len 0 (length old.functions))) (e ∷ []))
 
 pub returns-clause-answer : goal.returns-clause-answer
-returns-clause-answer c = λ shared before now old new e taken takes.
+returns-clause-answer c = λ shared before now old new e taken room takes.
     takes.takes.answer ∙ ap (λ (w : World). (step w e).answer) (sym (written_by_each shared before now old takes.met))

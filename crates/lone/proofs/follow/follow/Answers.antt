@@ -10,4 +10,4 @@ returns-clause-same_state g c = same_state c.args.lone.now c.args.watch.now (eve
     c.hand_on.ensures.lone c.hand_on.ensures.world c.hand_on.ensures.pool
 
 pub returns-clause-same_sight : goal.returns-clause-same_sight
-returns-clause-same_sight g c = same_sight c.args.lone.now c.args.watch.now (event_of c.args.request) (option_map (observation_of c.hand_on.new.lone.function) c.hand_on.result) c.hand_on.ensures.seen
+returns-clause-same_sight g c = same_sight c.args.lone.now c.args.watch.now (event_of c.args.request) (option_map (observation_of c.hand_on.new.room) c.hand_on.result) c.hand_on.ensures.seen

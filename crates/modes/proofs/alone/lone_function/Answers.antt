@@ -14,7 +14,7 @@ returns-then-not-is_of_size-clause-err g c = began_none _ _
 pub returns-clause-err : goal.returns-clause-err
 returns-clause-err g c =
     let P : List ℕ → Type 0 = λ t. OnErr c.perform-told.result (Began (g.W.Write.contents c.args.writer.now) (g.W.Write.contents c.perform-told.new.writer) t) in
-    subst P (seen_whole c.args.output.now _ _ _ (device_of c.args.script.now.device) c.args.pool _ _ _ _ c.args.script.now.events
+    subst P (seen_whole c.args.output.now _ _ _ (device_of c.args.script.now.device) c.args.pool _ _ _ c.args.script.now.events
     c.deref_mut.ensures.value c.in_ok-watch.ensures.ok (c.in_ok-device.ensures.ok ∙ ap device_of c.shape-shape.ensures)
-    (ap (λ (d : DeviceShape). d.limit) c.shape-shape.ensures) (c.is_of_size.ensures c.if-not-is_of_size.false ∙ ap (λ (d : DeviceShape). d.memory_size) c.shape-shape.ensures))
+    (c.is_of_size.ensures c.if-not-is_of_size.false ∙ ap (λ (d : DeviceShape). d.memory_size) c.shape-shape.ensures))
     c.perform-told.ensures.err

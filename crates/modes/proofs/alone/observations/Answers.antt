@@ -1,5 +1,5 @@
 -- One event more.
-use Rattle.std.proofs.Common.{rules, ◌∙◌, ◌<◌, length}
+use Rattle.std.proofs.Common.{rules, ◌<◌, length}
 use Rattle.transcript.proofs.Known.{began_next, on_err, sent_next}
 use Rattle.modes.proofs.Left.{seen_next}
 use Rattle.modes.proofs.alone.observations.Goals as goal
@@ -11,8 +11,8 @@ returns-in_err-observation-clause-err g c =
     let less : i < length es = search rules in
     let step = c.follow-seen.ensures in
     on_err c.from_residual.result
-    (began_next _ _ _ _ _ _ _ _ (seen_next _ _ _ _ _ _ es i _ _ less c.request-request.ensures c.loop-index.invariant.pool step.world step.lone step.seen)
-    c.loop-index.invariant.sent c.in_err-observation.ensures.err)
+    (began_next _ _ _ _ _ _ _ _ (seen_next _ _ _ _ _ _ _ es i _ _ less c.request-request.ensures step.pool c.pool-pool.ensures step.world step.lone step.seen)
+    c.loop-index.invariant c.in_err-observation.ensures.err)
 
 pub loop-index-preserved : goal.loop-index-preserved
 loop-index-preserved g c =
@@ -20,8 +20,5 @@ loop-index-preserved g c =
     let i = c.loop-index.index in
     let less : i < length es = search rules in
     let step = c.follow-seen.ensures in
-    record {
-      sent = sent_next _ _ _ _ _ _ _ _ _ (seen_next _ _ _ _ _ _ es i _ _ less c.request-request.ensures c.loop-index.invariant.pool step.world step.lone step.seen)
-          c.loop-index.invariant.sent c.in_ok-observation.ensures.ok;
-      pool = step.pool ∙ c.loop-index.invariant.pool;
-    }
+    sent_next _ _ _ _ _ _ _ _ _ (seen_next _ _ _ _ _ _ _ es i _ _ less c.request-request.ensures step.pool c.pool-pool.ensures step.world step.lone step.seen)
+    c.loop-index.invariant c.in_ok-observation.ensures.ok

@@ -10,7 +10,7 @@ returns-in_err-answer-clause-err g c =
     let i = c.loop-index.index in
     let less : i < length es = search rules in
     on_err c.from_residual.result
-    (began_next _ _ _ _ _ _ _ _ (answers_next c.loop-index.device.world _ es i _ _ less c.request-request.ensures c.take-taken.ensures.takes.world c.take-taken.ensures.takes.answer) c.loop-index.invariant.sent c.in_err-answer.ensures.err)
+    (began_next _ _ _ _ _ _ _ _ (answers_next c.loop-index.device.world _ es i _ _ less c.request-request.ensures c.take-response.ensures.takes.world c.take-response.ensures.takes.answer) c.loop-index.invariant.sent c.in_err-answer.ensures.err)
 
 pub loop-index-preserved : goal.loop-index-preserved
 loop-index-preserved g c =
@@ -18,6 +18,6 @@ loop-index-preserved g c =
     let i = c.loop-index.index in
     let less : i < length es = search rules in
     record {
-      sent = sent_next _ _ _ _ _ _ _ _ _ (answers_next c.loop-index.device.world _ es i _ _ less c.request-request.ensures c.take-taken.ensures.takes.world c.take-taken.ensures.takes.answer) c.loop-index.invariant.sent c.in_ok-answer.ensures.ok;
-      world = world_next c.loop-index.device.world _ es i _ less c.request-request.ensures c.take-taken.ensures.takes.world ∙ c.loop-index.invariant.world;
+      sent = sent_next _ _ _ _ _ _ _ _ _ (answers_next c.loop-index.device.world _ es i _ _ less c.request-request.ensures c.take-response.ensures.takes.world c.take-response.ensures.takes.answer) c.loop-index.invariant.sent c.in_ok-answer.ensures.ok;
+      world = world_next c.loop-index.device.world _ es i _ less c.request-request.ensures c.take-response.ensures.takes.world ∙ c.loop-index.invariant.world;
     }

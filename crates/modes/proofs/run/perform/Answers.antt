@@ -4,8 +4,8 @@ use Rattle.transcript.proofs.Known.{began_more, began_none, began_then, sent_the
 use Rattle.modes.proofs.Left.{began_as, run_whole, sent_as}
 use Rattle.modes.proofs.run.perform.Goals as goal
 
-pub returns-in_err-room-clause-err : goal.returns-in_err-room-clause-err
-returns-in_err-room-clause-err g c = on_err c.from_residual.result (began_none _ _)
+pub returns-in_err-scratch-clause-err : goal.returns-in_err-scratch-clause-err
+returns-in_err-scratch-clause-err g c = on_err c.from_residual.result (began_none _ _)
 
 pub returns-in_err-told-clause-err : goal.returns-in_err-told-clause-err
 returns-in_err-told-clause-err g c =

@@ -1,5 +1,5 @@
 -- The ledger is the one that the blank stands for.
 use Rattle.port_tests.proofs.guests.two_guests_have_ports_of_two_kinds.Given as goal
 
-abbrev pub ghosts-serves_all : goal.ghosts-serves_all
-ghosts-serves_all g a = record { name = a.blank.name; parts = a.blank.parts }
+abbrev pub ghosts-serves_two : goal.ghosts-serves_two
+ghosts-serves_two g a = record { name = a.blank.name; parts = a.blank.parts }

@@ -1,5 +1,5 @@
 -- As many vacant functions, and the pool of the number.
-use Rattle.std.proofs.Common.{◌≡◌, ◌≤◌, ℕ, ◌&&◌, Bool, true, List, [], length, map, nat_le, replicate, refl, sym, ap, ◌∙◌, subst, arith, IfOk, Option}
+use Rattle.std.proofs.Common.{◌≡◌, ◌≤◌, ℕ, ◌&&◌, Bool, true, List, length, map, nat_le, replicate, ap, ◌∙◌, subst, arith, IfOk, Option}
 use Rattle.std.proofs.lemmas.Bool.Decides.{nat_tests}
 use Rattle.device.specs.Guests.{is_for_guests}
 use Rattle.hosted.specs.Hosted.{host_of_ids}

@@ -1,5 +1,5 @@
 -- As many vacant functions.
-use Rattle.std.proofs.Common.{◌≡◌, ◌≤◌, ℕ, ◌&&◌, Bool, true, List, length, map, nat_le, replicate, ap, ◌∙◌, subst, arith, IfOk}
+use Rattle.std.proofs.Common.{◌≡◌, ◌≤◌, ℕ, ◌&&◌, Bool, true, List, length, map, replicate, ap, ◌∙◌, subst, arith, IfOk}
 use Rattle.std.proofs.lemmas.Bool.Decides.{nat_tests}
 use Rattle.device.specs.Guests.{is_for_guests}
 use Rattle.device.specs.World.{fresh_with, is_frame_limit}

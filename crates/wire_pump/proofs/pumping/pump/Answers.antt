@@ -19,4 +19,5 @@ loop-preserved g c =
         frames_more (λ ms. HasGivenBack ms c.args.receiver.now c.put_back-in-loop.new.self) before.0 frame (given_more c.args.receiver.now c.loop.receiver c.next-in-loop.new.self c.put_back-in-loop.new.self before.0 c.in-Some-next.message frame before.3 (search rules) (search rules)),
       ),
       stand_first_then _ _ _ c.loop.invariant.1 (search rules),
+      search rules,
     )

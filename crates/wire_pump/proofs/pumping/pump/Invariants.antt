@@ -1,5 +1,5 @@
 -- The frames that were received are those that the door took, in their order, and their boxes went back; what the
--- door knew of before stands first.
+-- door knew of before stands first, and it is the door of the same line.
 use Rattle.std.proofs.Common.{◌≡◌, ℕ, List, ◌++◌, map}
 use Rattle.device.specs.declared.event.Event.TheVariants.{Wire}
 use Rattle.wire_pump.specs.declared.message.WireMsg.TheVariants.{Frame}
@@ -13,3 +13,4 @@ invariant-loop g l = ((frames : List (List ℕ))
     × HasReceived (map Frame frames) l.initial.receiver l.receiver
     × HasGivenBack (map Frame frames) l.initial.receiver l.receiver)
     × StandFirst (g.D.Door.calls l.initial.door) (g.D.Door.calls l.door)
+    × (g.D.Door.line l.door ≡ g.D.Door.line l.initial.door)

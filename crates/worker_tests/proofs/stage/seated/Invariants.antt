@@ -1,10 +1,13 @@
--- The shares of the others stay.
+-- The shares of the others stay, and the seats and shares that are left are of the pump's line.
 use Rattle.std.proofs.Common.{◌≡◌}
+use Rattle.lock_support.specs.Lines.{AreSeatsOf, AreSharesOf}
 use Rattle.worker_tests.proofs.stage.seated.Given as goal
 
-abbrev pub invariant-loop-port : goal.invariant-loop-port
-invariant-loop-port g l = record {
+abbrev pub invariant-loop : goal.invariant-loop
+invariant-loop g l = record {
   pf : l.shares.pf ≡ l.fn.shares.pf;
   pump : l.shares.pump ≡ l.fn.shares.pump;
   service : l.shares.service ≡ l.fn.shares.service;
+  seats : AreSeatsOf l.shares.pump.line l.seats.items;
+  shares : AreSharesOf l.shares.pump.line l.shares.ports.items;
 }

@@ -9,6 +9,5 @@ invariant-loop-at g l = record {
   left : HaveLeft (take l.at l.script.events) l.pools l.fn.shares l.shares;
   pf : l.shares.pf.caller ≡ Driver;
   service : l.shares.service.caller ≡ Service;
-  read : length l.read ≡ 2048;
   pools : length l.pools ≡ 64;
 }

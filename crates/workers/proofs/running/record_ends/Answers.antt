@@ -7,6 +7,6 @@ pub loop-pool-preserved : goal.loop-pool-preserved
 loop-pool-preserved g c =
     let pool : ℕ = get_or c.args.pools.now c.loop-pool.pool-index 0 in
     record {
-      asked = ending_more c.args.pools.now c.loop-pool.pool-index pool _ c.args.share.now c.loop-pool.share c.ask.new.share (search rules) (search rules) c.loop-pool.invariant.asked c.in_ok-ask.ensures.kept;
+      asked = ending_more c.args.pools.now c.loop-pool.pool-index pool _ c.args.share.now c.loop-pool.share c.ask.new.share (search rules) (search rules) c.loop-pool.invariant.asked c.in_ok-ask.ensures.told;
       caller = c.in_ok-ask.ensures.caller ∙ c.loop-pool.invariant.caller;
     }

@@ -7,5 +7,5 @@ use Rattle.workers.proofs.starting.start_guests.Given as goal
 abbrev pub invariant-loop-port : goal.invariant-loop-port
 invariant-loop-port g l = record {
   stays : l.crew.was_refused ≡ false → l.fn.crew.was_refused ≡ false;
-  duties : l.crew.was_refused ≡ false → l.crew.duties ≡ l.fn.crew.duties ++ map (port_duty (arc_value l.common.plan)) l.yielded;
+  duties : l.crew.was_refused ≡ false → l.crew.duties ≡ l.fn.crew.duties ++ map (port_duty (arc_value l.context.plan)) l.yielded;
 }

@@ -1,5 +1,5 @@
 -- The events so far are done.
-use Rattle.std.proofs.Common.{◌≡◌, length, take}
+use Rattle.std.proofs.Common.{◌≡◌, take}
 use Rattle.history.specs.declared.caller.Caller.TheVariants.{Port}
 use Rattle.workers.specs.Calls.{HasDoneAll}
 use Rattle.workers.specs.Plans.{own_events}
@@ -10,5 +10,4 @@ invariant-loop-turn g l = record {
   done : HasDoneAll (take l.turn (own_events l.plan (Port l.fn.port.port.pool))) l.fn.port l.port;
   pool : l.port.port.pool ≡ l.fn.port.port.pool;
   closed : l.port.port.is_closed ≡ l.fn.port.port.is_closed;
-  read : length l.read ≡ 2048;
 }

@@ -7,7 +7,7 @@ use Rattle.device.specs.Live.{TracedWorld}
 use Rattle.device.proofs.LiveLemmas.{untouched, told_world_none}
 use Rattle.device.proofs.Loads.{absent_step, closed_listed}
 use Rattle.device.proofs.Views.{lengths}
-use Rattle.device.proofs.Called.{own_met, own_sizes, own_listed, read_world, read_answer, read_holds, absent_listed}
+use Rattle.device.proofs.Called.{own_met, own_sizes, own_listed, read_world, read_answer, absent_listed}
 use Rattle.device.proofs.device.Device.load.Goals as goal
 use Rattle.device.proofs.device.Device.load.Given as given
 
@@ -33,19 +33,16 @@ returns-then-index-len-clause-listed g c = absent_listed c.args.self.now c.args.
 -- ---- it is there
 
 pub returns-clause-world : goal.returns-clause-world
-returns-clause-world g c = read_world (record { profile = c.self.inside.profile; settings = c.self.inside.tables.value; resets = c.self.inside.resets; wire = c.self.inside.wire.frames; unclaimed = c.self.inside.unclaimed }) c.self.inside.units.items c.args.self.now c.from-index.result c.args.pool c.index_mut.result.now c.load.new.unit (MemRead c.args.pool c.args.at c.args.count) c.self.view_is (record { place = c.from-index.ensures; below = omega (arith, c.if-index-len.false, c.len.ensures); is = c.index_mut.ensures.value }) c.load.ensures.function
+returns-clause-world g c = read_world (record { profile = c.self.inside.profile; settings = c.self.inside.tables.value; resets = c.self.inside.resets; wire = c.self.inside.wire.frames; unclaimed = c.self.inside.unclaimed }) c.self.inside.units.items c.args.self.now c.from-index.result c.args.pool c.index_mut.result.now c.load.new.unit (MemRead c.args.pool c.args.at c.args.count) c.self.view_is (record { place = c.from-index.ensures; below = omega (arith, c.if-index-len.false, c.len.ensures); is = c.index_mut.ensures.value }) (c.load.ensures.function c.args.pool)
 
 pub returns-clause-answer : goal.returns-clause-answer
-returns-clause-answer g c = read_answer (record { profile = c.self.inside.profile; settings = c.self.inside.tables.value; resets = c.self.inside.resets; wire = c.self.inside.wire.frames; unclaimed = c.self.inside.unclaimed }) c.self.inside.units.items c.args.self.now c.from-index.result c.args.pool c.index_mut.result.now c.load.new.unit (MemRead c.args.pool c.args.at c.args.count) c.load.result c.self.view_is (record { place = c.from-index.ensures; below = omega (arith, c.if-index-len.false, c.len.ensures); is = c.index_mut.ensures.value }) c.load.ensures.own c.load.ensures.reply c.load.ensures.silent
-
-pub returns-clause-bytes : goal.returns-clause-bytes
-returns-clause-bytes g c = read_holds (record { profile = c.self.inside.profile; settings = c.self.inside.tables.value; resets = c.self.inside.resets; wire = c.self.inside.wire.frames; unclaimed = c.self.inside.unclaimed }) c.self.inside.units.items c.from-index.result c.args.pool c.index_mut.result.now c.load.new.unit c.load.new.out c.load.result (record { place = c.from-index.ensures; below = omega (arith, c.if-index-len.false, c.len.ensures); is = c.index_mut.ensures.value }) c.load.ensures.own c.load.ensures.bytes
+returns-clause-answer g c = read_answer (record { profile = c.self.inside.profile; settings = c.self.inside.tables.value; resets = c.self.inside.resets; wire = c.self.inside.wire.frames; unclaimed = c.self.inside.unclaimed }) c.self.inside.units.items c.args.self.now c.from-index.result c.args.pool c.index_mut.result.now c.load.new.unit (MemRead c.args.pool c.args.at c.args.count) c.load.new.cells c.load.result c.self.view_is (record { place = c.from-index.ensures; below = omega (arith, c.if-index-len.false, c.len.ensures); is = c.index_mut.ensures.value }) (c.load.ensures.reply c.args.pool) (c.load.ensures.silent c.args.pool)
 
 pub returns-clause-met : goal.returns-clause-met
 returns-clause-met g c = own_met g.D.Dma.shared (record { profile = c.self.inside.profile; settings = c.self.inside.tables.value; resets = c.self.inside.resets; wire = c.self.inside.wire.frames; unclaimed = c.self.inside.unclaimed }) c.self.inside.units.items c.args.self.now c.from-index.result c.args.pool c.index_mut.result.now c.load.new.unit c.self.view_is (record { place = c.from-index.ensures; below = omega (arith, c.if-index-len.false, c.len.ensures); is = c.index_mut.ensures.value }) c.load.ensures.met
 
 pub returns-clause-listed : goal.returns-clause-listed
-returns-clause-listed g c = own_listed (record { profile = c.self.inside.profile; settings = c.self.inside.tables.value; resets = c.self.inside.resets; wire = c.self.inside.wire.frames; unclaimed = c.self.inside.unclaimed }) c.self.inside.units.items c.args.self.now c.from-index.result c.args.pool c.index_mut.result.now c.load.new.unit (λ p f. act_accesses f (MemRead c.args.pool c.args.at c.args.count)) c.self.view_is (record { place = c.from-index.ensures; below = omega (arith, c.if-index-len.false, c.len.ensures); is = c.index_mut.ensures.value }) c.load.ensures.listed
+returns-clause-listed g c = own_listed (record { profile = c.self.inside.profile; settings = c.self.inside.tables.value; resets = c.self.inside.resets; wire = c.self.inside.wire.frames; unclaimed = c.self.inside.unclaimed }) c.self.inside.units.items c.args.self.now c.from-index.result c.args.pool c.index_mut.result.now c.load.new.unit (λ p f. act_accesses f (MemRead c.args.pool c.args.at c.args.count)) c.self.view_is (record { place = c.from-index.ensures; below = omega (arith, c.if-index-len.false, c.len.ensures); is = c.index_mut.ensures.value }) (c.load.ensures.listed c.args.pool)
 
 pub returns-clause-sizes : goal.returns-clause-sizes
 returns-clause-sizes g c = own_sizes (record { profile = c.self.inside.profile; settings = c.self.inside.tables.value; resets = c.self.inside.resets; wire = c.self.inside.wire.frames; unclaimed = c.self.inside.unclaimed }) c.self.inside.units.items c.args.self.now c.from-index.result c.args.pool c.index_mut.result.now c.load.new.unit c.self.view_is (record { place = c.from-index.ensures; below = omega (arith, c.if-index-len.false, c.len.ensures); is = c.index_mut.ensures.value }) c.load.ensures.size

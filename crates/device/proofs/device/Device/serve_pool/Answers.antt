@@ -1,23 +1,20 @@
 -- A service, with the frame that it sent switched.
 use Rattle.std.proofs.Common.{◌≡◌, ◌≤◌, ◌∙◌, Some, None, length, refl, ap, subst, sym}
-use Rattle.std.specs.Prelude.{if◌then◌else◌, option_copied}
-use Rattle.local_switch.specs.declared.ways.Source.TheVariants.{Pool}
-use Rattle.local_switch.specs.Switch.{leaves}
+use Rattle.std.specs.Prelude.{if◌then◌else◌}
 use Rattle.device.specs.World.{World}
 use Rattle.device.specs.Live.{told_functions, told_world}
 use Rattle.device.proofs.Fitting.{sent_fits}
 use Rattle.device.proofs.LiveServes.{unsent_live, sent_live, unsent_listed, sent_listed, others_kept, sender_kept}
 use Rattle.device.proofs.device.Device.serve_pool.Goals as goal
-use Rattle.device.proofs.device.Device.serve_pool.Goals.{then-switched, else-switched}
 
 pub returns-then-not-is_sent : goal.returns-then-not-is_sent
 returns-then-not-is_sent g c =
     let none = c.transmit-acted.ensures.sent ∙ ap (λ b. if b then Some c.transmit-acted.new.frame else None) (sym c.is_sent.ensures ∙ c.if-not-is_sent.true) in
     let now = c.transmit-acted.new.self in
     record {
-      takes = unsent_live g.D.Dma.shared c.args.self.now.accesses now.accesses c.args.self.now.world now.world c.args.pool c.args.queue _ c.transmit-acted.result.vectors c.requires.there
+      takes = unsent_live g.D.Dma.shared c.args.self.now.accesses now.accesses c.args.self.now.world now.world c.args.pool c.args.queue _ _ c.transmit-acted.result.vectors c.requires.there
           (others_kept c.args.self.now.accesses now.accesses (told_world c.args.self.now.accesses now.accesses c.args.self.now.world) c.args.pool c.args.queue c.transmit-acted.ensures.listed) c.transmit-acted.ensures.met c.transmit-acted.ensures.world c.transmit-acted.ensures.sizes
-          c.transmit-acted.ensures.reply c.transmit-acted.ensures.messages c.of.ensures none refl refl;
+          c.transmit-acted.ensures.reply c.transmit-acted.ensures.messages c.of.ensures none (ap (λ b. if b then Some c.transmit-acted.new.frame else None) (sym c.is_sent.ensures ∙ c.if-not-is_sent.true)) refl;
       listed = unsent_listed c.args.self.now.accesses now.accesses c.args.self.now.world c.args.pool c.args.queue c.requires.there none c.transmit-acted.ensures.listed;
     }
 
@@ -33,12 +30,10 @@ returns g c =
     let mid = c.transmit-acted.new.self in
     let last = c.switch-switched.new.self in
     let sent = c.transmit-acted.ensures.sent ∙ ap (λ b. if b then Some frame else None) (sym c.is_sent.ensures ∙ c.if-not-is_sent.false) in
-    let left : option_copied c.if-switched.result ≡ (if leaves mid.world.settings (Pool c.args.pool) frame then Some frame else None) =
-    elim c.if-switched.branch [ then-switched w ↦ ap option_copied w.result-is ∙ ap (λ b. if b then Some frame else None) (sym w.if-switched.true ∙ c.switch-switched.ensures.left) | else-switched w ↦ ap option_copied w.result-is ∙ ap (λ b. if b then Some frame else None) (sym w.if-switched.false ∙ c.switch-switched.ensures.left) ] in
     record {
-      takes = sent_live g.D.Dma.shared c.args.self.now.accesses mid.accesses last.accesses c.args.self.now.world mid.world last.world c.args.pool c.args.queue frame _ c.switch-switched.result.messages c.transmit-acted.result.vectors c.requires.there
+      takes = sent_live g.D.Dma.shared c.args.self.now.accesses mid.accesses last.accesses c.args.self.now.world mid.world last.world c.args.pool c.args.queue frame _ _ c.switch-switched.result.messages c.transmit-acted.result.vectors c.requires.there
           (others_kept c.args.self.now.accesses mid.accesses (told_world c.args.self.now.accesses mid.accesses c.args.self.now.world) c.args.pool c.args.queue c.transmit-acted.ensures.listed)
           (sender_kept mid.accesses last.accesses mid.world.settings (told_functions mid.accesses last.accesses mid.world.functions) c.args.pool frame c.switch-switched.ensures.listed) c.transmit-acted.ensures.met c.switch-switched.ensures.met
-          c.transmit-acted.ensures.world c.switch-switched.ensures.world c.transmit-acted.ensures.sizes c.switch-switched.ensures.sizes c.transmit-acted.ensures.reply c.transmit-acted.ensures.messages c.switch-switched.ensures.messages c.set.ensures sent refl left;
+          c.transmit-acted.ensures.world c.switch-switched.ensures.world c.transmit-acted.ensures.sizes c.switch-switched.ensures.sizes c.transmit-acted.ensures.reply c.transmit-acted.ensures.messages c.switch-switched.ensures.messages c.set.ensures sent (ap (λ b. if b then Some frame else None) (sym c.is_sent.ensures ∙ c.if-not-is_sent.false)) (ap (λ b. if b then Some frame else None) c.switch-switched.ensures.left);
       listed = sent_listed c.args.self.now.accesses mid.accesses last.accesses c.args.self.now.world mid.world c.args.pool c.args.queue frame c.requires.there c.transmit-acted.ensures.listed c.switch-switched.ensures.listed c.transmit-acted.ensures.world sent;
     }

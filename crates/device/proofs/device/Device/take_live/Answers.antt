@@ -1,56 +1,59 @@
--- Bytes are read once, and what is answered is what the first cells hold.
-use Rattle.std.proofs.Common.{◌≡◌, ℕ, List, refl, sym, subst}
-use Rattle.device.specs.declared.event.Event.TheVariants.{Open, End, VfRead, VfWrite, MemRead, MemWrite, Serve, Flr, PfRead, PfWrite, PfReset, Wire}
-use Rattle.device.specs.Accesses.{accesses_by, accesses_but_read}
-use Rattle.device.specs.Outcome.{Outcome, HoldsRead}
-use Rattle.device.specs.Request.{Request, event_of}
-use Rattle.device.specs.World.{World}
-use Rattle.device.specs.Live.{told_world, TakesLive, AreListed}
-use Rattle.live_memory.specs.Trace.{Access}
+-- Each event is its arm's. Most touch no memory that others write.
+use Rattle.std.proofs.Common.{refl}
+use Rattle.device.proofs.Written.{write_reads_none, opening_reads_none, asked_taken, untouched_taken, written_taken}
 use Rattle.device.proofs.device.Device.take_live.Goals as goal
 
-pub returns-in-MemRead-clause-takes : goal.returns-in-MemRead-clause-takes
-returns-in-MemRead-clause-takes g c =
-    subst (λ (r : Request). TakesLive g.D.Dma.shared c.args.self.now.accesses c.mem_read_live.new.self.accesses c.args.self.now.world (event_of r) c.mem_read_live.new.self.world c.mem_read_live.result) (sym c.in-MemRead.is) c.mem_read_live.ensures.takes
+pub returns-in-End : goal.returns-in-End
+returns-in-End g c =
+    let t = untouched_taken g.D.Dma.shared c.args.self.now.accesses c.take_end.new.self.accesses c.in-End.is (c.take_end.ensures.takes c.args.room.now) c.take_end.ensures.accesses (λ v p. refl) in
+    record { takes = t.takes; listed = t.listed }
 
-pub returns-in-MemRead-clause-listed : goal.returns-in-MemRead-clause-listed
-returns-in-MemRead-clause-listed g c =
-    subst (λ (r : Request). AreListed (accesses_by (told_world c.args.self.now.accesses c.mem_read_live.new.self.accesses c.args.self.now.world) (event_of r)) c.args.self.now.accesses c.mem_read_live.new.self.accesses) (sym c.in-MemRead.is) c.mem_read_live.ensures.listed
+pub returns-in-Flr : goal.returns-in-Flr
+returns-in-Flr g c =
+    let t = untouched_taken g.D.Dma.shared c.args.self.now.accesses c.take_flr.new.self.accesses c.in-Flr.is (c.take_flr.ensures.takes c.args.room.now) c.take_flr.ensures.accesses (λ v p. refl) in
+    record { takes = t.takes; listed = t.listed }
 
--- no other event reads bytes
-no_other : (cells : List ℕ) (w : World) (o : Outcome) (r : Request) → ((p at count : ℕ) → r ≡ MemRead p at count → ⊥) → HoldsRead cells (event_of r) w o
-no_other cells w o (Open p) not = tt
-no_other cells w o (End p) not = tt
-no_other cells w o (VfRead p offset) not = tt
-no_other cells w o (VfWrite p offset x) not = tt
-no_other cells w o (MemRead p at count) not = absurd (not p at count refl)
-no_other cells w o (MemWrite p at bytes) not = tt
-no_other cells w o (Serve p q) not = tt
-no_other cells w o (Flr p) not = tt
-no_other cells w o (PfRead offset) not = tt
-no_other cells w o (PfWrite offset x) not = tt
-no_other cells w o PfReset not = tt
-no_other cells w o (Wire frame) not = tt
+pub returns-in-MemRead : goal.returns-in-MemRead
+returns-in-MemRead g c =
+    let t = asked_taken g.D.Dma.shared c.args.self.now.accesses c.take_mem_read.new.self.accesses c.in-MemRead.is c.take_mem_read.ensures.takes c.take_mem_read.ensures.listed in
+    record { takes = t.takes; listed = t.listed }
 
--- and so all that it accesses is listed
-all_listed : (before now : List (List Access)) (w : World) (r : Request) → ((p at count : ℕ) → r ≡ MemRead p at count → ⊥) → AreListed (accesses_but_read w (event_of r)) before now → AreListed (accesses_by w (event_of r)) before now
-all_listed before now w (Open p) not h = h
-all_listed before now w (End p) not h = h
-all_listed before now w (VfRead p offset) not h = h
-all_listed before now w (VfWrite p offset x) not h = h
-all_listed before now w (MemRead p at count) not h = absurd (not p at count refl)
-all_listed before now w (MemWrite p at bytes) not h = h
-all_listed before now w (Serve p q) not h = h
-all_listed before now w (Flr p) not h = h
-all_listed before now w (PfRead offset) not h = h
-all_listed before now w (PfWrite offset x) not h = h
-all_listed before now w PfReset not h = h
-all_listed before now w (Wire frame) not h = h
+pub returns-in-MemWrite : goal.returns-in-MemWrite
+returns-in-MemWrite g c =
+    let t = written_taken g.D.Dma.shared c.args.self.now.accesses c.take_mem_write.new.self.accesses c.in-MemWrite.is (c.take_mem_write.ensures.takes c.args.room.now) c.take_mem_write.ensures.listed c.take_mem_write.ensures.met (write_reads_none c.args.self.now.world _ _ _) in
+    record { takes = t.takes; listed = t.listed }
 
-pub returns-in_default : goal.returns-in_default
-returns-in_default g c = record {
-  takes = c.take_unread.ensures.takes;
-  listed = all_listed c.args.self.now.accesses c.take_unread.new.self.accesses (told_world c.args.self.now.accesses c.take_unread.new.self.accesses c.args.self.now.world) c.args.request c.in_default.not-MemRead c.take_unread.ensures.listed;
-  bytes = no_other c.args.bytes.now c.take_unread.new.self.world c.take_unread.result.outcome c.args.request c.in_default.not-MemRead;
-  rest = refl;
-}
+pub returns-in-Open : goal.returns-in-Open
+returns-in-Open g c =
+    let t = written_taken g.D.Dma.shared c.args.self.now.accesses c.take_open.new.self.accesses c.in-Open.is (c.take_open.ensures.takes c.args.room.now) c.take_open.ensures.listed c.take_open.ensures.met (opening_reads_none c.args.self.now.world _) in
+    record { takes = t.takes; listed = t.listed }
+
+pub returns-in-PfRead : goal.returns-in-PfRead
+returns-in-PfRead g c =
+    let t = untouched_taken g.D.Dma.shared c.args.self.now.accesses c.args.self.now.accesses c.in-PfRead.is (c.take_pf_read.ensures c.args.room.now) refl (λ v p. refl) in
+    record { takes = t.takes; listed = t.listed }
+
+pub returns-in-PfReset : goal.returns-in-PfReset
+returns-in-PfReset g c =
+    let t = untouched_taken g.D.Dma.shared c.args.self.now.accesses c.take_pf_reset.new.self.accesses c.in-PfReset.is (c.take_pf_reset.ensures.takes c.args.room.now) c.take_pf_reset.ensures.accesses (λ v p. refl) in
+    record { takes = t.takes; listed = t.listed }
+
+pub returns-in-PfWrite : goal.returns-in-PfWrite
+returns-in-PfWrite g c =
+    let t = untouched_taken g.D.Dma.shared c.args.self.now.accesses c.take_pf_write.new.self.accesses c.in-PfWrite.is (c.take_pf_write.ensures.takes c.args.room.now) c.take_pf_write.ensures.accesses (λ v p. refl) in
+    record { takes = t.takes; listed = t.listed }
+
+pub returns-in-VfRead : goal.returns-in-VfRead
+returns-in-VfRead g c =
+    let t = untouched_taken g.D.Dma.shared c.args.self.now.accesses c.take_vf_read.new.self.accesses c.in-VfRead.is (c.take_vf_read.ensures.takes c.args.room.now) c.take_vf_read.ensures.accesses (λ v p. refl) in
+    record { takes = t.takes; listed = t.listed }
+
+pub returns-in-VfWrite : goal.returns-in-VfWrite
+returns-in-VfWrite g c =
+    let t = untouched_taken g.D.Dma.shared c.args.self.now.accesses c.take_vf_write.new.self.accesses c.in-VfWrite.is (c.take_vf_write.ensures.takes c.args.room.now) c.take_vf_write.ensures.accesses (λ v p. refl) in
+    record { takes = t.takes; listed = t.listed }
+
+pub returns-in-Wire : goal.returns-in-Wire
+returns-in-Wire g c =
+    let t = asked_taken g.D.Dma.shared c.args.self.now.accesses c.take_wire.new.self.accesses c.in-Wire.is (c.take_wire.ensures.takes c.args.room.now) c.take_wire.ensures.listed in
+    record { takes = t.takes; listed = t.listed }

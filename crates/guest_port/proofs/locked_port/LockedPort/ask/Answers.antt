@@ -8,7 +8,7 @@ use Rattle.guest_port.proofs.locked_port.LockedPort.ask.Goals as goal
 pub returns-clause-kept : goal.returns-clause-kept
 returns-clause-kept g c =
     let last : c.in-Some.share ≡ c.self.inside.last.value = search rules in
-    rw (← c.self.view_is) (has_called _ c.self.inside.first.value c.self.inside.last.value _ (event_of c.args.request) _
+    rw (← c.self.view_is) (has_called _ c.self.inside.first.value c.self.inside.last.value _ _ _ (event_of c.args.request) _
     (search rules)
-    (c.of-self-inside.ensures ∙ c.in-Some-taken.ensures.counted ∙ ap (having_asked (event_of c.args.request) _) last)
+    (c.of-self-inside.ensures ∙ c.in-Some-made.ensures.counted ∙ ap (having_asked (event_of c.args.request) _) last)
     (search rules))

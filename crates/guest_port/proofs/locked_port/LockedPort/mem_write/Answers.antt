@@ -3,4 +3,4 @@ use Rattle.guest_port.proofs.Replies.{written_told, replied}
 use Rattle.guest_port.proofs.locked_port.LockedPort.mem_write.Goals as goal
 
 pub done_of-requires : goal.done_of-requires
-done_of-requires g c = written_told c.in-Some.outcome _ _ _ _ (replied _ _ _ _ c.in-Some.ensures.kept)
+done_of-requires g c = (_, written_told _ _ _ _ (replied _ _ _ _ c.in-Ok-ask.ensures.kept))

@@ -1,15 +1,14 @@
--- Where nobody else writes the memories, what is met is what stands there.
-use Rattle.std.proofs.Common.{[], ◌∷◌, ◌++◌, false, refl, ap, ◌∙◌}
+-- An event that brings bytes reads none, whatever the memories hold.
+use Rattle.std.proofs.Common.{ap}
+use Rattle.device.specs.declared.event.Answer.{Answer}
+use Rattle.device.specs.Live.{told_world}
 use Rattle.device.specs.Request.{event_of}
-use Rattle.device.specs.World.{World, step}
-use Rattle.device.proofs.LiveLemmas.{takes_alone, told_world_still}
-use Rattle.history.specs.Entries.{entry}
+use Rattle.history.proofs.BroughtLemmas.{brought_alone}
 use Rattle.history.proofs.history.History.record.Goals as goal
 
-pub returns-clause-takes : goal.returns-clause-takes
-returns-clause-takes g c = takes_alone false c.args.device.now.accesses c.record_live.new.device.accesses c.args.device.now.world (event_of c.args.request) c.record_live.new.device.world c.record_live.result refl c.record_live.ensures.takes
-
-pub returns-clause-entries : goal.returns-clause-entries
-returns-clause-entries g c = c.record_live.ensures.entries
-    ∙ ap (λ (w : World). c.args.self.now.entries ++ entry c.args.caller (event_of c.args.request) (step w (event_of c.args.request)).answer ∷ [])
-    (told_world_still false c.args.device.now.accesses c.record_live.new.device.accesses c.args.device.now.world refl c.record_live.ensures.takes.met)
+pub push-requires : goal.push-requires
+push-requires g c = record {
+  room = c.requires;
+  alone = brought_alone (told_world c.args.device.now.accesses c.take_live-response.new.self.accesses c.args.device.now.world) (event_of c.args.request) c.take_live-response.new.room.bytes c.take_live-response.result.outcome
+      (ap (λ (a : Answer). a.reply) c.take_live-response.ensures.takes.takes.answer);
+}

@@ -1,7 +1,7 @@
 -- One frame more, behind the others.
 use Rattle.std.proofs.Common.{◌≡◌, ◌<◌, ◌≤◌, ◌+◌, ◌++◌, [], ◌∷◌, ℕ, List, length, arith, subst, sym, ap, ◌∙◌}
 use Rattle.std.proofs.lemmas.List.{length-append}
-use Rattle.live_run.specs.Frames.{Room, with_frame}
+use Rattle.live_run.specs.Frames.{FramesState, with_frame}
 use Rattle.live_run.specs.Stored.{IsCut, frames_from}
 use Rattle.live_run.proofs.FrameLemmas.{as_many, cut_more, one_more, room_left}
 use Rattle.live_run.proofs.frames.Frames.push.Goals as goal
@@ -9,7 +9,7 @@ use Rattle.live_run.proofs.frames.Frames.push.Goals as goal
 pub push_reserved-requires : goal.push_reserved-requires
 push_reserved-requires c =
     let room = room_left c.args.self.now c.requires in
-    omega (arith, room.0, as_many 0 c.self.inside.ends.items c.self.inside.bytes.items, ap (λ (r : Room). length r.frames) c.self.view_is, ap (λ (r : Room). r.most) c.self.view_is, c.self.invariant.2)
+    omega (arith, room.0, as_many 0 c.self.inside.ends.items c.self.inside.bytes.items, ap (λ (r : FramesState). length r.frames) c.self.view_is, ap (λ (r : FramesState). r.most) c.self.view_is, c.self.invariant.2)
 
 -- how many bytes there are then
 many : (c : goal.After-push_reserved) → length c.append.new.store.items ≡ length c.self.inside.bytes.items + length c.bytes.result.now
@@ -24,14 +24,14 @@ returns c =
     ∙ ap (λ (f : List ℕ). frames_from 0 c.self.inside.ends.items c.self.inside.bytes.items ++ f ∷ []) c.bytes.ensures.value in
     let used = many c ∙ ap (λ (f : List ℕ). length c.self.inside.bytes.items + length f) c.bytes.ensures.value in
     (λ i. record { frames = frames i; used = used i; most = c.self.inside.most; size = c.self.inside.size })
-    ∙ ap (λ (r : Room). with_frame r c.args.frame.now) c.self.view_is
+    ∙ ap (λ (r : FramesState). with_frame r c.args.frame.now) c.self.view_is
 
 pub invariant_of-self : goal.invariant_of-self
 invariant_of-self c =
     let room = room_left c.args.self.now c.requires in
     let few : length c.self.inside.ends.items < c.self.inside.most =
-    omega (arith, room.0, as_many 0 c.self.inside.ends.items c.self.inside.bytes.items, ap (λ (r : Room). length r.frames) c.self.view_is, ap (λ (r : Room). r.most) c.self.view_is) in
-    let space : length c.self.inside.bytes.items + 9018 ≤ c.self.inside.size = omega (arith, room.1, ap (λ (r : Room). r.used) c.self.view_is, ap (λ (r : Room). r.size) c.self.view_is) in
+    omega (arith, room.0, as_many 0 c.self.inside.ends.items c.self.inside.bytes.items, ap (λ (r : FramesState). length r.frames) c.self.view_is, ap (λ (r : FramesState). r.most) c.self.view_is) in
+    let space : length c.self.inside.bytes.items + 9018 ≤ c.self.inside.size = omega (arith, room.1, ap (λ (r : FramesState). r.used) c.self.view_is, ap (λ (r : FramesState). r.size) c.self.view_is) in
     let short : length c.bytes.result.now ≤ 9018 = omega (arith, c.bytes.ensures.frame.most, ap length c.bytes.ensures.value) in
     let end : c.len.result ≡ length c.append.new.store.items = omega (arith, c.len.ensures) in
     let above : length c.self.inside.bytes.items ≤ c.len.result = omega (arith, end, many c) in (

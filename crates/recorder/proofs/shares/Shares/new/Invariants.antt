@@ -9,5 +9,5 @@ invariant-loop-pool g l = record {
   parts : l.all.parts + l.pool ≡ 67;
   amount : l.all.amount ≡ 0;
   long : length l.ports.items ≡ l.pool;
-  each : (p : ℕ) → p < l.pool → slice_get l.ports.items p ≡ Some (Some (unused (Port p)));
+  each : (p : ℕ) → p < l.pool → slice_get l.ports.items p ≡ Some (Some (unused l.line.line (Port p)));
 }

@@ -1,5 +1,5 @@
 -- Those that are left are apart, as all were.
-use Rattle.std.proofs.Common.{List, sym, subst}
+use Rattle.std.proofs.Common.{sym, subst}
 use Rattle.std.specs.Prelude.{not}
 use Rattle.vfdev_c.specs.GuestDevices.{AreApart, is_mapped_at}
 use Rattle.vfdev_c.specs.declared.blocks.MappedBlock.{MappedBlock}

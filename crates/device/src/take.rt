@@ -26,7 +26,7 @@ impl<D: Dma<K>, K> Device<D, K> {
     /// [`take`](Device::take) does in the world in which each function's memory holds what was read from it: as if its guest had
     /// written just that, right before the event. The memories are accessed just as `accesses_by` lists, in that order, and bytes that
     /// the event reads are read once.
-    #[inline]
+    #[inline(always)]
     pub fn take_live(&mut self, request: Request<'_>, room: &mut Room) -> Response
         ensures takes { TakesLive D.shared self.old.accesses self.new.accesses
             self.old.world (event_of request.entry) self.new.world result room.new }
@@ -177,7 +177,7 @@ impl<M: GuestMem> Device<M> {
     /// let response = device.take(Request::MemRead(0, 8, 2), &mut room);
     /// assert!(rt; room.read(response.outcome) == [7, 0].as_slice());
     /// ```
-    #[inline]
+    #[inline(always)]
     pub fn take(&mut self, request: Request<'_>, room: &mut Room) -> Response
         ensures takes { Takes self.old.world (event_of request.entry) self.new.world result room.new }
         ensures listed { AreListed (accesses_by self.old.world (event_of request.entry))

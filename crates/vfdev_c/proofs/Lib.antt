@@ -5,6 +5,5 @@ mod HandleLemmas
 mod LentLemmas
 mod RecordedLemmas
 mod Silence
-mod TakingLemmas
 pub mod Values
 mod WantedLemmas

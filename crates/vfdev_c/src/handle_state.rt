@@ -15,7 +15,6 @@ use crate::lending::LentBlocks;
 use crate::lent_device::LentDevice;
 use crate::recorder::Recorder;
 use crate::reply::VfdevReply;
-use crate::taking::take;
 use crate::wanted::Wanted;
 use device::laws::isolation;
 use device::{Device, Room};
@@ -93,7 +92,7 @@ impl DeviceKind for Running {
     fn give(&mut self, wanted: Wanted<'_>, out: &mut [u8]) -> Handed {
         isolates(&self.device);
         let request = wanted.laid(&mut self.frame);
-        let response = take(&mut self.device, request, &mut self.room);
+        let response = self.device.take(request, &mut self.room);
         Handed::of(&response, &self.room, out)
     }
 

@@ -11,7 +11,6 @@ use crate::device_kind::DeviceKind;
 use crate::handed::Handed;
 use crate::handle_state::isolates;
 use crate::reply::VfdevReply;
-use crate::taking::take;
 use crate::wanted::Wanted;
 use device::{Device, Queue, Room};
 use live_memory::Shared;
@@ -107,7 +106,7 @@ impl DeviceKind for LentDevice {
     fn give(&mut self, wanted: Wanted<'_>, out: &mut [u8]) -> Handed {
         isolates(&self.device);
         let request = wanted.laid(&mut self.frame);
-        let response = take(&mut self.device, request, &mut self.room);
+        let response = self.device.take_live(request, &mut self.room);
         Handed::of(&response, &self.room, out)
     }
 

@@ -47,7 +47,6 @@ mod recorder;
 pub mod recording;
 pub mod reply;
 pub mod service;
-mod taking;
 pub mod version;
 mod wanted;
 pub mod wired;

@@ -19,7 +19,7 @@ use Rattle.device.specs.Across.Step.{Happens as DeviceHappens, Comes as DeviceCo
 use Rattle.device.proofs.Across.{same_for}
 use Rattle.device.specs.Act.{serve}
 use Rattle.device.specs.Events.{Event}
-use Rattle.device.specs.declared.event.Event.TheVariants.{Open, End, VfRead, VfWrite, MemRead, MemWrite, Serve, Flr, PfRead, PfWrite, PfReset, Wire}
+use Rattle.device.specs.declared.event.Event.TheVariants.{Serve}
 use Rattle.device.specs.Guests.{attach_refusal, attached, detached, is_vacant, prompt_messages}
 use Rattle.device.specs.Lone.{Lone, Item, OwnEvent, Replied, Interrupted, interrupted, is_own, kept, kept_of, lone_of, pool_of, with_settings}
 use Rattle.device.specs.Replies.{Reply}
@@ -134,39 +134,19 @@ step_passes p w t there few none =
 
 -- another's event leaves p's end
 ends_apart : (p : ℕ) (c : CardState) (e : Event) (reply : Reply) → is_pool (pool_of e) p ≡ false → slice_index_or (ends_after c e reply) p quiet ≡ end_at c p
-ends_apart p c (Open r) reply apart = refl
-ends_apart p c (End r) reply apart = refl
-ends_apart p c (VfRead r offset) reply apart = refl
-ends_apart p c (VfWrite r offset x) reply apart = refl
-ends_apart p c (MemRead r at count) reply apart = refl
-ends_apart p c (MemWrite r at bytes) reply apart = refl
 ends_apart p c (Serve r q) reply apart = get_or-set_other c.ends r p (with_busy (end_at c r) q (goes_on reply)) quiet (λ same. false≢true (sym apart ∙ eq-eqb r p (sym same)))
-ends_apart p c (Flr r) reply apart = refl
-ends_apart p c (PfRead offset) reply apart = refl
-ends_apart p c (PfWrite offset x) reply apart = refl
-ends_apart p c PfReset reply apart = refl
-ends_apart p c (Wire frame) reply apart = refl
+ends_apart p c e reply apart = refl
 
 -- and its own makes the same of it
 ends_own : (p : ℕ) (c d : CardState) (e : Event) (one two : Reply) → Pair p c d → is_pool (pool_of e) p ≡ true → one ≡ two
     → slice_index_or (ends_after c e one) p quiet ≡ slice_index_or (ends_after d e two) p quiet
-ends_own p c d (Open r) one two b own same = ends p c d b
-ends_own p c d (End r) one two b own same = ends p c d b
-ends_own p c d (VfRead r offset) one two b own same = ends p c d b
-ends_own p c d (VfWrite r offset x) one two b own same = ends p c d b
-ends_own p c d (MemRead r at count) one two b own same = ends p c d b
-ends_own p c d (MemWrite r at bytes) one two b own same = ends p c d b
 ends_own p c d (Serve r q) one two b own same =
     subst (λ (k : ℕ). slice_index_or (slice_set c.ends k (with_busy (end_at c k) q (goes_on one))) p quiet ≡ slice_index_or (slice_set d.ends k (with_busy (end_at d k) q (goes_on two))) p quiet)
     (sym (eqb-true r p own))
     (get_or-set_same c.ends p (with_busy (end_at c p) q (goes_on one)) quiet (omega (arith, b.below, b.one.ends))
     ∙ (λ i. with_busy (ends p c d b i) q (goes_on (same i)))
     ∙ sym (get_or-set_same d.ends p (with_busy (end_at d p) q (goes_on two)) quiet (omega (arith, b.below, b.two.ends))))
-ends_own p c d (Flr r) one two b own same = ends p c d b
-ends_own p c d (PfRead offset) one two b own same = ends p c d b
-ends_own p c d (PfWrite offset x) one two b own same = ends p c d b
-ends_own p c d PfReset one two b own same = ends p c d b
-ends_own p c d (Wire frame) one two b own same = ends p c d b
+ends_own p c d e one two b own same = ends p c d b
 
 -- what p is, once the device's part of it, its end and its vectors are known
 event_part : (p : ℕ) (c d : CardState) (e f : Event) → Pair p c d → lone_of p (step (world_of c) e).world ≡ lone_of p (step (world_of d) f).world
@@ -218,21 +198,11 @@ sent_here p w q there = ap (λ (b : Bool). if b then (service w p q).sent else N
 
 own_sent : (p : ℕ) (w v : World) (e : Event) → p < length w.functions → p < length v.functions → lone_of p w ≡ lone_of p v → is_own p e ≡ true
     → (if is_own p e then sent_by w e else None) ≡ (if is_own p e then sent_by v e else None)
-own_sent p w v (Open r) there also_there same its = refl
-own_sent p w v (End r) there also_there same its = refl
-own_sent p w v (VfRead r offset) there also_there same its = refl
-own_sent p w v (VfWrite r offset x) there also_there same its = refl
-own_sent p w v (MemRead r at count) there also_there same its = refl
-own_sent p w v (MemWrite r at bytes) there also_there same its = refl
 own_sent p w v (Serve r q) there also_there same its =
     ap (λ (o : Option (List ℕ)). if r == p then o else None)
     (subst (λ (k : ℕ). sent_by w (Serve k q) ≡ sent_by v (Serve k q)) (sym (eqb-true r p its))
     (sent_here p w q there ∙ ap (λ (s : Lone). (serve s.profile.limit s.settings s.function q).sent) same ∙ sym (sent_here p v q also_there)))
-own_sent p w v (Flr r) there also_there same its = refl
-own_sent p w v (PfRead offset) there also_there same its = refl
-own_sent p w v (PfWrite offset x) there also_there same its = refl
-own_sent p w v PfReset there also_there same its = refl
-own_sent p w v (Wire frame) there also_there same its = refl
+own_sent p w v e there also_there same its = refl
 
 -- an event of another's that leaves p nothing
 pub event_passes : (p : ℕ) (c : CardState) (e : Event) → Pair p c c → is_own p e ≡ false → kept_of p (world_of c) e ≡ None → Passes p c (Happens e)

@@ -4,7 +4,7 @@ use Rattle.std.specs.Prelude.{if◌then◌else◌}
 use Rattle.live_memory.specs.Trace.{Access}
 use Rattle.wire_frame.specs.declared.fault.Fault.{Fault}
 use Rattle.device.specs.Events.{Event}
-use Rattle.device.specs.declared.event.Event.TheVariants.{Open, End, VfRead, VfWrite, MemRead, MemWrite, Serve, Flr, PfRead, PfWrite, PfReset, Wire}
+use Rattle.device.specs.declared.event.Event.TheVariants.{Open}
 use Rattle.device.specs.Guests.{attach_refusal, detached, is_vacant}
 use Rattle.vfio_session.specs.declared.decision.Ask.{Ask}
 use Rattle.vfio_session.specs.declared.decision.Ask.TheVariants.{Read, Write, Map, Unmap, Reset, Arm, Disarm}
@@ -39,17 +39,7 @@ told_noted c n p message files =
 
 event_noted : (c : CardState) (n : List (List Access)) (e : Event) → after_deed (with_notes c n) (Happens e) ≡ with_notes (after_deed c (Happens e)) n
 event_noted c n (Open p) = refl
-event_noted c n (End p) = refl
-event_noted c n (VfRead p offset) = refl
-event_noted c n (VfWrite p offset x) = refl
-event_noted c n (MemRead p at count) = refl
-event_noted c n (MemWrite p at bytes) = refl
-event_noted c n (Serve p q) = refl
-event_noted c n (Flr p) = refl
-event_noted c n (PfRead offset) = refl
-event_noted c n (PfWrite offset x) = refl
-event_noted c n PfReset = refl
-event_noted c n (Wire frame) = refl
+event_noted c n e = refl
 
 coming_noted : (c : CardState) (n : List (List Access)) (p : ℕ) (memory : List ℕ) (r : Option Fault) → after_coming (with_notes c n) p memory r ≡ with_notes (after_coming c p memory r) n
 coming_noted c n p memory None = refl

@@ -14,7 +14,7 @@ use Rattle.vf_unit.specs.Guests.{moved_to}
 use Rattle.vf_unit.specs.Unit.{Closed, Function, Open}
 use Rattle.device.specs.Across.{replaced}
 use Rattle.device.specs.Events.{Event}
-use Rattle.device.specs.declared.event.Event.TheVariants.{Open as OpenEvent, End, VfRead, VfWrite, MemRead, MemWrite, Serve, Flr, PfRead, PfWrite, PfReset, Wire}
+use Rattle.device.specs.declared.event.Event.TheVariants.{VfRead, VfWrite, Serve, Flr}
 use Rattle.device.specs.Guests.{attach_refusal, is_vacant, replace_refusal}
 use Rattle.device.specs.Replies.{Reply}
 use Rattle.device.specs.World.{World, function_of, step, with_function, world_after}
@@ -324,18 +324,8 @@ alone_does q c (Offers r) one at below is = subst (λ (k : ℕ). Does q c (after
 -- ---- an event, and a policy
 
 ends_count : (c : CardState) (e : Event) (reply : Reply) → length (ends_after c e reply) ≡ length c.ends
-ends_count c (OpenEvent p) reply = refl
-ends_count c (End p) reply = refl
-ends_count c (VfRead p offset) reply = refl
-ends_count c (VfWrite p offset x) reply = refl
-ends_count c (MemRead p at count) reply = refl
-ends_count c (MemWrite p at bytes) reply = refl
 ends_count c (Serve p q) reply = length-set c.ends p (with_busy (end_at c p) q (goes_on reply))
-ends_count c (Flr p) reply = refl
-ends_count c (PfRead offset) reply = refl
-ends_count c (PfWrite offset x) reply = refl
-ends_count c PfReset reply = refl
-ends_count c (Wire frame) reply = refl
+ends_count c e reply = refl
 
 event_stands : (c : CardState) (e : Event) → sets_registers e ≡ false → IsCard c → Stands c (after_deed c (Happens e))
 event_stands c e none is = record {

@@ -11,7 +11,7 @@ use Rattle.local_switch.specs.Switch.{is_accepted}
 use Rattle.device.specs.Across.{Saw}
 use Rattle.wire_frame.specs.declared.fault.Fault.TheVariants.{NoSuchVf}
 use Rattle.device.specs.Events.{Event}
-use Rattle.device.specs.declared.event.Event.TheVariants.{Open, End, VfRead, VfWrite, MemRead, MemWrite, Serve, Flr, PfRead, PfWrite, PfReset, Wire}
+use Rattle.device.specs.declared.event.Event.TheVariants.{VfWrite, Wire}
 use Rattle.device.specs.declared.event.Reply.TheVariants.{Done}
 use Rattle.device.specs.Erased.{IsApart}
 use Rattle.device.specs.Act.{act}
@@ -125,20 +125,10 @@ hears_same laws group p q c d message files b none free = go (ltb q (length (wor
 -- ---- what a deed tells
 
 event_same : (group : ℕ → Bool) (p : ℕ) (c d : CardState) (e : Event) → Pair group p c d → LeavesNoInput group c → input_in group c (Happens e) ≡ input_in group d (Happens e)
-event_same group p c d (Open q) b none = refl
-event_same group p c d (End q) b none = refl
-event_same group p c d (VfRead q offset) b none = refl
-event_same group p c d (VfWrite q offset x) b none = refl
-event_same group p c d (MemRead q at count) b none = refl
-event_same group p c d (MemWrite q at bytes) b none = refl
-event_same group p c d (Serve q k) b none = refl
-event_same group p c d (Flr q) b none = refl
-event_same group p c d (PfRead offset) b none = refl
-event_same group p c d (PfWrite offset x) b none = refl
-event_same group p c d PfReset b none = refl
 event_same group p c d (Wire frame) b none =
     ap (λ (t : Bool). Some (t && not (is_accepted (world_of c).settings frame))) none.default_pool
     ∙ sym (ap (λ (t : Bool). Some (t && not (is_accepted (world_of d).settings frame))) (ap (is_outside group) (sym (default_same group p c d b)) ∙ none.default_pool))
+event_same group p c d e b none = refl
 
 input_same : Laws → (group : ℕ → Bool) (p : ℕ) (c d : CardState) (x : Deed) → Pair group p c d → LeavesNoInput group c → is_groups group x ≡ false → input_in group c x ≡ input_in group d x
 input_same laws group p c d (Hears q message files) b none free = ap Some (hears_same laws group p q c d message files b none free)

@@ -3,7 +3,7 @@ use Rattle.std.proofs.Common.{◌≡◌, ℕ, ◌<◌, Bool, true, false, ◌&&�
 use Rattle.std.specs.Prelude.{if◌then◌else◌}
 use Rattle.std.specs.List.{All, cons_option}
 use Rattle.std.proofs.lemmas.List.Elements.{All-cons, All-head, All-nil, All-tail}
-use Rattle.device.specs.declared.event.Event.TheVariants.{Open, End, VfRead, VfWrite, MemRead, MemWrite, Serve, Flr, PfRead, PfWrite, PfReset, Wire}
+use Rattle.device.specs.declared.event.Event.TheVariants.{Open}
 use Rattle.device.specs.Events.{Event}
 use Rattle.device.specs.Erased.{IsApart}
 use Rattle.mailbox.specs.Within.{KeepsPolicies}
@@ -104,17 +104,7 @@ input_parts (Some a) (Some b) xs ys is same = (ap (λ (l : List Bool). Some (hea
 
 event_shape : (group : ℕ → Bool) (c d : CardState) (e : Event) → is_some (input_in group c (Happens e)) ≡ is_some (input_in group d (Happens e))
 event_shape group c d (Open q) = refl
-event_shape group c d (End q) = refl
-event_shape group c d (VfRead q offset) = refl
-event_shape group c d (VfWrite q offset x) = refl
-event_shape group c d (MemRead q at count) = refl
-event_shape group c d (MemWrite q at bytes) = refl
-event_shape group c d (Serve q k) = refl
-event_shape group c d (Flr q) = refl
-event_shape group c d (PfRead offset) = refl
-event_shape group c d (PfWrite offset x) = refl
-event_shape group c d PfReset = refl
-event_shape group c d (Wire frame) = refl
+event_shape group c d e = refl
 
 pub input_shape : (group : ℕ → Bool) (c d : CardState) (x : Deed) → is_some (input_in group c x) ≡ is_some (input_in group d x)
 input_shape group c d (Hears q message files) = refl

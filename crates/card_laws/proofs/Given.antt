@@ -10,7 +10,7 @@ use Rattle.pool_filter.specs.Settings.{Settings}
 use Rattle.pool_filter.specs.Accepts.{accepts, default_pool}
 use Rattle.local_switch.specs.Switch.{is_accepted, is_pool, takes_from_pool, takes_from_wire}
 use Rattle.device.specs.Events.{Event}
-use Rattle.device.specs.declared.event.Event.TheVariants.{Open, End, VfRead, VfWrite, MemRead, MemWrite, Serve, Flr, PfRead, PfWrite, PfReset, Wire}
+use Rattle.device.specs.declared.event.Event.TheVariants.{Serve, PfRead, PfWrite, PfReset, Wire}
 use Rattle.device.specs.Erased.{IsApart, is_member}
 use Rattle.device.specs.Lone.{Offer, OwnEvent, is_own, kept_of, kept_sent, pool_of}
 use Rattle.device.specs.World.{World, sent_by, service}
@@ -71,18 +71,12 @@ service_none group p q k w few small is outside apart =
 
 event_none : (group : ℕ → Bool) (p : ℕ) (w : World) (e : Event) → length w.functions ≤ 64 → p < 64 → is_member group (pool_of e) ≡ true → group p ≡ false
     → ((is_groups group (Happens e) && is_service (Happens e)) ≡ true → IsApart group w.settings) → kept_of p w e ≡ None
-event_none group p w (Open q) few small is outside apart = refl
-event_none group p w (End q) few small is outside apart = refl
-event_none group p w (VfRead q offset) few small is outside apart = refl
-event_none group p w (VfWrite q offset x) few small is outside apart = refl
-event_none group p w (MemRead q at count) few small is outside apart = refl
-event_none group p w (MemWrite q at bytes) few small is outside apart = refl
 event_none group p w (Serve q k) few small is outside apart = service_none group p q k w few small is outside (apart (ap (λ (b : Bool). b && true) is))
-event_none group p w (Flr q) few small is outside apart = refl
 event_none group p w (PfRead offset) few small is outside apart = absurd (true≢false (sym is))
 event_none group p w (PfWrite offset x) few small is outside apart = absurd (true≢false (sym is))
 event_none group p w PfReset few small is outside apart = absurd (true≢false (sym is))
 event_none group p w (Wire frame) few small is outside apart = absurd (true≢false (sym is))
+event_none group p w e few small is outside apart = refl
 
 pub groups_none : (group : ℕ → Bool) (p : ℕ) (c : CardState) (x : Deed) → IsCard c → p < 64 → group p ≡ false → is_groups group x ≡ true
     → ((is_groups group x && is_service x) ≡ true → IsApart group (world_of c).settings) → given_in p c x ≡ None
@@ -199,20 +193,13 @@ serve_same laws group p q k c d b free = go (ltb q (length (world_of c).function
 
 kept_same : Laws → (group : ℕ → Bool) (p : ℕ) (c d : CardState) (e : Event) → Pair group p c d → is_member group (pool_of e) ≡ false → sets_registers e ≡ false
     → input_in group c (Happens e) ≡ input_in group d (Happens e) → kept_of p (world_of c) e ≡ kept_of p (world_of d) e
-kept_same laws group p c d (Open q) b free none same = refl
-kept_same laws group p c d (End q) b free none same = refl
-kept_same laws group p c d (VfRead q offset) b free none same = refl
-kept_same laws group p c d (VfWrite q offset x) b free none same = refl
-kept_same laws group p c d (MemRead q at count) b free none same = refl
-kept_same laws group p c d (MemWrite q at bytes) b free none same = refl
 kept_same laws group p c d (Serve q k) b free none same = serve_same laws group p q k c d b free
-kept_same laws group p c d (Flr q) b free none same = refl
-kept_same laws group p c d (PfRead offset) b free none same = refl
 kept_same laws group p c d (PfWrite offset x) b free none same = absurd (true≢false none)
 kept_same laws group p c d PfReset b free none same = absurd (true≢false none)
 kept_same laws group p c d (Wire frame) b free none same =
     let limit : (world_of c).profile.limit ≡ (world_of d).profile.limit = ap (λ (r : Part). r.lone.profile.limit) (alike_here group p c d b).part in
     (λ i. if ltb (limit i) (length frame) then None else (if wire_same group p c d frame b (some_is same) i then Some (Offer frame false) else None))
+kept_same laws group p c d e b free none same = refl
 
 loses_same : (group : ℕ → Bool) (p q : ℕ) (policy : Policy) (c d : CardState) → Pair group p c d → loses_to c.hosted.host q policy p ≡ loses_to d.hosted.host q policy p
 loses_same group p q policy c d b =

@@ -3,7 +3,7 @@ use Rattle.std.proofs.Common.{◌≡◌, ℕ, Bool, true, false, Option, Some, N
 use Rattle.wire_frame.specs.declared.fault.Fault.{Fault}
 use Rattle.vf_unit.specs.Unit.{Function}
 use Rattle.device.specs.Events.{Event}
-use Rattle.device.specs.declared.event.Event.TheVariants.{Open, End, VfRead, VfWrite, MemRead, MemWrite, Serve, Flr, PfRead, PfWrite, PfReset, Wire}
+use Rattle.device.specs.declared.event.Event.TheVariants.{MemWrite, Wire}
 use Rattle.device.specs.Replies.{Reply}
 use Rattle.device.specs.declared.event.Reply.TheVariants.{Done, Value, Bytes, Idle, More, Sent, Dropped, Faulted, Refused}
 use Rattle.device.specs.Outcome.{Outcome, reply_of}
@@ -45,16 +45,7 @@ step_unread : (w : World) (e : Event) → brings e ≡ true → is_bytes (step w
 unfolding is_bytes
 step_unread w (MemWrite p at bytes) does = either (nat_lt p (length w.functions)) _ _ (act_unread (function_of p w) (MemWrite p at bytes) refl) refl
 step_unread w (Wire frame) does = either (nat_lt w.profile.limit (length frame)) _ _ refl refl
-step_unread w (Open p) does = absurd (cc)
-step_unread w (End p) does = absurd (cc)
-step_unread w (VfRead p offset) does = absurd (cc)
-step_unread w (VfWrite p offset x) does = absurd (cc)
-step_unread w (MemRead p at count) does = absurd (cc)
-step_unread w (Serve p q) does = absurd (cc)
-step_unread w (Flr p) does = absurd (cc)
-step_unread w (PfRead offset) does = absurd (cc)
-step_unread w (PfWrite offset x) does = absurd (cc)
-step_unread w PfReset does = absurd (cc)
+step_unread w e does = absurd (cc)
 
 pub brought_alone : (w : World) (e : Event) (cells : List ℕ) (o : Outcome) → reply_of cells o ≡ (step w e).answer.reply → brings e ≡ true → reads o ≡ false
 brought_alone w e cells o same does = sym (is_bytes_of cells o) ∙ ap is_bytes same ∙ step_unread w e does

@@ -1,58 +1,30 @@
 -- An event by its head and the bytes that it brings, and a reply by its kind.
 use Rattle.std.proofs.Common.{◌≡◌, ℕ, true, List, refl, sym, ap, ◌∙◌}
 use Rattle.device.specs.Events.{Event}
-use Rattle.device.specs.declared.event.Event.TheVariants.{Open, End, VfRead, VfWrite, MemRead, MemWrite, Serve, Flr, PfRead, PfWrite, PfReset, Wire}
+use Rattle.device.specs.declared.event.Event.TheVariants.{MemWrite, Wire}
 use Rattle.device.specs.declared.event.Reply.TheVariants.{Done, Value, Bytes, Idle, More, Sent, Dropped, Faulted, Refused}
 use Rattle.history.specs.declared.head.EventHead.{EventHead}
-use Rattle.history.specs.declared.head.EventHead.TheVariants.{Open, End, VfRead, VfWrite, MemRead, MemWrite, Serve, Flr, PfRead, PfWrite, PfReset, Wire}
+use Rattle.history.specs.declared.head.EventHead.TheVariants.{Open, MemWrite, Wire}
 use Rattle.history.specs.Entries.{brings}
 use Rattle.history.specs.Heads.{ReplyKind, brought, event_with, head_of, reply_with}
 
 again : (e : Event) (bytes : List ℕ) → (brings e ≡ true → brought e ≡ bytes) → e ≡ event_with bytes (head_of e)
-again (Open p) bytes same = refl
-again (End p) bytes same = refl
-again (VfRead p offset) bytes same = refl
-again (VfWrite p offset x) bytes same = refl
-again (MemRead p at count) bytes same = refl
 again (MemWrite p at written) bytes same = ap (λ (xs : List ℕ). MemWrite p at xs) (same refl)
-again (Serve p q) bytes same = refl
-again (Flr p) bytes same = refl
-again (PfRead offset) bytes same = refl
-again (PfWrite offset x) bytes same = refl
-again PfReset bytes same = refl
 again (Wire frame) bytes same = ap (λ (xs : List ℕ). Wire xs) (same refl)
+again e bytes same = refl
 
 -- an event of that head, which brings these bytes if it brings some, is the one of both
 pub event_by : (h : EventHead) (bytes : List ℕ) (e : Event) → h ≡ head_of e → (brings e ≡ true → brought e ≡ bytes) → e ≡ event_with bytes h
 event_by h bytes e head same = again e bytes same ∙ ap (event_with bytes) (sym head)
 
 head_again : (h : EventHead) (bytes : List ℕ) → h ≡ head_of (event_with bytes h)
-head_again (Open p) bytes = refl
-head_again (End p) bytes = refl
-head_again (VfRead p offset) bytes = refl
-head_again (VfWrite p offset x) bytes = refl
-head_again (MemRead p count at) bytes = refl
-head_again (MemWrite p at) bytes = refl
-head_again (Serve p q) bytes = refl
-head_again (Flr p) bytes = refl
-head_again (PfRead offset) bytes = refl
-head_again (PfWrite offset x) bytes = refl
-head_again PfReset bytes = refl
 head_again Wire bytes = refl
+head_again e bytes = refl
 
 bytes_again : (h : EventHead) (bytes : List ℕ) → brings (event_with bytes h) ≡ true → brought (event_with bytes h) ≡ bytes
 bytes_again (MemWrite p at) bytes brings = refl
 bytes_again Wire bytes brings = refl
-bytes_again (Open p) bytes brings = absurd (cc)
-bytes_again (End p) bytes brings = absurd (cc)
-bytes_again (VfRead p offset) bytes brings = absurd (cc)
-bytes_again (VfWrite p offset x) bytes brings = absurd (cc)
-bytes_again (MemRead p count at) bytes brings = absurd (cc)
-bytes_again (Serve p q) bytes brings = absurd (cc)
-bytes_again (Flr p) bytes brings = absurd (cc)
-bytes_again (PfRead offset) bytes brings = absurd (cc)
-bytes_again (PfWrite offset x) bytes brings = absurd (cc)
-bytes_again PfReset bytes brings = absurd (cc)
+bytes_again e bytes brings = absurd (cc)
 
 -- and the event of a head and of bytes has that head, and brings these bytes if it brings some
 pub has_head : (h : EventHead) (bytes : List ℕ) (e : Event) → e ≡ event_with bytes h → h ≡ head_of e

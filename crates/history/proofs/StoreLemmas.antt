@@ -5,7 +5,7 @@ use Rattle.std.proofs.Math.Seq.{drop-append_seam}
 use Rattle.std.proofs.lemmas.List.{length-map, map-append, take-append-le, drop-append-le, take_all}
 use Rattle.std.proofs.lemmas.List.Elements.{All-head, All-tail, All-weaker, All-push}
 use Rattle.device.specs.Events.{Event}
-use Rattle.device.specs.declared.event.Event.TheVariants.{Open, End, VfRead, VfWrite, MemRead, MemWrite, Serve, Flr, PfRead, PfWrite, PfReset, Wire}
+use Rattle.device.specs.declared.event.Event.TheVariants.{Open}
 use Rattle.device.specs.declared.event.Reply.TheVariants.{Done, Value, Bytes, Idle, More, Sent, Dropped, Faulted, Refused}
 use Rattle.device.specs.Outcome.{Outcome, reply_of}
 use Rattle.history.specs.declared.head.Head.{Head}
@@ -51,17 +51,7 @@ entries_stay store more (h ∷ hs) all =
 -- the event comes back from its head and the bytes
 event_back : (cells : List ℕ) (e : Event) (o : Outcome) → event_with (moved cells e o) (head_of e) ≡ e
 event_back cells (Open p) o = refl
-event_back cells (End p) o = refl
-event_back cells (VfRead p offset) o = refl
-event_back cells (VfWrite p offset x) o = refl
-event_back cells (MemRead p at count) o = refl
-event_back cells (MemWrite p at bytes) o = refl
-event_back cells (Serve p q) o = refl
-event_back cells (Flr p) o = refl
-event_back cells (PfRead offset) o = refl
-event_back cells (PfWrite offset x) o = refl
-event_back cells PfReset o = refl
-event_back cells (Wire frame) o = refl
+event_back cells e o = refl
 
 -- and so does the reply, since an event that brings bytes reads none
 reply_back : (cells : List ℕ) (e : Event) (o : Outcome) → (brings e ≡ true → reads o ≡ false) → reply_with (moved cells e o) (kind_of o) ≡ reply_of cells o

@@ -6,7 +6,7 @@ use Rattle.std.proofs.lemmas.Bool.{eq-eqb, eqb-true, false≢true}
 use Rattle.std.proofs.lemmas.List.{get_or-set_other, get_or_default}
 use Rattle.std.proofs.lemmas.List.Elements.{All-cons, All-head, All-tail, All-nil}
 use Rattle.device.specs.Events.{Event}
-use Rattle.device.specs.declared.event.Event.TheVariants.{Open, End, VfRead, VfWrite, MemRead, MemWrite, Serve, Flr, PfRead, PfWrite, PfReset, Wire}
+use Rattle.device.specs.declared.event.Event.TheVariants.{VfRead, VfWrite, Flr}
 use Rattle.device.specs.Lone.{Item, Lone, keep, kept, lone_after, lone_of}
 use Rattle.device.specs.World.{World, step, world_after}
 use Rattle.device.proofs.Unwinding.{isolated_state}
@@ -59,15 +59,7 @@ register_none : (p q : ℕ) (w : World) (e : Event) → q ≢ p → IsRegister p
 register_none p q w (VfRead r offset) other is = rw (apart r q (λ same. other (same ∙ is))) refl
 register_none p q w (VfWrite r offset x) other is = rw (apart r q (λ same. other (same ∙ is))) refl
 register_none p q w (Flr r) other is = rw (apart r q (λ same. other (same ∙ is))) refl
-register_none p q w (Open r) other is = absurd is
-register_none p q w (End r) other is = absurd is
-register_none p q w (MemRead r at n) other is = absurd is
-register_none p q w (MemWrite r at bytes) other is = absurd is
-register_none p q w (Serve r k) other is = absurd is
-register_none p q w (PfRead offset) other is = absurd is
-register_none p q w (PfWrite offset x) other is = absurd is
-register_none p q w PfReset other is = absurd is
-register_none p q w (Wire frame) other is = absurd is
+register_none p q w e other is = absurd is
 
 kept_none : (p q : ℕ) (h : HostState) (w : World) (t : Turn) → q ≢ p → IsOf p t → kept_in q h w t ≡ []
 kept_none p q h w (Happens e) other is = register_none p q w e other is
@@ -80,15 +72,7 @@ sets_none : (p : ℕ) (e : Event) → IsRegister p e → sets_registers e ≡ fa
 sets_none p (VfRead r offset) is = refl
 sets_none p (VfWrite r offset x) is = refl
 sets_none p (Flr r) is = refl
-sets_none p (Open r) is = absurd is
-sets_none p (End r) is = absurd is
-sets_none p (MemRead r at n) is = absurd is
-sets_none p (MemWrite r at bytes) is = absurd is
-sets_none p (Serve r k) is = absurd is
-sets_none p (PfRead offset) is = absurd is
-sets_none p (PfWrite offset x) is = absurd is
-sets_none p PfReset is = absurd is
-sets_none p (Wire frame) is = absurd is
+sets_none p e is = absurd is
 
 is_turn : (p : ℕ) (t : Turn) → p < 64 → IsOf p t → IsTurn t
 is_turn p (Happens e) below is = sets_none p e is

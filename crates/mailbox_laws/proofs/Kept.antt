@@ -16,11 +16,12 @@ use Rattle.device.specs.Act.{act, is_bad_offset}
 use Rattle.device.specs.Replies.{is_done}
 use Rattle.device.specs.declared.event.Reply.TheVariants.{Done, Value}
 use Rattle.device.specs.Events.{Event}
-use Rattle.device.specs.declared.event.Event.TheVariants.{Open, End, VfRead, VfWrite, MemRead, MemWrite, Serve, Flr, PfRead, PfWrite, PfReset, Wire}
+use Rattle.device.specs.declared.event.Event.TheVariants.{Serve, Flr, PfRead, PfWrite, PfReset, Wire}
 use Rattle.device.specs.declared.profile.Profile.{Profile}
 use Rattle.device.specs.World.{World, fresh_with, step, world_after, function_of, acted, own_step, service, served, switched, all_raised, pf_word, pf_written, refused, replied}
 use Rattle.device.specs.Lone.{NewSettings, kept, keep, changed_settings}
 use Rattle.device.proofs.Append.{world_after_append, keep_append}
+use Rattle.device.proofs.Owners.{owner}
 use Rattle.mailbox.specs.declared.slot.Slot.{Slot}
 use Rattle.mailbox.specs.declared.message.Message.{Message}
 use Rattle.mailbox.specs.declared.writes.Write.{Write}
@@ -197,12 +198,6 @@ own_stays w p e = go (ltb p (length w.functions))
     go false = refl
 
 pub event_stays : (w : World) (e : Event) → sets_registers e ≡ false → (step w e).world.settings ≡ w.settings
-event_stays w (Open p) none = own_stays w p (Open p)
-event_stays w (End p) none = own_stays w p (End p)
-event_stays w (VfRead p offset) none = own_stays w p (VfRead p offset)
-event_stays w (VfWrite p offset x) none = own_stays w p (VfWrite p offset x)
-event_stays w (MemRead p at count) none = own_stays w p (MemRead p at count)
-event_stays w (MemWrite p at bytes) none = own_stays w p (MemWrite p at bytes)
 event_stays w (Serve p q) none = go (ltb p (length w.functions)) (service w p q).sent
   where
     go : (b : Bool) (sent : Option (List ℕ)) → (cond b (served w p (service w p q) sent) (refused w NoSuchVf)).world.settings ≡ w.settings
@@ -226,6 +221,7 @@ event_stays w (Wire frame) none = go (ltb w.profile.limit (length frame))
     go : (b : Bool) → (cond b (refused w BadFrame) (record { world = switched w FromWire frame; answer = record { reply = Done; raised = all_raised w.settings w.functions FromWire frame } })).world.settings ≡ w.settings
     go true = refl
     go false = refl
+event_stays w e none = own_stays w (owner e) e
 
 -- ---- turns
 

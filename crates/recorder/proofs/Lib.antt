@@ -1,5 +1,4 @@
 mod CallLemmas
-mod CallerLemmas
 mod RaiseLemmas
 mod ShareLemmas
 mod SizeLemmas

@@ -94,7 +94,7 @@ fn is_of_service(request: Request<'_>) -> bool
 
 // Whether it is an event of a pool's own function, which its port may make.
 #[inline]
-#[tactic(auto, using(crate::proofs::CallerLemmas::whose_asked))]
+#[tactic(auto, using(device::proofs::Owners::whose_asked))]
 fn is_own(own: PoolId, request: Request<'_>) -> bool
     ensures { result ≡ is_own own (event_of request.entry) }
 {
@@ -107,7 +107,7 @@ fn is_own(own: PoolId, request: Request<'_>) -> bool
 
 // Whether it is an event of the physical function, which its driver may make.
 #[inline]
-#[tactic(auto, using(crate::proofs::CallerLemmas::whose_asked))]
+#[tactic(auto, using(device::proofs::Owners::whose_asked))]
 fn is_of_driver(request: Request<'_>) -> bool
     ensures { result ≡ is_of_driver (event_of request.entry) }
 {
@@ -116,7 +116,7 @@ fn is_of_driver(request: Request<'_>) -> bool
 
 // Whether it brings a frame from the wire.
 #[inline]
-#[tactic(auto, using(crate::proofs::CallerLemmas::whose_asked))]
+#[tactic(auto, using(device::proofs::Owners::whose_asked))]
 fn is_frame(request: Request<'_>) -> bool
     ensures { result ≡ is_frame (event_of request.entry) }
 {

@@ -7,12 +7,13 @@ use Rattle.wire_frame.specs.declared.fault.Fault.{Fault}
 use Rattle.wire_frame.specs.declared.fault.Fault.TheVariants.{NoSuchVf, BadOffset}
 use Rattle.vf_unit.specs.Unit.{Function}
 use Rattle.device.specs.Events.{Event}
-use Rattle.device.specs.declared.event.Event.TheVariants.{Open, End, VfRead, VfWrite, MemRead, MemWrite, Serve, Flr, PfRead, PfWrite, PfReset, Wire}
+use Rattle.device.specs.declared.event.Event.TheVariants.{VfWrite, Serve, Flr, PfRead, PfWrite, PfReset, Wire}
 use Rattle.device.specs.Replies.{Reply, is_done}
 use Rattle.device.specs.declared.event.Reply.TheVariants.{Done, Value}
 use Rattle.device.specs.Act.{performed, unless_refused, refusal, act, is_bad_offset}
 use Rattle.device.specs.World.{World, Stepped, function_of, acted, refused, replied, own_step, pf_word, pf_written, step}
 use Rattle.device.proofs.Arrivals.{raised_nothing}
+use Rattle.device.proofs.Owners.{owner}
 use Rattle.vfdev_c.specs.Handle.{is_silent}
 
 unless_silent : (why : Option Fault) (f : Function) (e : Event) → (performed f e).messages ≡ 0 → (unless_refused why f e).messages ≡ 0
@@ -41,12 +42,7 @@ chosen_silent v w r true = refl
 chosen_silent v w r false = refl
 
 pub silent_step : (w : World) (e : Event) → is_silent e ≡ true → (step w e).answer.raised ≡ no_messages
-silent_step w (Open p) is = own_silent w p (Open p) refl
-silent_step w (End p) is = own_silent w p (End p) refl
-silent_step w (VfRead p offset) is = own_silent w p (VfRead p offset) refl
 silent_step w (VfWrite p offset x) is = absurd (true≢false (sym is))
-silent_step w (MemRead p at count) is = own_silent w p (MemRead p at count) refl
-silent_step w (MemWrite p at bytes) is = own_silent w p (MemWrite p at bytes) refl
 silent_step w (Serve p q) is = absurd (true≢false (sym is))
 silent_step w (Flr p) is =
     flagged_silent p (own_step w p (Flr p)) (is_done (own_step w p (Flr p)).answer.reply) ∙ own_silent w p (Flr p) refl
@@ -54,3 +50,4 @@ silent_step w (PfRead offset) is = chosen_silent w w (Value (pf_word w offset)) 
 silent_step w (PfWrite offset x) is = chosen_silent w (pf_written w offset x) Done (is_bad_offset 0x20000 offset)
 silent_step w PfReset is = refl
 silent_step w (Wire frame) is = absurd (true≢false (sym is))
+silent_step w e is = own_silent w (owner e) e refl

@@ -8,7 +8,7 @@ use Rattle.offload.proofs.Parts.{length-slice}
 use Rattle.vf_unit.specs.Unit.{Function, Closed, Open as Opened, is_open, bytes_at}
 use Rattle.device.specs.Events.{Event}
 use Rattle.device.specs.declared.event.Answer.{Answer}
-use Rattle.device.specs.declared.event.Event.TheVariants.{Open, End, VfRead, VfWrite, MemRead, MemWrite, Serve, Flr, PfRead, PfWrite, PfReset, Wire}
+use Rattle.device.specs.declared.event.Event.TheVariants.{Open, MemRead}
 use Rattle.device.specs.declared.response.Response.{Response}
 use Rattle.device.specs.declared.room.Room.{Room}
 use Rattle.device.specs.Accesses.{accesses_by}
@@ -47,18 +47,8 @@ listed_long w p at count false r is =
 
 -- any event but a read is kept as it is
 pub kept_itself : (e : Event) → is_mem_read e ≡ false → kept_as e ≡ e
-kept_itself (Open p) not = refl
-kept_itself (End p) not = refl
-kept_itself (VfRead p offset) not = refl
-kept_itself (VfWrite p offset x) not = refl
 kept_itself (MemRead p at count) not = absurd (true≢false not)
-kept_itself (MemWrite p at bytes) not = refl
-kept_itself (Serve p q) not = refl
-kept_itself (Flr p) not = refl
-kept_itself (PfRead offset) not = refl
-kept_itself (PfWrite offset x) not = refl
-kept_itself PfReset not = refl
-kept_itself (Wire frame) not = refl
+kept_itself e not = refl
 
 -- the device does the same by the event that a call is kept as, sends the same, and accesses the same
 pub record Alike (w : World) (e : Event) : Type 0 where

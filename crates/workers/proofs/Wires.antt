@@ -12,6 +12,7 @@ use Rattle.device.specs.declared.event.Event.TheVariants.{PfReset, Wire}
 use Rattle.device.specs.declared.event.Whose.{Whose}
 use Rattle.device.specs.declared.event.Whose.TheVariants.{Function, Physical, Wire as TheWire}
 use Rattle.device.specs.Whose.{whose_of}
+use Rattle.device.proofs.Owners.{whose_asked}
 use Rattle.history.specs.declared.caller.Caller.{Caller}
 use Rattle.history.specs.declared.caller.Caller.TheVariants.{Driver, Pump, Service}
 use Rattle.recorder.specs.Callers.{is_of_wire}
@@ -29,7 +30,7 @@ use Rattle.workers.specs.Frames.{came_by, frames_of}
 use Rattle.workers.specs.Pair.{AreNew, HasPumped, HasRead}
 use Rattle.workers.specs.Plans.{Planned, own_events}
 use Rattle.workers.proofs.Turns.{apart, not_port, own_at}
-use Rattle.workers.proofs.Whose.{a_frame, whose_asked}
+use Rattle.workers.proofs.Whose.{a_frame}
 use Rattle.workers.proofs.Worked.{one_done}
 
 abbrev pub IsWire : Event → Type 0

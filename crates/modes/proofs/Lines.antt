@@ -6,8 +6,8 @@ use Rattle.std.proofs.lemmas.List.Elements.{All-nil, All-push}
 use Rattle.std.proofs.lemmas.Option.{get_or_from_slice_get, slice_get_within}
 use Rattle.atomic_table.specs.Seated.{TableId}
 use Rattle.irq_line.specs.Line.{GuestEnd, new_guest}
-use Rattle.guest_port.specs.Irq.{SeatedPort}
 use Rattle.guest_port.specs.Notes.{Known}
+use Rattle.guest_port.specs.Port.{Port}
 use Rattle.recorder.specs.declared.shares.Shares.{Shares}
 use Rattle.recorder.specs.Held.{CallerLog}
 use Rattle.recorder.specs.Made.{AreUnused}
@@ -58,24 +58,24 @@ ask_as old new pump ports ask p m is =
 
 -- ---- ports and seats
 
-pub port_line : (line : TableId) (ports : List (SeatedPort × Known)) (k : ℕ) (p : SeatedPort × Known) → ArePortsOf line ports → k < length ports → p ≡ get_or ports k p → p.0.port.seat.line ≡ line
-port_line line ports k p are less is = ap (λ (q : SeatedPort × Known). q.0.port.seat.line) is ∙ are k p less
+pub port_line : {P : Type 0} (meaning : P → Port) (line : TableId) (ports : List (P × Known)) (k : ℕ) (p : P × Known) → ArePortsOf meaning line ports → k < length ports → p ≡ get_or ports k p → (meaning p.0).seat.line ≡ line
+port_line {P} meaning line ports k p are less is = ap (λ (q : P × Known). (meaning q.0).seat.line) is ∙ are k p less
 
 -- one port more
-pub ports_more : (line : TableId) (old new : List (SeatedPort × Known)) (p : SeatedPort × Known) → new ≡ old ++ p ∷ [] → p.0.port.seat.line ≡ line → ArePortsOf line old → ArePortsOf line new
-ports_more line old new p more is are = subst (ArePortsOf line) (sym more) (All-push (λ (q : SeatedPort × Known). q.0.port.seat.line ≡ line) old p are is)
+pub ports_more : {P : Type 0} (meaning : P → Port) (line : TableId) (old new : List (P × Known)) (p : P × Known) → new ≡ old ++ p ∷ [] → (meaning p.0).seat.line ≡ line → ArePortsOf meaning line old → ArePortsOf meaning line new
+ports_more {P} meaning line old new p more is are = subst (ArePortsOf meaning line) (sym more) (All-push (λ (q : P × Known). (meaning q.0).seat.line ≡ line) old p are is)
 
-pub no_ports : (line : TableId) (ports : List (SeatedPort × Known)) → ports ≡ [] → ArePortsOf line ports
-no_ports line ports none = subst (ArePortsOf line) (sym none) (All-nil (λ (q : SeatedPort × Known). q.0.port.seat.line ≡ line))
+pub no_ports : {P : Type 0} (meaning : P → Port) (line : TableId) (ports : List (P × Known)) → ports ≡ [] → ArePortsOf meaning line ports
+no_ports {P} meaning line ports none = subst (ArePortsOf meaning line) (sym none) (All-nil (λ (q : P × Known). (meaning q.0).seat.line ≡ line))
 
 -- all seats that a line is made with
 pub seats_all : (line : TableId) (seats : List GuestEnd) → length seats ≡ 64 → ((p : ℕ) → p < 64 → slice_get seats p ≡ Some (record { line = line; view = new_guest p })) → AreSeatsOf line seats
 seats_all line seats many each = λ k d less.
     ap (λ (s : GuestEnd). s.line) (get_or_from_slice_get seats k (record { line = line; view = new_guest k }) d (each k (subst (λ (n : ℕ). k < n) many less)))
 
-pub ports_as : (line now : TableId) (ports : List (SeatedPort × Known)) → now ≡ line → ArePortsOf line ports → ArePortsOf now ports
-ports_as line now ports same are = subst (λ (l : TableId). ArePortsOf l ports) (sym same) are
+pub ports_as : {P : Type 0} (meaning : P → Port) (line now : TableId) (ports : List (P × Known)) → now ≡ line → ArePortsOf meaning line ports → ArePortsOf meaning now ports
+ports_as meaning line now ports same are = subst (λ (l : TableId). ArePortsOf meaning l ports) (sym same) are
 
 -- where the pump's share stays
-pub ports_still : (old new : CallerLog) (ports : List (SeatedPort × Known)) → new ≡ old → ArePortsOf old.line ports → ArePortsOf new.line ports
-ports_still old new ports same are = ports_as old.line new.line ports (ap (λ (share : CallerLog). share.line) same) are
+pub ports_still : {P : Type 0} (meaning : P → Port) (old new : CallerLog) (ports : List (P × Known)) → new ≡ old → ArePortsOf meaning old.line ports → ArePortsOf meaning new.line ports
+ports_still meaning old new ports same are = ports_as meaning old.line new.line ports (ap (λ (share : CallerLog). share.line) same) are

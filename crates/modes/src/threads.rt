@@ -4,6 +4,7 @@ ghost use Rattle.std.specs.Arc.{arc_value};
 ghost use Rattle.script.specs.Reading.{script_of};
 ghost use Rattle.script.specs.Shapes.{asked_by};
 ghost use Rattle.recorder.specs.Made.{AreUnused, IsFresh, begun};
+ghost use Rattle.guest_port.specs.Irq.{SeatedPort};
 ghost use Rattle.modes.specs.Faults.{is_late};
 ghost use Rattle.modes.specs.Program.{device_of, StopsAt};
 ghost use Rattle.modes.specs.Room.{most_calls};
@@ -166,14 +167,26 @@ fn with_ports<M: GuestMem + Send + 'static, R: Threads + Wait + Copy + Send + 's
     ensures late { IfOk result (λ played. IfErr played (λ e. is_late e ≡ true)) }
 {
     let (line, seats) = make(alloc)?;
-    let ports = ports_of(alloc, &line, seats, script.shape().functions)?;
+    let made = ports_of(alloc, &line, seats, script.shape().functions)?;
+    let mut ports = Vec::with_capacity(alloc, made.len())?;
+    for (port, note) in made {
+        let port: Box<dyn GuestPort + Send> = Box::new(alloc, port)?;
+        ports.push((port, note))?;
+    }
     let parts = RunParts {
         script,
         memories: live,
         line,
         ports,
     };
-    play_threads::<M, Brand, R, W>(rt, alloc, Blank::new(67), parts, other, writer)
+    play_threads::<M, Box<dyn GuestPort + Send>, Brand, R, W>(
+        rt,
+        alloc,
+        Blank::new(67),
+        parts,
+        other,
+        writer,
+    )
 }
 
 // The ports of the first functions, each with a note of its end, over their seats of the device's line.
@@ -186,7 +199,7 @@ fn ports_of(
     count: u8,
 ) -> Result<Vec<(IrqPort, EndNote)>, Fault>
     requires seats { AreSeatsOf line.now.line seats.items }
-    ensures line { IfOk result (λ ports. ArePortsOf line.now.line ports.items) }
+    ensures line { IfOk result (λ ports. ArePortsOf (λ (p : SeatedPort). p.port) line.now.line ports.items) }
     ensures late { IfErr result (λ e. is_late e ≡ true) }
 {
     let mut ports = Vec::with_capacity(alloc, usize::from(count))?;
@@ -205,23 +218,24 @@ fn ports_of(
 
 // What a run by threads is made of.
 #[derive(Drop)]
-struct RunParts<M: GuestMem> {
+struct RunParts<M: GuestMem, P: GuestPort> {
     script: Script,
     // of the functions of the live device
     memories: Vec<M>,
     // the device's seat of the interrupt line
     line: DeviceSeat,
     // of its functions, over the other seats of that line
-    ports: Vec<(IrqPort, EndNote)>,
+    ports: Vec<(P, EndNote)>,
 }
 
 // Does a script by threads on a device over these memories, with ports of its functions, replays its history on the other
 // device, and writes of both. What makes the device and its lock is in calls of its own: a device is too large to stand on the
 // stack while workers run.
 #[inline(never)]
-#[tactic(auto, using(crate::proofs::Told::late_of_run, crate::proofs::Lines::ports_as))]
+#[tactic(auto, using(crate::proofs::Told::late_of_run))]
 fn play_threads<
     M: GuestMem + Send + 'static,
+    P: GuestPort + Send + 'static,
     L: Ledger + Send + Sync + 'static,
     R: Threads + Wait + Copy + Send + 'static,
     W: Write,
@@ -229,13 +243,13 @@ fn play_threads<
     rt: R,
     alloc: Global,
     blank: Blank,
-    parts: RunParts<M>,
+    parts: RunParts<M, P>,
     other: &mut Device<M>,
     writer: &mut W,
 ) -> Result<Result<(), Fault>, Fault>
     requires blank { (blank.name ≡ L.name) × (blank.parts ≡ L.parts) × (blank.parts ≡ 67) }
     requires line { parts.line.raises ≡ [] }
-    requires ports { ArePortsOf parts.line.line parts.ports.items }
+    requires ports { ArePortsOf P.meaning parts.line.line parts.ports.items }
     requires other { other.old.world ≡ device_of parts.script.device }
     ensures unread { OnErr result (writer.new ≡ writer.old) }
     ensures why { IfErr result (λ e. is_of_run e ≡ true) }
@@ -263,6 +277,7 @@ fn play_threads<
 #[tactic(auto, using(crate::proofs::Told::late_of_run, crate::proofs::Lines::unused_ask, crate::proofs::Lines::ask_as, crate::proofs::Lines::ports_still))]
 fn run_all<
     M: GuestMem + Send + 'static,
+    P: GuestPort + Send + 'static,
     L: Ledger + Send + Sync + 'static,
     R: Threads + Wait + Copy + Send + 'static,
 >(
@@ -271,10 +286,10 @@ fn run_all<
     script: Arc<Script>,
     locked: &Arc<LockedDevice<M, L>>,
     mut shares: Shares<L>,
-    ports: Vec<(IrqPort, EndNote)>,
+    ports: Vec<(P, EndNote)>,
 ) -> Result<Ended<L>, Fault>
     requires unused { AreUnused shares.pump.line shares }
-    requires ports { ArePortsOf shares.pump.line ports.items }
+    requires ports { ArePortsOf P.meaning shares.pump.line ports.items }
     ensures many { IfOk result (λ ended. length ended.shares.items ≡ 67) }
     ensures why { IfErr result (λ e. is_of_run e ≡ true) }
 {
@@ -385,15 +400,15 @@ fn lock<M: GuestMem, L: Ledger>(
 
 // The ports of these pools, with their device and their shares: of those that can make calls.
 #[inline(never)]
-fn seat_all<M: GuestMem, L: Ledger>(
+fn seat_all<M: GuestMem, L: Ledger, P: GuestPort>(
     alloc: Global,
     device: &Arc<LockedDevice<M, L>>,
     shares: &mut Shares<L>,
-    all: Vec<(IrqPort, EndNote)>,
+    all: Vec<(P, EndNote)>,
     pools: &[u8],
-) -> Result<Vec<(LockedPort<M, L, IrqPort>, EndNote)>, AllocError>
+) -> Result<Vec<(LockedPort<M, L, P>, EndNote)>, AllocError>
     requires ask { AskLine shares.old.pump.line shares.old.ports.items }
-    requires ports { ArePortsOf shares.old.pump.line all.items }
+    requires ports { ArePortsOf P.meaning shares.old.pump.line all.items }
     ensures others { (shares.new.pf ≡ shares.old.pf) × (shares.new.pump ≡ shares.old.pump)
         × (shares.new.service ≡ shares.old.service) }
 {
@@ -408,13 +423,13 @@ fn seat_all<M: GuestMem, L: Ledger>(
 
 // A port with its device and its share, where it is of one of these pools. What was raised for its pool before is taken and discarded:
 // a port begins here. None where the port has ended or its share was handed out before, so that it could make no call.
-fn seat<M: GuestMem, L: Ledger>(
+fn seat<M: GuestMem, L: Ledger, P: GuestPort>(
     device: &Arc<LockedDevice<M, L>>,
     shares: &mut Shares<L>,
     pools: &[u8],
-    mut port: IrqPort,
-) -> Result<Option<LockedPort<M, L, IrqPort>>, AllocError>
-    requires line { port.port.seat.line ≡ shares.old.pump.line }
+    mut port: P,
+) -> Result<Option<LockedPort<M, L, P>>, AllocError>
+    requires line { (P.meaning port).seat.line ≡ shares.old.pump.line }
     requires ask { AskLine shares.old.pump.line shares.old.ports.items }
     ensures ask { AskLine shares.new.pump.line shares.new.ports.items }
     ensures others { (shares.new.pf ≡ shares.old.pf) × (shares.new.pump ≡ shares.old.pump)

@@ -62,7 +62,7 @@ impl Handed {
         let left = put_frame(room.left(response), out);
         Handed {
             reply: VfdevReply::of(response.outcome),
-            messages: response.messages,
+            messages: Messages::from_words(response.messages.words()),
             left,
         }
     }

@@ -86,7 +86,7 @@ impl VfdevReply {
     }
 
     /// What an outcome stands for.
-    #[inline]
+    #[inline(always)]
     pub fn of(outcome: Outcome) -> VfdevReply
         ensures { (cells : List ℕ) → result ≡ shown (reply_of cells outcome) }
     {

@@ -68,12 +68,12 @@ fn ran<L: Ledger + Send + Sync + 'static, R: Threads + Wait + Copy + Send + 'sta
     let Ok((device, mut shares)) = locked::<FlatMem, L>(alloc, blank, line, live, None, 1) else {
         return None;
     };
-    if prepare(&rt, alloc, &script, &device, &mut shares).is_err() {
-        return None;
-    }
     let Some(share) = port_share(&mut shares, port.pool()) else {
         return None;
     };
+    if prepare(&rt, alloc, &script, &device, &mut shares).is_err() {
+        return None;
+    }
     let there = Arc::try_clone(&device).ok()?;
     let mut ports = Vec::with_capacity(alloc, 1).ok()?;
     ports

@@ -80,7 +80,7 @@ struct Made<M: GuestMem, L: Ledger> {
 }
 
 // Makes the devices.
-#[tactic(auto, using(lock_support::proofs::Lines::pump_line, lock_support::proofs::Lines::unused_shares))]
+#[tactic(auto, using(lock_support::proofs::Lines::pump_line))]
 fn make<M: GuestMem, L: Ledger>(
     alloc: Global,
     blank: Blank,
@@ -95,15 +95,28 @@ fn make<M: GuestMem, L: Ledger>(
 {
     let live = Device::new(alloc, live)?;
     let other = Device::new(alloc, other)?;
-    let (recorded, shares, fresh) = if plan.kind == Kind::Fold {
+    if plan.kind == Kind::Fold {
         let (recorded, shares) = Recorded::<M, L>::with_twin(
             alloc, blank, live, other, line, plan.cap,
         )?;
-        (recorded, shares, None)
+        behind_lock(alloc, recorded, shares, None)
     } else {
         let (recorded, shares) = Recorded::<M, L>::new(alloc, blank, live, line, plan.cap)?;
-        (recorded, shares, Some(other))
-    };
+        behind_lock(alloc, recorded, shares, Some(other))
+    }
+}
+
+// The recorded device behind its lock, with its shares and with the device that is to give the same answers, if there is one.
+fn behind_lock<M: GuestMem, L: Ledger>(
+    alloc: Global,
+    recorded: Recorded<M, L>,
+    shares: Shares<L>,
+    fresh: Option<Device<M>>,
+) -> Result<Made<M, L>>
+    requires pump { shares.pump.caller ≡ Pump }
+    requires left { AreSharesOf shares.pump.line shares.ports.items }
+    ensures line { IfOk result (λ made. made.shares.pump.line ≡ shares.pump.line) }
+{
     Ok(Made {
         device: LockedDevice::new(alloc, recorded)?,
         shares,

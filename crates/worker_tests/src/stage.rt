@@ -117,6 +117,30 @@ fn port_of<L: Ledger>(
     }
 }
 
+// The same where its pool is one of these, and else none.
+fn port_among<L: Ledger>(
+    alloc: Global,
+    device: &Arc<LockedDevice<FlatMem, L>>,
+    shares: &mut Shares<L>,
+    place: GuestSeat,
+    pools: &[u8],
+) -> Option<Option<(Port<L>, EndNote)>>
+    requires line { place.line ≡ shares.old.pump.line }
+    requires shares { AreSharesOf shares.old.pump.line shares.old.ports.items }
+    ensures shares { AreSharesOf shares.new.pump.line shares.new.ports.items }
+    ensures pf { shares.new.pf ≡ shares.old.pf }
+    ensures pump { shares.new.pump ≡ shares.old.pump }
+    ensures service { shares.new.service ≡ shares.old.service }
+{
+    if !pools.contains(&place.pool()) {
+        return Some(None);
+    }
+    match port_of(alloc, device, shares, place) {
+        Some(made) => Some(Some(made)),
+        None => None,
+    }
+}
+
 // The ports of pools, with the device and their shares. The last of them has the note that is handed in, if one is.
 fn seated<L: Ledger>(
     alloc: Global,
@@ -137,8 +161,7 @@ fn seated<L: Ledger>(
         let Some(place) = last_seat(&mut seats, &shares.pump) else {
             break;
         };
-        if pools.contains(&place.pool()) {
-            let (port, note) = port_of(alloc, device, shares, place)?;
+        if let Some((port, note)) = port_among(alloc, device, shares, place, pools)? {
             ports.push((port, other.take().unwrap_or(note))).ok()?;
         }
     }

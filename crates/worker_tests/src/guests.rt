@@ -59,8 +59,8 @@ const TWO_GUESTS: &str = "vfs 3 4096\n\
     r 2 VFLINKS\n\
     r 2 VFLINKS\n";
 
-// The workers, in the order of their starts, which is that of their joins too.
-const WORKERS: [&str; 6] = ["port1", "port2", "pf", "pump", "reader", "service"];
+// The workers, in the order of their starts, which is that of their joins too. Ports are seated from the last on.
+const WORKERS: [&str; 6] = ["port2", "port1", "pf", "pump", "reader", "service"];
 
 // Whether these are the lines of the workers' starts and ends.
 fn are_logged(alloc: Global, lines: &[String]) -> Result<bool, Fail> {

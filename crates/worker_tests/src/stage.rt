@@ -32,7 +32,7 @@ pub struct Seen {
     pub entries: [u64; 67],
 }
 
-/// What a test hands in: the line and its seats, the pools that have ports, a note that the first of these has in the place of its own, if
+/// What a test hands in: the line and its seats, the pools that have ports, a note that the last of these has in the place of its own, if
 /// any, the memories of the device, those of its twin, if it has one, and how many calls are kept.
 #[derive(Drop)]
 pub struct Setting {
@@ -141,7 +141,7 @@ fn port_among<L: Ledger>(
     }
 }
 
-// The ports of pools, with the device and their shares. The last of them has the note that is handed in, if one is.
+// The ports of pools, from the last on, with the device and their shares. The last of the pools has the note that is handed in, if one is.
 fn seated<L: Ledger>(
     alloc: Global,
     device: &Arc<LockedDevice<FlatMem, L>>,

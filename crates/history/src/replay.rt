@@ -96,7 +96,9 @@ impl History {
         self.is_answer(index, &response, &replay.room)
     }
 
-    /// Steps a device through all calls, the oldest first.
+    /// Steps a device through all calls, the oldest first. It is a call of its own: what a replay lays out takes 20 KB of the stack, which
+    /// whoever folds calls only now and then is not to have in its frame.
+    #[inline(never)]
     pub fn step_all<M: GuestMem>(&self, device: &mut Device<M>)
         ensures { device.new.world ≡ world_after device.old.world (events self.now.entries) }
     {
@@ -107,6 +109,7 @@ impl History {
     }
 
     /// The same, and tells whether the device gave all their answers: each reply with its bytes, and all messages.
+    #[inline(never)]
     pub fn gives_all<M: GuestMem>(&self, device: &mut Device<M>) -> bool
         ensures world { device.new.world ≡ world_after device.old.world (events self.now.entries) }
         ensures same { IsTrue result

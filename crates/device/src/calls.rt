@@ -97,7 +97,7 @@ impl<D: Dma<K>, K> Device<D, K> {
     ///
     /// [`Fault::NoSuchVf`], then [`Fault::NotOpen`], then [`Fault::BadOffset`] where the offset is no multiple of 4 or not
     /// below 0x4000.
-    #[inline]
+    #[inline(always)]
     pub fn vf_read(&mut self, pool: u8, offset: u32) -> Result<u32, Fault>
         ensures world { self.new.world ≡ (step self.old.world (Event.VfRead pool offset)).world }
         ensures answer { silently (value_or_refused result)
@@ -116,7 +116,7 @@ impl<D: Dma<K>, K> Device<D, K> {
     /// write to an offset that no register has does nothing.
     ///
     /// Refused as [`vf_read`](Device::vf_read) is.
-    #[inline]
+    #[inline(always)]
     pub fn vf_write(&mut self, pool: u8, offset: u32, value: u32) -> Result<Messages, Fault>
         ensures world { self.new.world ≡ (step self.old.world (Event.VfWrite pool offset value)).world }
         ensures answer { messages_or_refused result
@@ -137,7 +137,7 @@ impl<D: Dma<K>, K> Device<D, K> {
     /// Writes bytes of a guest's memory from an address on.
     ///
     /// [`Fault::NoSuchVf`], then [`Fault::NotOpen`], then [`Fault::BadRange`] where they pass the end of the memory.
-    #[inline]
+    #[inline(always)]
     pub fn mem_write(&mut self, pool: u8, at: u64, written: MemSlice<'_>) -> Result<(), Fault>
         ensures world { self.new.world
             ≡ (step self.old.world (Event.MemWrite pool at written.entry.bytes.now)).world }
@@ -157,7 +157,7 @@ impl<D: Dma<K>, K> Device<D, K> {
     }
 
     // Reads bytes of a guest's memory once, into the first cells, where others may write it meanwhile.
-    #[inline]
+    #[inline(always)]
     pub(crate) fn load(
         &mut self,
         pool: u8,
@@ -313,7 +313,7 @@ impl<D: Dma<K>, K> Device<D, K> {
     }
 
     /// Takes a frame from the wire, as [`wire`](Device::wire) does, where others may write the memories meanwhile.
-    #[inline]
+    #[inline(always)]
     pub fn wire_live(&mut self, frame: &FrameBuf) -> Result<Messages, Fault>
         ensures world { self.new.world
             ≡ (step (told_world self.old.accesses self.new.accesses self.old.world)
@@ -340,7 +340,7 @@ impl<M: GuestMem> Device<M> {
     ///
     /// [`Fault::NoSuchVf`], then [`Fault::NotOpen`], then [`Fault::TooLong`] for more than 2048 bytes, then
     /// [`Fault::BadRange`] where they pass the end of the memory.
-    #[inline]
+    #[inline(always)]
     pub fn mem_read(&self, pool: u8, at: u64, out: &mut [u8]) -> Result<(), Fault>
         ensures world { self.now.world ≡ (step self.now.world (Event.MemRead pool at (length out.old))).world }
         ensures answer { silently (bytes_or_refused result out.new)

@@ -56,34 +56,6 @@ impl Response {
         }
     }
 
-    // A register that was read.
-    #[inline]
-    fn read(value: u32) -> Response
-        ensures outcome { result.outcome ≡ Reply.Value value }
-        ensures messages { result.messages ≡ no_messages }
-        ensures left { result.left ≡ false }
-    {
-        Response {
-            outcome: Outcome::Value(value),
-            messages: Messages::none(),
-            left: false,
-        }
-    }
-
-    // An event that was refused.
-    #[inline]
-    fn refused(fault: Fault) -> Response
-        ensures outcome { result.outcome ≡ Reply.Refused fault }
-        ensures messages { result.messages ≡ no_messages }
-        ensures left { result.left ≡ false }
-    {
-        Response {
-            outcome: Outcome::Refused(fault),
-            messages: Messages::none(),
-            left: false,
-        }
-    }
-
     // What was done, or refused.
     #[inline]
     pub(crate) fn done_or_refused(done: Result<(), Fault>) -> Response
@@ -93,7 +65,7 @@ impl Response {
     {
         match done {
             Ok(()) => Response::done_with(Messages::none()),
-            Err(fault) => Response::refused(fault),
+            Err(fault) => Response::silent(Outcome::Refused(fault)),
         }
     }
 
@@ -105,8 +77,8 @@ impl Response {
         ensures left { result.left ≡ false }
     {
         match value {
-            Ok(value) => Response::read(value),
-            Err(fault) => Response::refused(fault),
+            Ok(value) => Response::silent(Outcome::Value(value)),
+            Err(fault) => Response::silent(Outcome::Refused(fault)),
         }
     }
 
@@ -119,7 +91,7 @@ impl Response {
     {
         match messages {
             Ok(messages) => Response::done_with(messages),
-            Err(fault) => Response::refused(fault),
+            Err(fault) => Response::silent(Outcome::Refused(fault)),
         }
     }
 

@@ -53,7 +53,7 @@ impl<D: Dma<K>, K> Device<D, K> {
     // The arms of `take_live`, each a call of its own: what an arm keeps for itself is cleared on its own path alone.
 
     // A read of a function's register.
-    #[inline]
+    #[inline(always)]
     fn take_vf_read(&mut self, pool: u8, offset: u32) -> Response
         ensures takes { (room : Room) → Takes self.old.world (Event.VfRead pool offset) self.new.world result room }
         ensures accesses { self.new.accesses ≡ self.old.accesses }
@@ -62,7 +62,7 @@ impl<D: Dma<K>, K> Device<D, K> {
     }
 
     // A write of a function's register.
-    #[inline]
+    #[inline(always)]
     fn take_vf_write(&mut self, pool: u8, offset: u32, value: u32) -> Response
         ensures takes { (room : Room) → Takes self.old.world (Event.VfWrite pool offset value) self.new.world result room }
         ensures accesses { self.new.accesses ≡ self.old.accesses }
@@ -71,7 +71,7 @@ impl<D: Dma<K>, K> Device<D, K> {
     }
 
     // A read of a function's memory, into the room.
-    #[inline]
+    #[inline(always)]
     fn take_mem_read(&mut self, pool: u8, at: u64, count: u16, room: &mut Room) -> Response
         ensures takes { TakesLive D.shared self.old.accesses self.new.accesses
             self.old.world (Event.MemRead pool at count) self.new.world result room.new }
@@ -83,7 +83,7 @@ impl<D: Dma<K>, K> Device<D, K> {
     }
 
     // A write of a function's memory.
-    #[inline]
+    #[inline(always)]
     fn take_mem_write(&mut self, pool: u8, at: u64, written: MemSlice<'_>) -> Response
         ensures takes { (room : Room) → Takes self.old.world (Event.MemWrite pool at written.entry.bytes.now) self.new.world result room }
         ensures listed { AreListed
@@ -95,7 +95,7 @@ impl<D: Dma<K>, K> Device<D, K> {
     }
 
     // A frame from the wire.
-    #[inline]
+    #[inline(always)]
     fn take_wire(&mut self, frame: &FrameBuf) -> Response
         ensures takes { (room : Room) → TakesLive D.shared self.old.accesses self.new.accesses
             self.old.world (Event.Wire frame.now) self.new.world result room }
@@ -107,7 +107,7 @@ impl<D: Dma<K>, K> Device<D, K> {
     }
 
     // A read of a register of the physical function.
-    #[inline]
+    #[inline(always)]
     fn take_pf_read(&self, offset: u32) -> Response
         ensures { (room : Room) → Takes self.now.world (Event.PfRead offset) self.now.world result room }
     {
@@ -115,7 +115,7 @@ impl<D: Dma<K>, K> Device<D, K> {
     }
 
     // A write of a register of the physical function.
-    #[inline]
+    #[inline(always)]
     fn take_pf_write(&mut self, offset: u32, value: u32) -> Response
         ensures takes { (room : Room) → Takes self.old.world (Event.PfWrite offset value) self.new.world result room }
         ensures accesses { self.new.accesses ≡ self.old.accesses }
@@ -124,7 +124,7 @@ impl<D: Dma<K>, K> Device<D, K> {
     }
 
     // A function is opened.
-    #[inline]
+    #[inline(always)]
     fn take_open(&mut self, pool: u8) -> Response
         ensures takes { (room : Room) → Takes self.old.world (Event.Open pool) self.new.world result room }
         ensures listed { AreListed (accesses_by self.old.world (Event.Open pool))
@@ -135,7 +135,7 @@ impl<D: Dma<K>, K> Device<D, K> {
     }
 
     // A function is closed.
-    #[inline]
+    #[inline(always)]
     fn take_end(&mut self, pool: u8) -> Response
         ensures takes { (room : Room) → Takes self.old.world (Event.End pool) self.new.world result room }
         ensures accesses { self.new.accesses ≡ self.old.accesses }
@@ -144,7 +144,7 @@ impl<D: Dma<K>, K> Device<D, K> {
     }
 
     // A function is reset.
-    #[inline]
+    #[inline(always)]
     fn take_flr(&mut self, pool: u8) -> Response
         ensures takes { (room : Room) → Takes self.old.world (Event.Flr pool) self.new.world result room }
         ensures accesses { self.new.accesses ≡ self.old.accesses }
@@ -153,7 +153,7 @@ impl<D: Dma<K>, K> Device<D, K> {
     }
 
     // The device is reset.
-    #[inline]
+    #[inline(always)]
     fn take_pf_reset(&mut self) -> Response
         ensures takes { (room : Room) → Takes self.old.world Event.PfReset self.new.world result room }
         ensures accesses { self.new.accesses ≡ self.old.accesses }
@@ -244,7 +244,7 @@ impl<M: GuestMem> Device<M> {
     }
 
     // Takes one event, and adds its answer, for which there is room.
-    #[inline]
+    #[inline(always)]
     fn step_onto(&mut self, event: &Event, room: &mut Room, given: &mut Vec<Answer>)
         requires { vec_len given.old < vec_capacity given.old }
         ensures world { self.new.world ≡ (step self.old.world event.now).world }

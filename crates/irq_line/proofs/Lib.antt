@@ -1,4 +1,5 @@
 mod Keeps
 mod Places
+pub mod SeatLemmas
 mod Story
 mod Word

@@ -3,7 +3,7 @@
 -- the views.
 use Rattle.std.specs.Prelude.{◌≡◌, ℕ, ◌+◌, ◌-◌, ◌<◌, ◌≤◌, ◌==◌, if◌then◌else◌, ◌⊎◌, List, [], ◌∷◌, ◌++◌, filter, flat_map, length, slice_index, slice_index_or, bit_or}
 use Rattle.std.specs.Int.{bit_at}
-use Rattle.std.specs.List.{sum_by}
+use Rattle.std.specs.List.{All, sum_by}
 use Rattle.atomic_table.specs.Table.{State, Me, Step}
 use Rattle.atomic_table.specs.Seated.{TableId}
 use Rattle.irq_line.specs.declared.views.Raise.{Raise}
@@ -248,3 +248,8 @@ pub record DeviceEnd : Type 0 where
 pub record GuestEnd : Type 0 where
   pub line : TableId
   pub view : GuestView
+
+-- ---- the seats of one line
+
+abbrev pub AreSeatsOf : TableId → List GuestEnd → Type 0
+AreSeatsOf line seats = All (λ (seat : GuestEnd). seat.line ≡ line) seats

@@ -1,7 +1,8 @@
 //! Seats of a line, and shares for a device of that line: a port's seat and its share are of one line.
 ghost use Rattle.std.specs.Prelude.{◌≡◌, [], IfOk, IfSome};
 ghost use Rattle.history.specs.declared.caller.Caller.TheVariants.{Port};
-ghost use Rattle.lock_support.specs.Lines.{AreSeatsOf, AreSharesOf};
+ghost use Rattle.irq_line.specs.Line.{AreSeatsOf};
+ghost use Rattle.recorder.specs.Made.{AreSharesOf};
 
 use device_lock::{Share, Shares};
 use irq_line::{DeviceSeat, GuestSeat, make};
@@ -10,7 +11,7 @@ use std::sync::ledger::Ledger;
 use wire_frame::Fault;
 
 /// A line: the device's seat, and those of the guests, in the order of their pools.
-#[tactic(auto, using(crate::proofs::Lines::made_seats))]
+#[tactic(auto, using(irq_line::proofs::SeatLemmas::made_seats))]
 pub fn line(alloc: Global) -> Result<(DeviceSeat, Vec<GuestSeat>), Fault>
     ensures line { IfOk result (λ r. r.0.raises ≡ []) }
     ensures seats { IfOk result (λ r. AreSeatsOf r.0.line r.1.items) }
@@ -45,7 +46,7 @@ pub fn last_seat<L: Ledger>(seats: &mut Vec<GuestSeat>, share: &Share<L>) -> Opt
 }
 
 /// The share of a pool's port. None where it was handed out.
-#[tactic(auto, using(crate::proofs::Lines::shares_still))]
+#[tactic(auto, using(recorder::proofs::LineLemmas::shares_still))]
 pub fn port_share<L: Ledger>(shares: &mut Shares<L>, pool: u8) -> Option<Share<L>>
     requires { AreSharesOf shares.old.pump.line shares.old.ports.items }
     ensures caller { IfSome result (λ share. share.caller ≡ Port pool) }

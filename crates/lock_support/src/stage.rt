@@ -1,7 +1,6 @@
 //! A recorded device, by itself and behind its lock, and what a caller is answered.
 ghost use Rattle.std.specs.Prelude.{◌≡◌, [], IfOk};
-ghost use Rattle.lock_support.specs.Lines.{AreSharesOf};
-ghost use Rattle.recorder.specs.Made.{AreUnused, IsFresh};
+ghost use Rattle.recorder.specs.Made.{AreSharesOf, AreUnused, IsFresh};
 
 use device::{Answer, Device, Event};
 use device_lock::{LockedDevice, Recorded, Share, Shares};
@@ -20,7 +19,7 @@ fn fresh<M: GuestMem>(alloc: Global, memories: Vec<M>) -> Result<Device<M>, Faul
 }
 
 /// A recorded device over these memories, with a twin over the others where there are any, which keeps `cap` calls.
-#[tactic(auto, using(crate::proofs::Lines::pump_line, crate::proofs::Lines::unused_shares))]
+#[tactic(auto, using(recorder::proofs::LineLemmas::pump_line, recorder::proofs::LineLemmas::unused_shares))]
 pub fn recorded<M: GuestMem, L: Ledger>(
     alloc: Global,
     blank: Blank,

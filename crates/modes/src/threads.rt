@@ -3,12 +3,13 @@ ghost use Rattle.std.specs.Prelude.{◌≡◌, ℕ, ◌⊎◌, [], true, false, 
 ghost use Rattle.std.specs.Arc.{arc_value};
 ghost use Rattle.script.specs.Reading.{script_of};
 ghost use Rattle.script.specs.Shapes.{asked_by};
-ghost use Rattle.recorder.specs.Made.{AreUnused, IsFresh, begun};
+ghost use Rattle.recorder.specs.Made.{AreSharesOf, AreUnused, IsFresh, begun};
+ghost use Rattle.irq_line.specs.Line.{AreSeatsOf};
 ghost use Rattle.guest_port.specs.Irq.{SeatedPort};
 ghost use Rattle.modes.specs.Faults.{is_late};
 ghost use Rattle.modes.specs.Program.{device_of, StopsAt};
 ghost use Rattle.modes.specs.Room.{most_calls};
-ghost use Rattle.modes.specs.Lines.{AreSeatsOf, ArePortsOf, AskLine};
+ghost use Rattle.modes.specs.Lines.{ArePortsOf};
 ghost use Rattle.modes.specs.Threads.{is_of_run, BeganReport, BeganThreads, StopsFor, WroteReport, WroteThreads};
 
 use crate::drive::read;
@@ -148,7 +149,7 @@ fn with_other<M: GuestMem + Send + 'static, R: Threads + Wait + Copy + Send + 's
 
 // Makes a port for each function, and does the script by threads. The other device is one as it is made.
 #[inline(never)]
-#[tactic(auto, using(crate::proofs::Told::late_of_run, crate::proofs::Lines::seats_all))]
+#[tactic(auto, using(crate::proofs::Told::late_of_run, irq_line::proofs::SeatLemmas::made_seats))]
 fn with_ports<M: GuestMem + Send + 'static, R: Threads + Wait + Copy + Send + 'static, W: Write>(
     rt: R,
     alloc: Global,
@@ -274,7 +275,7 @@ fn play_threads<
 }
 
 // Does a script by threads on a device, whose callers asked nothing yet, with ports of its functions.
-#[tactic(auto, using(crate::proofs::Told::late_of_run, crate::proofs::Lines::unused_ask, crate::proofs::Lines::ask_as, crate::proofs::Lines::ports_still))]
+#[tactic(auto, using(crate::proofs::Told::late_of_run, recorder::proofs::LineLemmas::unused_shares, crate::proofs::Lines::ask_as, crate::proofs::Lines::ports_still))]
 fn run_all<
     M: GuestMem + Send + 'static,
     P: GuestPort + Send + 'static,
@@ -362,7 +363,7 @@ fn of_workers(fault: wire_frame::Fault) -> Fault
 // A device whose calls are kept, as many as the script can ask, with the shares of its callers. The device is moved from its box over
 // the stack.
 #[inline(never)]
-#[tactic(auto, using(crate::proofs::Told::late_of_run, crate::proofs::Lines::unused_own, crate::proofs::Lines::own_line))]
+#[tactic(auto, using(crate::proofs::Told::late_of_run, crate::proofs::Lines::unused_own, recorder::proofs::LineLemmas::pump_line))]
 fn record<M: GuestMem, L: Ledger>(
     alloc: Global,
     blank: Blank,
@@ -407,7 +408,7 @@ fn seat_all<M: GuestMem, L: Ledger, P: GuestPort>(
     all: Vec<(P, EndNote)>,
     pools: &[u8],
 ) -> Result<Vec<(LockedPort<M, L, P>, EndNote)>, AllocError>
-    requires ask { AskLine shares.old.pump.line shares.old.ports.items }
+    requires ask { AreSharesOf shares.old.pump.line shares.old.ports.items }
     requires ports { ArePortsOf P.meaning shares.old.pump.line all.items }
     ensures others { (shares.new.pf ≡ shares.old.pf) × (shares.new.pump ≡ shares.old.pump)
         × (shares.new.service ≡ shares.old.service) }
@@ -430,8 +431,8 @@ fn seat<M: GuestMem, L: Ledger, P: GuestPort>(
     mut port: P,
 ) -> Result<Option<LockedPort<M, L, P>>, AllocError>
     requires line { (P.meaning port).seat.line ≡ shares.old.pump.line }
-    requires ask { AskLine shares.old.pump.line shares.old.ports.items }
-    ensures ask { AskLine shares.new.pump.line shares.new.ports.items }
+    requires ask { AreSharesOf shares.old.pump.line shares.old.ports.items }
+    ensures ask { AreSharesOf shares.new.pump.line shares.new.ports.items }
     ensures others { (shares.new.pf ≡ shares.old.pf) × (shares.new.pump ≡ shares.old.pump)
         × (shares.new.service ≡ shares.old.service) }
 {

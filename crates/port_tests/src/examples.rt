@@ -14,7 +14,7 @@ use std::test::Fail;
 use test_support::memories;
 
 // What the guest of function 3 reads of a register, and of its memory.
-#[tactic(auto, using(lock_support::proofs::Lines::port_line))]
+#[tactic(auto, using(recorder::proofs::LineLemmas::port_line))]
 fn example_of_locked_port_new<L: Ledger, R: Wait>(
     rt: &R,
     alloc: Global,

@@ -1,6 +1,6 @@
 //! Two guests in threads of their own, whose ports are of two kinds.
 ghost use Rattle.std.specs.Prelude.{◌≡◌, [], IfSome};
-ghost use Rattle.lock_support.specs.Lines.{AreSeatsOf};
+ghost use Rattle.irq_line.specs.Line.{AreSeatsOf};
 
 use crate::stage::open;
 use device_lock::Share;

@@ -1,6 +1,6 @@
 //! A port with a device behind it.
 ghost use Rattle.std.specs.Prelude.{◌≡◌};
-ghost use Rattle.lock_support.specs.Lines.{AreSharesOf};
+ghost use Rattle.recorder.specs.Made.{AreSharesOf};
 
 use device::Event;
 use device_lock::{LockedDevice, Shares};

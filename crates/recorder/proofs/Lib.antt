@@ -1,4 +1,5 @@
 mod CallLemmas
+pub mod LineLemmas
 mod RaiseLemmas
 mod ShareLemmas
 mod SizeLemmas

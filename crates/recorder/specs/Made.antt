@@ -1,5 +1,5 @@
 -- A recorded device as it is made, with the shares of its callers.
-use Rattle.std.specs.Prelude.{◌≡◌, ℕ, ◌<◌, Bool, [], length, replicate, Some, slice_get, List, ◌∷◌}
+use Rattle.std.specs.Prelude.{◌≡◌, ℕ, ◌<◌, Bool, [], length, replicate, Option, Some, slice_get, List, ◌∷◌}
 use Rattle.device.specs.World.{World, fresh, sizes_of}
 use Rattle.atomic_table.specs.Seated.{TableId}
 use Rattle.irq_line.specs.Line.{DeviceEnd}
@@ -34,6 +34,10 @@ pub record AreUnused {L : Type 0} (line : TableId) (shares : Shares L) : Type 0 
   pub service : shares.service ≡ unused line Service
   pub many : length shares.ports.items ≡ 64
   pub ports : (p : ℕ) → p < 64 → slice_get shares.ports.items p ≡ Some (Some (unused line (Port p)))
+
+-- the shares of ports that are left are for a device of the line
+abbrev pub AreSharesOf : TableId → List (Option CallerLog) → Type 0
+AreSharesOf line ports = (p : ℕ) (m : CallerLog) → slice_get ports p ≡ Some (Some m) → m.line ≡ line
 
 -- the shares that were not handed out
 abbrev pub left_in : {L : Type 0} → Shares L → List CallerLog

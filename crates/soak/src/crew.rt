@@ -1,7 +1,8 @@
 //! The threads of a round.
 ghost use Rattle.std.specs.Prelude.{◌≡◌};
 ghost use Rattle.history.specs.declared.caller.Caller.TheVariants.{Pump};
-ghost use Rattle.lock_support.specs.Lines.{AreSeatsOf, AreSharesOf};
+ghost use Rattle.irq_line.specs.Line.{AreSeatsOf};
+ghost use Rattle.recorder.specs.Made.{AreSharesOf};
 
 use crate::guest::{Life, live};
 use crate::round::{Figures, Kind, Plan};

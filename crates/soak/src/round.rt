@@ -1,7 +1,8 @@
 //! A round: a device as it is made, all its callers in threads of their own, and what came of it.
 ghost use Rattle.std.specs.Prelude.{◌≡◌, [], IfOk};
 ghost use Rattle.history.specs.declared.caller.Caller.TheVariants.{Pump};
-ghost use Rattle.lock_support.specs.Lines.{AreSeatsOf, AreSharesOf};
+ghost use Rattle.irq_line.specs.Line.{AreSeatsOf};
+ghost use Rattle.recorder.specs.Made.{AreSharesOf};
 
 use crate::crew::{Crew, seat_all};
 use crate::driver::{drive, set_up};
@@ -80,7 +81,7 @@ struct Made<M: GuestMem, L: Ledger> {
 }
 
 // Makes the devices.
-#[tactic(auto, using(lock_support::proofs::Lines::pump_line))]
+#[tactic(auto, using(recorder::proofs::LineLemmas::pump_line))]
 fn make<M: GuestMem, L: Ledger>(
     alloc: Global,
     blank: Blank,

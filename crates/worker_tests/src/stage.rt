@@ -1,7 +1,8 @@
 //! A script that is done by workers, and what is seen of it; and a device whose function 3 is set up, with its port.
 ghost use Rattle.std.specs.Prelude.{◌≡◌, []};
 ghost use Rattle.history.specs.declared.caller.Caller.TheVariants.{Pump, Service};
-ghost use Rattle.lock_support.specs.Lines.{AreSeatsOf, AreSharesOf};
+ghost use Rattle.irq_line.specs.Line.{AreSeatsOf};
+ghost use Rattle.recorder.specs.Made.{AreSharesOf};
 
 use device_lock::{LockedDevice, Shares};
 use guest_memory::FlatMem;

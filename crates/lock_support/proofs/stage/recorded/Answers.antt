@@ -2,7 +2,7 @@
 use Rattle.std.proofs.Common.{◌≡◌, ap}
 use Rattle.std.proofs.lemmas.Result.{IfOk-weaker}
 use Rattle.recorder.specs.Held.{Held}
-use Rattle.lock_support.proofs.Lines.{pump_line, unused_shares}
+use Rattle.recorder.proofs.LineLemmas.{pump_line, unused_shares}
 use Rattle.lock_support.proofs.stage.recorded.Goals as goal
 
 pub returns-in_ok-fresh-in-Some-clause-line : goal.returns-in_ok-fresh-in-Some-clause-line

@@ -1,6 +1,7 @@
 -- The pump's share stays, and the seats and shares that are left are of its line.
 use Rattle.std.proofs.Common.{◌≡◌}
-use Rattle.lock_support.specs.Lines.{AreSeatsOf, AreSharesOf}
+use Rattle.irq_line.specs.Line.{AreSeatsOf}
+use Rattle.recorder.specs.Made.{AreSharesOf}
 use Rattle.soak.proofs.crew.seat_all.Given as goal
 
 abbrev pub invariant-loop : goal.invariant-loop

@@ -1,5 +1,5 @@
 -- The shares of a device that was just made are for its line.
-use Rattle.lock_support.proofs.Lines.{unused_shares}
+use Rattle.recorder.proofs.LineLemmas.{unused_shares}
 use Rattle.soak.proofs.round.make.Goals as goal
 
 pub behind_lock-requires-clause-left : goal.behind_lock-requires-clause-left

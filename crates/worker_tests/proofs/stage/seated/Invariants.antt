@@ -1,6 +1,7 @@
 -- The shares of the others stay, and the seats and shares that are left are of the pump's line.
 use Rattle.std.proofs.Common.{◌≡◌}
-use Rattle.lock_support.specs.Lines.{AreSeatsOf, AreSharesOf}
+use Rattle.irq_line.specs.Line.{AreSeatsOf}
+use Rattle.recorder.specs.Made.{AreSharesOf}
 use Rattle.worker_tests.proofs.stage.seated.Given as goal
 
 abbrev pub invariant-loop : goal.invariant-loop

@@ -1,18 +1,12 @@
--- The seats of a line as they are made, and the shares of ports until they are handed out, are of that line.
-use Rattle.std.proofs.Common.{◌≡◌, ℕ, ◌<◌, zero, suc, Bool, true, false, List, [], ◌∷◌, length, refl, sym, ap, ◌∙◌, subst}
+-- The shares of ports, until they are handed out, are for a device of one line.
+use Rattle.std.proofs.Common.{◌≡◌, ℕ, ◌<◌, zero, suc, Bool, true, false, List, [], ◌∷◌, sym, ap, ◌∙◌, subst}
 use Rattle.std.specs.Prelude.{Option, Some, None, slice_get, slice_set}
-use Rattle.std.specs.List.{All}
 use Rattle.std.proofs.lemmas.Bool.{false≢true}
-use Rattle.std.proofs.lemmas.List.Elements.{All-nil, All-cons}
 use Rattle.std.proofs.lemmas.Option.{slice_get_within}
 use Rattle.atomic_table.specs.Seated.{TableId}
-use Rattle.irq_line.specs.Line.{GuestEnd, new_guest}
 use Rattle.recorder.specs.declared.shares.Shares.{Shares}
 use Rattle.recorder.specs.Held.{CallerLog}
-use Rattle.recorder.specs.Made.{AreUnused}
-use Rattle.lock_support.specs.Lines.{AreSeatsOf, AreSharesOf}
-
--- ---- shares
+use Rattle.recorder.specs.Made.{AreSharesOf, AreUnused}
 
 -- the line of a share, where there is one
 abbrev share_line : TableId → Option (Option CallerLog) → TableId
@@ -48,20 +42,3 @@ left_still (x ∷ ports) (suc k) (suc p) m is = left_still ports k p m is
 
 pub shares_still : (line : TableId) (old new : List (Option CallerLog)) (k : ℕ) → new ≡ slice_set old k None → AreSharesOf line old → AreSharesOf line new
 shares_still line old new k handed_out are p m is = are p m (left_still old k p m (sym (ap (λ (ports : List (Option CallerLog)). slice_get ports p) handed_out) ∙ is))
-
--- ---- seats
-
--- the line of a seat, where there is one
-abbrev seat_line : TableId → Option GuestEnd → TableId
-seat_line line (Some seat) = seat.line
-seat_line line None = line
-
-each_seat : (line : TableId) (seats : List GuestEnd) → ((p : ℕ) (seat : GuestEnd) → slice_get seats p ≡ Some seat → seat.line ≡ line) → AreSeatsOf line seats
-each_seat line [] each = All-nil (λ (seat : GuestEnd). seat.line ≡ line)
-each_seat line (seat ∷ seats) each = All-cons (λ (s : GuestEnd). s.line ≡ line) seat seats (each 0 seat refl) (each_seat line seats (λ p s is. each (suc p) s is))
-
--- those of a line that was just made
-pub made_seats : (line : TableId) (seats : List GuestEnd) → length seats ≡ 64 → ((p : ℕ) → p < 64 → slice_get seats p ≡ Some (record { line = line; view = new_guest p })) → AreSeatsOf line seats
-made_seats line seats many made =
-    each_seat line seats (λ p seat is.
-    ap (seat_line line) (sym is ∙ made p (subst (λ (n : ℕ). p < n) many (slice_get_within seats p seat is))))

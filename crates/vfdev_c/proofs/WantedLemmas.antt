@@ -8,7 +8,7 @@ use Rattle.offload.proofs.Parts.{length-slice}
 use Rattle.vf_unit.specs.Unit.{Function, Closed, Open as Opened, is_open, bytes_at}
 use Rattle.device.specs.Events.{Event}
 use Rattle.device.specs.declared.event.Answer.{Answer}
-use Rattle.device.specs.declared.event.Event.TheVariants.{Open, MemRead}
+use Rattle.device.specs.declared.event.Event.TheVariants.{MemRead}
 use Rattle.device.specs.declared.response.Response.{Response}
 use Rattle.device.specs.declared.room.Room.{Room}
 use Rattle.device.specs.Accesses.{accesses_by}

@@ -1,10 +1,13 @@
 //! What a handle leads to.
-ghost use Rattle.std.specs.Prelude.{◌≡◌, ◌↔◌, IsTrue, true, length, Some};
+ghost use Rattle.std.specs.Prelude.{◌≡◌, ◌≤◌, ◌↔◌, IsTrue, true, length, Some};
 ghost use Rattle.wire_frame.specs.Frame.{is_frame};
 ghost use Rattle.device.specs.Events.{Event};
+ghost use Rattle.device.specs.declared.event.Event.TheVariants.{MemRead};
 ghost use Rattle.device.specs.World.{World, step, answers, world_after};
 ghost use Rattle.history.specs.Entries.{events, given};
+ghost use Rattle.vfdev_c.specs.declared.handle_state.HandleState.TheVariants.{Made};
 ghost use Rattle.vfdev_c.specs.Handle.{IsolatedStep};
+ghost use Rattle.vfdev_c.specs.Wanted.{Hands};
 
 use crate::card_held::CardHeld;
 use crate::counts::{VfdevCounts, count};
@@ -16,6 +19,7 @@ use crate::lent_device::LentDevice;
 use crate::recorder::Recorder;
 use crate::reply::VfdevReply;
 use crate::wanted::Wanted;
+use device::bytes::MOST_BYTES;
 use device::laws::isolation;
 use device::{Device, Room};
 use guest_memory::FlatMem;
@@ -81,6 +85,16 @@ impl Running {
     {
         history.gives_all(&mut self.device)
     }
+
+    // Reads a guest's memory straight into the caller's bytes, which are no more than one access may name.
+    #[inline(always)]
+    fn read(&self, function: u8, at: u64, out: &mut [u8]) -> Handed
+        requires { length out.old ≤ 2048 }
+        ensures { Hands (Some (Made self.now)) (MemRead function at (length out.old)) (Some (Made self.now)) result out.old out.new }
+    {
+        isolates(&self.device);
+        Handed::none(VfdevReply::read(self.device.mem_read(function, at, out)))
+    }
 }
 
 impl DeviceKind for Running {
@@ -90,6 +104,11 @@ impl DeviceKind for Running {
 
     #[inline(always)]
     fn give(&mut self, wanted: Wanted<'_>, out: &mut [u8]) -> Handed {
+        if let Wanted::Read(function, at, count) = wanted {
+            if count == out.len() && count <= MOST_BYTES {
+                return self.read(function, at, out);
+            }
+        }
         isolates(&self.device);
         let request = wanted.laid(&mut self.frame);
         let response = self.device.take(request, &mut self.room);

@@ -1,6 +1,6 @@
 //! A reply, as C sees it.
 ghost use Rattle.std.specs.Prelude.{◌≡◌, ℕ, List};
-ghost use Rattle.device.specs.Outcome.{reply_of};
+ghost use Rattle.device.specs.Outcome.{bytes_or_refused, reply_of};
 ghost use Rattle.vfdev_c.specs.Handle.{shown, numbered, no_device, no_room, no_queue, history_full, refused_as};
 
 use device::Outcome;
@@ -40,6 +40,17 @@ impl VfdevReply {
         ensures { result ≡ numbered 2 0 }
     {
         VfdevReply { kind: 2, value: 0 }
+    }
+
+    /// The bytes stand where they were asked, or the read was refused.
+    #[inline(always)]
+    pub fn read(done: Result<(), Fault>) -> VfdevReply
+        ensures { (cells : List ℕ) → result ≡ shown (bytes_or_refused done cells) }
+    {
+        match done {
+            Ok(()) => VfdevReply::bytes(),
+            Err(fault) => VfdevReply::refused(fault),
+        }
     }
 
     /// There is no device.

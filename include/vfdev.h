@@ -10,7 +10,9 @@
  *   - A vfdev begins as VFDEV_NONE. Its fields are never read or written, and it is never copied while it holds anything.
  *   - A pointer with a length points to so many bytes of one live object, also where the length is 0. No pointer is NULL, but for
  *     `left` of vfdev_serve. A buffer that is written is touched by nothing else during the call, and overlaps no other argument. A
- *     block that was lent or mapped is no buffer in this sense: see vfdev_lend and vfdev_map.
+ *     buffer that is only read is written by nobody during the call, and has no byte in common with a block that was lent or mapped: a
+ *     frame that comes is read where it stands, first for whom it is, then into their memories, so who gets it from a guest copies it
+ *     first. A block that was lent or mapped is no buffer in this sense: see vfdev_lend and vfdev_map.
  *   - One call at a time for one vfdev. It may go from thread to thread; a lock or the like orders the calls.
  *   - No call from a signal handler, or in the child of a fork of a process with threads.
  *   - malloc, realloc and free are those of one allocator, which aligns a block to each power of two up to 16 that divides

@@ -17,7 +17,7 @@ use std::test::Fail;
 use std::thread;
 use std::thread::Threads;
 use test_support::memories;
-use wire_frame::Fault;
+use wire_frame::{Fault, FrameBuf};
 
 // How many scripts a test has.
 const SCRIPTS: u64 = 50;
@@ -41,7 +41,7 @@ fn event_of(request: Request<'_>) -> Result<Event, Fault> {
         Request::PfRead(offset) => Event::PfRead(offset),
         Request::PfWrite(offset, value) => Event::PfWrite(offset, value),
         Request::PfReset => Event::PfReset,
-        Request::Wire(frame) => Event::Wire(frame.copy()),
+        Request::Wire(frame) => Event::Wire(FrameBuf::from_bytes(frame.bytes())?),
     })
 }
 

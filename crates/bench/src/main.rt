@@ -18,7 +18,7 @@ use std::env;
 use tx_desc::Progress;
 use vf_unit::offsets::*;
 use vf_unit::{Queue, VfUnit};
-use wire_frame::{FrameBuf, FrameLimit, PortVlan};
+use wire_frame::{Frame, FrameBuf, FrameLimit, PortVlan};
 
 /// Where the ring of descriptors begins.
 const RING: u32 = 0x4000;
@@ -49,7 +49,7 @@ fn tail_at(turn: u32) -> u32 {
 
 // Places the frame in the buffer at address 0, which each descriptor names; how often it was put.
 #[inline(never)]
-fn place_many<M: GuestMem>(memory: M, frame: &FrameBuf, strip_tag: bool, turns: u32) -> u32 {
+fn place_many<M: GuestMem>(memory: M, frame: Frame<'_>, strip_tag: bool, turns: u32) -> u32 {
     let config = RxConfig {
         buffer_size: 2048,
         strip_tag,
@@ -133,11 +133,11 @@ fn work<M: GuestMem>(
     let mut bytes = [7u8; 9018];
     bytes[12] = 0x81;
     bytes[13] = 0;
-    let frame = FrameBuf::from_bytes(&bytes[..usize::from(len.min(9018))])?;
+    let frame = Frame::new(&bytes[..usize::from(len.min(9018))], FrameLimit::longest())?;
     let limit = FrameLimit::new(len.saturating_add(4).max(1518)).unwrap_or(FrameLimit::standard());
     let service = match workload {
-        "place" => return Ok(place_many(memory, &frame, false, turns)),
-        "strip" => return Ok(place_many(memory, &frame, true, turns)),
+        "place" => return Ok(place_many(memory, frame, false, turns)),
+        "strip" => return Ok(place_many(memory, frame, true, turns)),
         "read" => return Ok(read_many(sender(alloc, memory, len)?, turns)),
         "serve" => (Queue::Q0, PortVlan::Never, Progress::Ended),
         "insert" => (Queue::Q0, PortVlan::Always(100), Progress::Ended),

@@ -1,7 +1,7 @@
 //! The two ways of an event: [`Device::take`], and the call by its name.
 use device::{Device, MemSlice, Outcome, Queue, Request, Room};
 use guest_memory::GuestMem;
-use wire_frame::{FrameBuf, PoolSet};
+use wire_frame::{Frame, PoolSet};
 
 /// What an event gives out.
 #[derive(Drop)]
@@ -158,7 +158,7 @@ impl<'a, M: GuestMem> Call<M> for MemWrite<'a> {
 #[derive(Clone, Copy)]
 pub struct Wire<'a> {
     /// The frame.
-    pub frame: &'a FrameBuf,
+    pub frame: Frame<'a>,
     /// The pools that are to get messages.
     pub pools: PoolSet,
 }

@@ -10,7 +10,7 @@ use guest_memory::GuestMem;
 use pool_filter::registers::{BAM, PF_VT_CTL, VMOLR};
 use std::time::Instant;
 use vf_unit::offsets::{RDH0, RDT0};
-use wire_frame::FrameBuf;
+use wire_frame::Frame;
 
 /// Which way an event is taken.
 #[derive(Clone, Copy, Debug, PartialEq, Eq)]
@@ -95,7 +95,7 @@ fn rounds<M: GuestMem, C: Call<M>>(
 }
 
 // The event of a workload.
-fn request_of<'a>(workload: Workload, frame: &'a FrameBuf, bytes: MemSlice<'a>) -> Request<'a> {
+fn request_of<'a>(workload: Workload, frame: Frame<'a>, bytes: MemSlice<'a>) -> Request<'a> {
     match workload {
         Workload::VfRead => Request::VfRead(SENDER, RDH0),
         Workload::VfWrite => Request::VfWrite(SENDER, RDT0, 5),
@@ -169,7 +169,7 @@ pub fn measure<M: GuestMem>(
         60
     };
     let frame = frame_of(len, workload == Workload::Broadcast)?;
-    let request = request_of(workload, &frame, MemSlice::new(&[7; 2048])?);
+    let request = request_of(workload, frame.as_frame(), MemSlice::new(&[7; 2048])?);
     match way {
         Way::Take => {
             let call = Take {

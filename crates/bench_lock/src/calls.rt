@@ -182,7 +182,7 @@ pub fn measure<R: Wait + Clock, M: GuestMem, L: Ledger>(
     let frame = frame()?;
     let request = match plan.workload {
         Workload::VfRead => Request::VfRead(0, RDH0),
-        Workload::Wire => Request::Wire(&frame),
+        Workload::Wire => Request::Wire(frame.as_frame()),
     };
     let mut figures = Figures {
         done: 0,

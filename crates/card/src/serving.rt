@@ -18,7 +18,7 @@ use irq_causes::Vectors;
 use live_memory::Dma;
 use live_run::Frames;
 use vfio_session::Session;
-use wire_frame::{Fault, FrameBuf, PoolId, PoolSet};
+use wire_frame::{Fault, Frame, PoolId, PoolSet};
 
 /// How many descriptors of a transmit queue one call takes at most.
 pub const MOST_SERVICES: usize = 128;
@@ -81,18 +81,18 @@ impl<D: Dma<K>, K> Card<D, K> {
 
     /// Takes a frame from the wire, as [`HostedDevice::wire`](hosted::HostedDevice::wire) says. Refused where it is longer than the card's
     /// limit.
-    pub fn wire(&mut self, frame: &FrameBuf) -> Result<(), Fault>
-        ensures lived { HasLived (live_deeds self.old (Wire frame.now ∷ [])
+    pub fn wire(&mut self, frame: Frame<'_>) -> Result<(), Fault>
+        ensures lived { HasLived (live_deeds self.old (Wire frame.entry.bytes.now ∷ [])
             (self.new.hosted.device.accesses ∷ [])) self.old self.new }
         ensures world { self.new.hosted.device.world
             ≡ (step (told_world self.old.hosted.device.accesses self.new.hosted.device.accesses
-            self.old.hosted.device.world) (Wire frame.now)).world }
+            self.old.hosted.device.world) (Wire frame.entry.bytes.now)).world }
         ensures answer { RaisedOrRefused result self.old.raised self.new.raised
             (step (told_world self.old.hosted.device.accesses self.new.hosted.device.accesses
-            self.old.hosted.device.world) (Wire frame.now)).answer }
+            self.old.hosted.device.world) (Wire frame.entry.bytes.now)).answer }
         ensures listed { AreListed
             (accesses_by (told_world self.old.hosted.device.accesses
-            self.new.hosted.device.accesses self.old.hosted.device.world) (Wire frame.now))
+            self.new.hosted.device.accesses self.old.hosted.device.world) (Wire frame.entry.bytes.now))
             self.old.hosted.device.accesses self.new.hosted.device.accesses }
         ensures met { AreMet D.shared self.old.hosted.device.accesses
             self.new.hosted.device.accesses self.old.hosted.device.world }
@@ -105,16 +105,16 @@ impl<D: Dma<K>, K> Card<D, K> {
     }
 
     // Takes it.
-    fn take_frame(&mut self, frame: &FrameBuf) -> Result<(), Fault>
+    fn take_frame(&mut self, frame: Frame<'_>) -> Result<(), Fault>
         ensures world { self.new.hosted.device.world
             ≡ (step (told_world self.old.hosted.device.accesses self.new.hosted.device.accesses
-            self.old.hosted.device.world) (Wire frame.now)).world }
+            self.old.hosted.device.world) (Wire frame.entry.bytes.now)).world }
         ensures answer { RaisedOrRefused result self.old.raised self.new.raised
             (step (told_world self.old.hosted.device.accesses self.new.hosted.device.accesses
-            self.old.hosted.device.world) (Wire frame.now)).answer }
+            self.old.hosted.device.world) (Wire frame.entry.bytes.now)).answer }
         ensures listed { AreListed
             (accesses_by (told_world self.old.hosted.device.accesses
-            self.new.hosted.device.accesses self.old.hosted.device.world) (Wire frame.now))
+            self.new.hosted.device.accesses self.old.hosted.device.world) (Wire frame.entry.bytes.now))
             self.old.hosted.device.accesses self.new.hosted.device.accesses }
         ensures met { AreMet D.shared self.old.hosted.device.accesses
             self.new.hosted.device.accesses self.old.hosted.device.world }
@@ -129,19 +129,19 @@ impl<D: Dma<K>, K> Card<D, K> {
 
     /// Takes frames from the wire one after another, as [`live_run::wire_burst`] says: they lie behind one another in `bytes`, and `ends`
     /// says where each ends. It means what as many calls of [`Card::wire`] mean; what these would refuse is passed over, and counted.
-    pub fn wire_burst(&mut self, bytes: &[u8], ends: &[usize], frame: &mut FrameBuf) -> WireCount
+    pub fn wire_burst(&mut self, bytes: &[u8], ends: &[usize]) -> WireCount
         ensures wired { AreWired D.shared ends.now bytes.now self.old self.new result }
         ensures lived { HasLivedThrough D.shared (arrivals ends.now bytes.now) self.old self.new }
     {
         self.raised.masks_are_small();
-        self.take_frames(bytes, ends, frame)
+        self.take_frames(bytes, ends)
     }
 
     // Takes them.
-    fn take_frames(&mut self, bytes: &[u8], ends: &[usize], frame: &mut FrameBuf) -> WireCount
+    fn take_frames(&mut self, bytes: &[u8], ends: &[usize]) -> WireCount
         ensures { AreWired D.shared ends.now bytes.now self.old self.new result }
     {
-        let came = self.hosted.wire_burst(bytes, ends, frame);
+        let came = self.hosted.wire_burst(bytes, ends);
         self.raised.unite(&came.messages);
         WireCount {
             taken: came.taken,

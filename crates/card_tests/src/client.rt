@@ -151,13 +151,12 @@ impl<'a> Clients<'a> {
     }
 
     pub fn wire(&mut self, frame: &FrameBuf) -> Result<(), Fault> {
-        self.card.wire(frame)
+        self.card.wire(frame.as_frame())
     }
 
     /// How many of frames that lie behind one another were taken, and how many refused.
     pub fn wire_burst(&mut self, bytes: &[u8], ends: &[usize]) -> (usize, usize) {
-        let mut frame = FrameBuf::blank();
-        let came = self.card.wire_burst(bytes, ends, &mut frame);
+        let came = self.card.wire_burst(bytes, ends);
         (came.taken, came.refused)
     }
 

@@ -153,11 +153,11 @@ pub read_world : (b : Base) (us : List TracedFunction) (t : TracedWorld) (i p : 
 read_world b us t i p here new e view h is =
     sym (after_is b us i p here new h) ∙ ap (with_function (world_with b us) p) is ∙ sym (ap (λ (s : Stepped). s.world) (own_told b us t i p here new e view h))
 
-pub read_answer : (b : Base) (us : List TracedFunction) (t : TracedWorld) (i p : ℕ) (here new : TracedFunction) (e : Event) (cells : List ℕ) (o : Outcome) → device_with b us ≡ t → IsHere us i p here
-    → (act (met_function here new) e).reply ≡ reply_of cells o → (act (met_function here new) e).messages ≡ 0
-    → silently (reply_of cells o) ≡ (own_step (told_world t.accesses (traces_of (set us i new)) t.world) p e).answer
-read_answer b us t i p here new e cells o view h reply silent =
-    answer_is (world_with b us) p cells o (act (met_function here new) e) reply silent
+pub read_answer : (b : Base) (us : List TracedFunction) (t : TracedWorld) (i p : ℕ) (here new : TracedFunction) (e : Event) (reply : Reply) → device_with b us ≡ t → IsHere us i p here
+    → (act (met_function here new) e).reply ≡ reply → (act (met_function here new) e).messages ≡ 0
+    → silently reply ≡ (own_step (told_world t.accesses (traces_of (set us i new)) t.world) p e).answer
+read_answer b us t i p here new e reply view h replied silent =
+    answer_is (world_with b us) p reply (act (met_function here new) e) replied silent
     ∙ sym (ap (λ (s : Stepped). s.answer) (own_told b us t i p here new e view h))
 
 -- ---- a service of its queue

@@ -1,20 +1,19 @@
 -- A read of a function's memory by what the memory answers then.
-use Rattle.std.proofs.Common.{◌≡◌, ◌≤◌, ◌<◌, ◌+◌, ℕ, Bool, true, false, nat_le, nat_lt, arith, List, [], ◌++◌, Some, None, length, set, take, replicate, append-nil, refl, sym, ap, ◌∙◌}
-use Rattle.std.proofs.lemmas.List.{take_at, get_or-set_same}
+use Rattle.std.proofs.Common.{◌≡◌, ◌≤◌, ◌<◌, ◌+◌, ℕ, Bool, true, false, nat_le, nat_lt, arith, List, [], ◌++◌, Some, None, length, set, replicate, append-nil, refl, sym, ap, ◌∙◌}
 use Rattle.std.proofs.lemmas.Option.{none-some}
-use Rattle.std.specs.Prelude.{slice_set}
+use Rattle.std.specs.Prelude.{slice_set, if◌then◌else◌}
 use Rattle.irq_causes.specs.Messages.{no_messages}
-use Rattle.wire_frame.specs.declared.fault.Fault.TheVariants.{NoSuchVf}
+use Rattle.wire_frame.specs.declared.fault.Fault.TheVariants.{NoSuchVf, NotOpen, TooLong}
 use Rattle.wire_frame.specs.Fault.{number_of}
 use Rattle.wire_frame.specs.declared.fault.Fault.{Fault}
 use Rattle.live_memory.specs.Trace.{Access, since, ReadOnce}
-use Rattle.vf_unit.specs.Unit.{Function, TracedFunction, Closed, Open, size_of, has_range, bytes_at, told_of, met_function, load_accesses}
+use Rattle.vf_unit.specs.Unit.{Function, TracedFunction, Closed, Open, is_open, size_of, has_range, bytes_at, told_of, met_function, load_accesses}
 use Rattle.vf_unit.proofs.Told.{told_nothing, open_told, size_told}
 use Rattle.device.specs.Events.{Event}
 use Rattle.device.specs.declared.event.Event.TheVariants.{MemRead}
 use Rattle.device.specs.declared.event.Reply.TheVariants.{Bytes, Refused}
 use Rattle.device.specs.Act.{Acted, quietly, refusal, act, act_accesses}
-use Rattle.device.specs.Outcome.{Outcome, reply_of}
+use Rattle.device.specs.Replies.{Reply}
 use Rattle.device.specs.World.{World, function_of, own_step, acted, refused, silently}
 use Rattle.device.specs.Live.{trace_of, told_world}
 use Rattle.device.proofs.Arrivals.{raised_nothing}
@@ -41,13 +40,17 @@ pub done_read : (before now : List Access) (f after : Function) (p at count : �
 unfolding act
 done_read before now f after p at count is once allowed = rw (refusal_told before now f (MemRead p at count) once ∙ allowed) (ap (λ (g : Function). quietly g (Bytes (bytes_at g at (replicate count 0)))) (sym is))
 
--- what was read stands in the first cells
-pub held : (before now : List Access) (f after : Function) (at count n : ℕ) (read had rest : List ℕ) → n ≡ count → after ≡ told_of before now f → ReadOnce (size_of f) (since before now) → has_range f at count ≡ true
-    → length had ≡ count → length read ≡ count → read ≡ bytes_at after at had → bytes_at after at (replicate count 0) ≡ take n (read ++ rest)
-held before now f after at count n read had rest is_count is once within few as_many stands =
-    sym (take_at read rest n (as_many ∙ sym is_count) ∙ stands
-    ∙ read_over_zeros after at had (ap (has_range after at) few ∙ ap (λ (g : Function). has_range g at count) is ∙ range_told before now f at count once ∙ within)
-    ∙ ap (λ (k : ℕ). bytes_at after at (replicate k 0)) few)
+-- more bytes are asked for than one access may name
+pub too_long : (f : Function) (p at count : ℕ) (fault : Fault) → 2048 < count → fault ≡ (if is_open f then TooLong else NotOpen) → refusal f (MemRead p at count) ≡ Some fault
+unfolding refusal
+too_long (Closed size) p at count fault long is = ap Some (sym is)
+too_long (Open s) p at count fault long is = let test : nat_lt 2048 count ≡ true = grind (arith, long) in rw test (ap Some (sym is))
+
+-- what was read is what stands there then
+pub held : (before now : List Access) (f after : Function) (at : ℕ) (read had : List ℕ) → after ≡ told_of before now f → ReadOnce (size_of f) (since before now) → has_range f at (length had) ≡ true → read ≡ bytes_at after at had
+    → bytes_at after at (replicate (length had) 0) ≡ read
+held before now f after at read had is once within stands =
+    sym (stands ∙ read_over_zeros after at had (ap (λ (g : Function). has_range g at (length had)) is ∙ range_told before now f at (length had) once ∙ within))
 
 -- ---- of a device
 
@@ -60,9 +63,9 @@ there_step before now w p e trace mine below within begun became =
     own_step_told before now w p e trace mine within begun became ∙ rw there refl
 
 -- the answer is that of the function
-pub answer_is : (w : World) (p : ℕ) (cells : List ℕ) (o : Outcome) (a : Acted) → a.reply ≡ reply_of cells o → a.messages ≡ 0 → silently (reply_of cells o) ≡ (acted w p a).answer
-answer_is w p cells o a reply silent = λ i. record {
-  reply = sym reply i;
+pub answer_is : (w : World) (p : ℕ) (reply : Reply) (a : Acted) → a.reply ≡ reply → a.messages ≡ 0 → silently reply ≡ (acted w p a).answer
+answer_is w p reply a replied silent = λ i. record {
+  reply = sym replied i;
   raised = (sym (raised_nothing p) ∙ ap (slice_set no_messages p) (sym silent)) i;
 }
 

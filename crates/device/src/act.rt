@@ -188,9 +188,38 @@ pub(crate) fn mem_read<M: GuestMem>(unit: &VfUnit<M>, at: u64, out: &mut [u8]) -
     }
 }
 
-// Reads bytes of the memory into the first cells, as many as the event asks for.
+// Copies bytes of the memory into `out`, where others may write it meanwhile.
 #[inline]
 #[tactic(auto, unfolding(crate::specs::Act::act, vf_unit::specs::Unit::told_of))]
+pub(crate) fn mem_read_live<D: Dma<K>, K>(
+    unit: &mut VfUnit<D, K>,
+    at: u64,
+    out: &mut [u8],
+) -> Result<(), Fault>
+    ensures function { (p : ℕ) → unit.new.function
+        ≡ (act (met_function unit.old unit.new) (Event.MemRead p at (length out.old))).function }
+    ensures reply { (p : ℕ) → (act (met_function unit.old unit.new)
+        (Event.MemRead p at (length out.old))).reply ≡ bytes_or_refused result out.new }
+    ensures silent { (p : ℕ) → (act (met_function unit.old unit.new)
+        (Event.MemRead p at (length out.old))).messages ≡ 0 }
+    ensures unchanged { OnErr result (out.new ≡ out.old) }
+    ensures size { size_of unit.new.function ≡ size_of unit.old.function }
+    ensures met { IsMet D.shared unit.old.function unit.old.accesses unit.new.accesses }
+    ensures listed { (p : ℕ) → unit.new.accesses ≡ unit.old.accesses
+        ++ act_accesses (met_function unit.old unit.new) (Event.MemRead p at (length out.old)) }
+{
+    match read_refusal(unit, at, out.len()) {
+        Some(fault) => Err(fault),
+        None => {
+            unit.mem_load(at, out);
+            Ok(())
+        }
+    }
+}
+
+// The same into the first cells, as many as the event asks for.
+#[inline]
+#[tactic(auto, unfolding(crate::specs::Act::act, crate::specs::Act::refusal))]
 pub(crate) fn load<D: Dma<K>, K>(
     unit: &mut VfUnit<D, K>,
     at: u64,
@@ -209,12 +238,13 @@ pub(crate) fn load<D: Dma<K>, K>(
     ensures listed { (p : ℕ) → unit.new.accesses ≡ unit.old.accesses
         ++ act_accesses (met_function unit.old unit.new) (Event.MemRead p at count) }
 {
-    match read_refusal(unit, at, usize::from(count)) {
-        Some(fault) => Outcome::Refused(fault),
-        None => {
-            unit.mem_load(at, &mut cells[..usize::from(count)]);
-            Outcome::Bytes(ReadCount::new(count))
-        }
+    let wanted = usize::from(count);
+    if wanted > MOST_BYTES {
+        return Outcome::Refused(unless_closed(unit, Fault::TooLong));
+    }
+    match mem_read_live(unit, at, &mut cells[..wanted]) {
+        Ok(()) => Outcome::Bytes(ReadCount::new(count)),
+        Err(fault) => Outcome::Refused(fault),
     }
 }
 

@@ -28,7 +28,7 @@ use live_memory::Dma;
 use local_switch::Source;
 use pool_filter::PoolRules;
 use vf_unit::Queue;
-use wire_frame::{Fault, FrameBuf, PoolId};
+use wire_frame::{Fault, Frame, FrameBuf, PoolId};
 
 #[tactic(auto, using(crate::proofs::Arrivals::raised_nothing, crate::proofs::SizesStay::size_set))]
 impl<D: Dma<K>, K> Device<D, K> {
@@ -156,7 +156,31 @@ impl<D: Dma<K>, K> Device<D, K> {
         act::mem_write(&mut self.units[index], at, written)
     }
 
-    // Reads bytes of a guest's memory once, into the first cells, where others may write it meanwhile.
+    /// Fills `out` with the bytes of a guest's memory from an address on, as [`mem_read`](Device::mem_read) does, where others may write
+    /// it meanwhile. Each byte is read once.
+    #[inline(always)]
+    pub fn mem_read_live(&mut self, pool: u8, at: u64, out: &mut [u8]) -> Result<(), Fault>
+        ensures world { self.new.world
+            ≡ (step (told_world self.old.accesses self.new.accesses self.old.world)
+            (Event.MemRead pool at (length out.old))).world }
+        ensures answer { silently (bytes_or_refused result out.new)
+            ≡ (step (told_world self.old.accesses self.new.accesses self.old.world)
+            (Event.MemRead pool at (length out.old))).answer }
+        ensures unchanged { OnErr result (out.new ≡ out.old) }
+        ensures listed { AreListed
+            (accesses_by (told_world self.old.accesses self.new.accesses self.old.world)
+            (Event.MemRead pool at (length out.old))) self.old.accesses self.new.accesses }
+        ensures met { AreMet D.shared self.old.accesses self.new.accesses self.old.world }
+        ensures sizes { sizes_of self.new.world ≡ sizes_of self.old.world }
+    {
+        let index = usize::from(pool);
+        if index >= self.units.len() {
+            return Err(Fault::NoSuchVf);
+        }
+        act::mem_read_live(&mut self.units[index], at, out)
+    }
+
+    // The same into the first cells, as many as the event asks for.
     #[inline(always)]
     pub(crate) fn load(
         &mut self,
@@ -222,7 +246,7 @@ impl<D: Dma<K>, K> Device<D, K> {
                 left: false,
             };
         }
-        let switched = self.switch(Source::Pool(pool), &room.frame);
+        let switched = self.switch(Source::Pool(pool), room.frame.as_frame());
         let mut messages = switched.messages;
         messages.set(pool, acted.vectors);
         Response {
@@ -314,16 +338,16 @@ impl<D: Dma<K>, K> Device<D, K> {
 
     /// Takes a frame from the wire, as [`wire`](Device::wire) does, where others may write the memories meanwhile.
     #[inline(always)]
-    pub fn wire_live(&mut self, frame: &FrameBuf) -> Result<Messages, Fault>
+    pub fn wire_live(&mut self, frame: Frame<'_>) -> Result<Messages, Fault>
         ensures world { self.new.world
             ≡ (step (told_world self.old.accesses self.new.accesses self.old.world)
-            (Event.Wire frame.now)).world }
+            (Event.Wire frame.entry.bytes.now)).world }
         ensures answer { messages_or_refused result
             ≡ (step (told_world self.old.accesses self.new.accesses self.old.world)
-            (Event.Wire frame.now)).answer }
+            (Event.Wire frame.entry.bytes.now)).answer }
         ensures listed { AreListed
             (accesses_by (told_world self.old.accesses self.new.accesses self.old.world)
-            (Event.Wire frame.now)) self.old.accesses self.new.accesses }
+            (Event.Wire frame.entry.bytes.now)) self.old.accesses self.new.accesses }
         ensures sizes { sizes_of self.new.world ≡ sizes_of self.old.world }
         ensures met { AreMet D.shared self.old.accesses self.new.accesses self.old.world }
     {
@@ -371,10 +395,10 @@ impl<M: GuestMem> Device<M> {
     ///
     /// [`Fault::BadFrame`] where the frame is longer than the device takes.
     #[inline]
-    pub fn wire(&mut self, frame: &FrameBuf) -> Result<Messages, Fault>
-        ensures world { self.new.world ≡ (step self.old.world (Event.Wire frame.now)).world }
+    pub fn wire(&mut self, frame: Frame<'_>) -> Result<Messages, Fault>
+        ensures world { self.new.world ≡ (step self.old.world (Event.Wire frame.entry.bytes.now)).world }
         ensures answer { messages_or_refused result
-            ≡ (step self.old.world (Event.Wire frame.now)).answer }
+            ≡ (step self.old.world (Event.Wire frame.entry.bytes.now)).answer }
         ensures sizes { sizes_of self.new.world ≡ sizes_of self.old.world }
     {
         self.wire_live(frame)

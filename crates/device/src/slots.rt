@@ -6,7 +6,7 @@ ghost use Rattle.device.specs.Slots.{AreSlots, laid_in};
 
 use std::alloc::{AllocError, Global};
 use std::marker::Model;
-use wire_frame::{FrameBuf, FrameLimit};
+use wire_frame::{Frame, FrameBuf, FrameLimit};
 
 /// How many slots there may be.
 pub const MOST_SLOTS: usize = 1024;
@@ -64,10 +64,10 @@ impl FrameSlots {
     /// One slot more, with a frame. To take a slot writes all its bytes, which no later frame in it does.
     #[cold]
     #[inline(never)]
-    pub fn add(&mut self, frame: &FrameBuf)
+    pub fn add(&mut self, frame: Frame<'_>)
         requires few { length self.old.frames < 1024 }
-        requires short { length frame.now ≤ self.old.limit }
-        ensures frames { self.new.frames ≡ self.old.frames ++ frame.now ∷ [] }
+        requires short { length frame.bytes.now ≤ self.old.limit }
+        ensures frames { self.new.frames ≡ self.old.frames ++ frame.entry.bytes.now ∷ [] }
         ensures limit { self.new.limit ≡ self.old.limit }
     {
         let bytes = frame.bytes();
@@ -77,10 +77,10 @@ impl FrameSlots {
 
     /// Lays a frame into a slot, in place of the one that is there.
     #[inline]
-    pub fn lay(&mut self, slot: u16, frame: &FrameBuf)
+    pub fn lay(&mut self, slot: u16, frame: Frame<'_>)
         requires there { slot < length self.old.frames }
-        requires short { length frame.now ≤ self.old.limit }
-        ensures frames { self.new.frames ≡ slice_set self.old.frames slot frame.now }
+        requires short { length frame.bytes.now ≤ self.old.limit }
+        ensures frames { self.new.frames ≡ slice_set self.old.frames slot frame.entry.bytes.now }
         ensures limit { self.new.limit ≡ self.old.limit }
     {
         let bytes = frame.bytes();

@@ -10,9 +10,9 @@ ghost use Rattle.device.specs.Units.{nobody, closed, Offers};
 use crate::device::Device;
 use irq_causes::{Messages, Vectors};
 use live_memory::Dma;
-use local_switch::{Source, route};
+use local_switch::{Source, route_frame};
 use vf_unit::VfUnit;
-use wire_frame::{FrameBuf, PoolId, PoolSet};
+use wire_frame::{Frame, PoolId, PoolSet};
 
 /// What the switching of a frame issued, and whether the frame left for the wire.
 #[derive(Clone, Copy)]
@@ -42,10 +42,10 @@ fn deliver_to_all<D: Dma<K>, K>(
     units: &mut [VfUnit<D, K>],
     pools: PoolSet,
     loopback: bool,
-    frame: &FrameBuf,
+    frame: Frame<'_>,
 ) -> Messages
     requires { length units.old ≤ 64 }
-    ensures offers { (r : ℕ) → r < length units.old → Offers D.shared (has_bit pools r) loopback frame.now
+    ensures offers { (r : ℕ) → r < length units.old → Offers D.shared (has_bit pools r) loopback frame.entry.bytes.now
         (slice_index_or units.old r nobody) (slice_index_or units.new r nobody)
         (slice_index result r) }
     ensures none_there { (r : ℕ) → length units.old ≤ r → slice_index result r ≡ 0 }
@@ -86,22 +86,22 @@ pub fn end_all<D: Dma<K>, K>(units: &mut [VfUnit<D, K>])
 
 impl<D: Dma<K>, K> Device<D, K> {
     // Switches a frame.
-    pub(crate) fn switch(&mut self, from: Source, frame: &FrameBuf) -> Switched
-        requires { length frame.now ≤ self.old.world.profile.limit }
+    pub(crate) fn switch(&mut self, from: Source, frame: Frame<'_>) -> Switched
+        requires { length frame.bytes.now ≤ self.old.world.profile.limit }
         ensures world { self.new.world
-            ≡ switched (told_world self.old.accesses self.new.accesses self.old.world) from frame.now }
+            ≡ switched (told_world self.old.accesses self.new.accesses self.old.world) from frame.entry.bytes.now }
         ensures messages { result.messages
             ≡ all_raised self.old.world.settings
-            (told_functions self.old.accesses self.new.accesses self.old.world.functions) from frame.now }
+            (told_functions self.old.accesses self.new.accesses self.old.world.functions) from frame.entry.bytes.now }
         ensures listed { AreListed (arrived_accesses self.old.world.settings
-            (told_functions self.old.accesses self.new.accesses self.old.world.functions) from frame.now)
+            (told_functions self.old.accesses self.new.accesses self.old.world.functions) from frame.entry.bytes.now)
             self.old.accesses self.new.accesses }
         ensures met { AreMet D.shared self.old.accesses self.new.accesses self.old.world }
-        ensures left { result.left ≡ leaves self.old.world.settings from frame.now }
+        ensures left { result.left ≡ leaves self.old.world.settings from frame.entry.bytes.now }
         ensures sizes { sizes_of self.new.world ≡ sizes_of self.old.world }
     {
         let loopback = is_looped(&from);
-        let route = route(&self.tables, from, frame);
+        let route = route_frame(&self.tables, from, frame);
         self.wire.push_where(route.wire, frame);
         self.unclaimed
             .add_where(reaches_nobody(route.local, route.wire), from);

@@ -19,7 +19,7 @@ use guest_memory::GuestMem;
 use irq_causes::Messages;
 use live_memory::Dma;
 use std::alloc::Global;
-use wire_frame::{Fault, FrameBuf, PoolId};
+use wire_frame::{Fault, Frame, FrameBuf, PoolId};
 
 impl<D: Dma<K>, K> Device<D, K> {
     /// Takes the event that a request stands for, where others may write the memories of the functions meanwhile. It means what
@@ -96,12 +96,12 @@ impl<D: Dma<K>, K> Device<D, K> {
 
     // A frame from the wire.
     #[inline(always)]
-    fn take_wire(&mut self, frame: &FrameBuf) -> Response
+    fn take_wire(&mut self, frame: Frame<'_>) -> Response
         ensures takes { (room : Room) → TakesLive D.shared self.old.accesses self.new.accesses
-            self.old.world (Event.Wire frame.now) self.new.world result room }
+            self.old.world (Event.Wire frame.entry.bytes.now) self.new.world result room }
         ensures listed { AreListed
             (accesses_by (told_world self.old.accesses self.new.accesses self.old.world)
-            (Event.Wire frame.now)) self.old.accesses self.new.accesses }
+            (Event.Wire frame.entry.bytes.now)) self.old.accesses self.new.accesses }
     {
         Response::issued(self.wire_live(frame))
     }

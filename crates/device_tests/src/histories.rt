@@ -2,7 +2,7 @@
 use device::{Device, MemSlice, Queue, Request, Response, Room};
 use guest_memory::{FlatMem, GuestMem};
 use history::head::Head;
-use history::{Caller, History, Replay};
+use history::{Caller, History};
 use script_support::registers::{
     ADVANCED, ENABLE, RDBAL0, RDLEN0, RDT0, ROUTES, RXDCTL0, SRRCTL0, VTEIMS, VTIVAR,
 };
@@ -11,7 +11,7 @@ use std::mem::size_of;
 use std::process::Abort;
 use std::test::Fail;
 use test_support::memories;
-use wire_frame::{Fault, FrameBuf, PoolId};
+use wire_frame::{Fault, Frame, FrameBuf, PoolId};
 
 mod answers;
 mod entries;
@@ -59,10 +59,10 @@ fn keep<R: Abort, M: GuestMem>(
 fn first_other<M: GuestMem>(
     history: &History,
     device: &mut Device<M>,
-    replay: &mut Replay,
+    room: &mut Room,
 ) -> Option<usize> {
     for index in 0..history.len() {
-        if !history.gives(index, device, replay) {
+        if !history.gives(index, device, room) {
             return Some(index);
         }
     }

@@ -94,7 +94,7 @@ fn kind_of(given: Option<Given<'_>>) -> Kind {
 
 // Whether a frame from the wire is left for the pool, as it is and as one of the wire.
 fn is_offered(watch: &mut PoolView<FlatMem>, frame: &FrameBuf, handover: &mut Handover) -> bool {
-    match watch.step(Request::Wire(frame), handover) {
+    match watch.step(Request::Wire(frame.as_frame()), handover) {
         Some(Given::Offer(given, false)) => given.bytes() == frame.bytes(),
         _ => false,
     }
@@ -248,20 +248,29 @@ fn a_function_by_itself(rt: HostRuntime) -> Result<(), Fail> {
     set_up(&rt, &mut lone, &mut room)?;
     // without settings it may neither send nor receive
     assert_equal(&rt, messages(&lone.take(serve, &mut room)), None);
-    assert!(rt; lone.take(Given::Offer(&frame, false), &mut room).is_none());
+    assert!(rt;
+        lone.take(Given::Offer(frame.as_frame(), false), &mut room)
+            .is_none()
+    );
     assert!(rt; lone.take(Given::NewSettings(&own), &mut room).is_none());
     assert_equal(&rt, messages(&lone.take(serve, &mut room)), Some(2));
     assert_equal(
         &rt,
-        messages(&lone.take(Given::Offer(&frame, true), &mut room)),
+        messages(&lone.take(Given::Offer(frame.as_frame(), true), &mut room)),
         Some(1),
     );
     // there is one buffer, so a second frame has no room
-    assert!(rt; lone.take(Given::Offer(&frame, true), &mut room).is_none());
+    assert!(rt;
+        lone.take(Given::Offer(frame.as_frame(), true), &mut room)
+            .is_none()
+    );
     assert!(rt; lone.take(Given::Gone, &mut room).is_none());
     set_up(&rt, &mut lone, &mut room)?;
     assert_equal(&rt, messages(&lone.take(serve, &mut room)), None);
-    assert!(rt; lone.take(Given::Offer(&frame, false), &mut room).is_none());
+    assert!(rt;
+        lone.take(Given::Offer(frame.as_frame(), false), &mut room)
+            .is_none()
+    );
     Ok(())
 }
 

@@ -31,7 +31,44 @@ fn takes_frames_alone(rt: HostRuntime) {
         assert_equal_at(&rt, is_plain, takes_plain, len);
         let is_tagged = FrameBuf::from_bytes(&tagged[..len]).is_ok();
         assert_equal_at(&rt, is_tagged, takes_tagged, len);
+        let longest = FrameLimit::longest();
+        assert_equal_at(
+            &rt,
+            Frame::new(&plain[..len], longest).is_ok(),
+            takes_plain,
+            len,
+        );
+        assert_equal_at(
+            &rt,
+            Frame::new(&tagged[..len], longest).is_ok(),
+            takes_tagged,
+            len,
+        );
     }
+}
+
+#[test]
+fn a_frame_is_no_longer_than_its_limit(rt: HostRuntime) -> Result<(), Fail> {
+    let bytes = [0u8; 1519];
+    let limit = FrameLimit::standard();
+    assert_equal(&rt, Frame::new(&bytes[..1518], limit)?.bytes().len(), 1518);
+    assert_equal(&rt, Frame::new(&bytes, limit).err(), Some(Fault::BadFrame));
+    let longer = FrameLimit::new(1519).ok_or("a limit")?;
+    assert_equal(&rt, Frame::new(&bytes, longer)?.bytes().len(), 1519);
+    Ok(())
+}
+
+#[test]
+fn a_frame_is_read_where_it_stands(rt: HostRuntime) -> Result<(), Fail> {
+    let tagged = Frame::new(&TAGGED, FrameLimit::standard())?;
+    assert_equal(&rt, tagged.bytes(), TAGGED.as_slice());
+    assert_equal(&rt, tagged.dst(), Mac([2, 0, 0, 0, 0, 3]));
+    assert_equal(&rt, tagged.src(), Mac([2, 0, 0, 0, 0, 0x99]));
+    assert_equal(&rt, tagged.tag(), Some(0xA064));
+    let kept = FrameBuf::from_bytes(&UNTAGGED)?;
+    assert_equal(&rt, kept.as_frame().bytes(), UNTAGGED.as_slice());
+    assert_equal(&rt, kept.as_frame().tag(), None);
+    Ok(())
 }
 
 #[test]

@@ -143,7 +143,13 @@ fn two_pieces(rt: HostRuntime) -> Result<(), Fail> {
         let mut memory = Traced::new(memory_of(&rt, rt.alloc(), 7, FIRST, second)?);
         let before = image(rt.alloc(), &memory)?;
         let frame = frame_of(PLAIN, 1518)?;
-        let outcome = place_in(&mut memory, &mut ring, &queue(KEEP), &frame, false);
+        let outcome = place_in(
+            &mut memory,
+            &mut ring,
+            &queue(KEEP),
+            frame.as_frame(),
+            false,
+        );
         assert_eq!(rt; memory.size(), 65536);
         let after = (
             outcome,
@@ -205,7 +211,13 @@ fn written_back(rt: HostRuntime) -> Result<(), Fail> {
         let mut ring = ring_of(8, 0, 7);
         let mut memory = Traced::new(memory_of(&rt, rt.alloc(), 0, FIRST, SECOND)?);
         let frame = frame_of(start, len)?;
-        let outcome = place_in(&mut memory, &mut ring, &queue(strip), &frame, loopback);
+        let outcome = place_in(
+            &mut memory,
+            &mut ring,
+            &queue(strip),
+            frame.as_frame(),
+            loopback,
+        );
         assert_eq!(rt; memory.size(), 65536);
         let after = (
             outcome,
@@ -291,7 +303,13 @@ fn bytes_in_memory(rt: HostRuntime) -> Result<(), Fail> {
         let mut ring = ring_of(8, 0, 2);
         let mut memory = Traced::new(memory_of(&rt, rt.alloc(), 0, first, second)?);
         let frame = frame_of(start, len)?;
-        let outcome = place_in(&mut memory, &mut ring, &queue(strip), &frame, false);
+        let outcome = place_in(
+            &mut memory,
+            &mut ring,
+            &queue(strip),
+            frame.as_frame(),
+            false,
+        );
         assert_equal_at(&rt, outcome, Placed::Put, first);
         for (at, word) in words {
             assert_eq!(rt; memory.size(), 65536);
@@ -320,7 +338,13 @@ fn nine_pieces(rt: HostRuntime) -> Result<(), Fail> {
         let mut memory = Traced::new(flat);
         assert_eq!(rt; memory.size(), 65536);
         let frame = frame_of(PLAIN, 9018)?;
-        let outcome = place_in(&mut memory, &mut ring, &queue(KEEP), &frame, false);
+        let outcome = place_in(
+            &mut memory,
+            &mut ring,
+            &queue(KEEP),
+            frame.as_frame(),
+            false,
+        );
         assert_equal(&rt, outcome, placed);
         assert_eq!(rt; memory.size(), 65536);
         for i in 0..8 {
@@ -392,7 +416,7 @@ fn legacy_written_back(rt: HostRuntime) -> Result<(), Fail> {
         let mut memory = Traced::new(memory_of(&rt, rt.alloc(), 0, FIRST, SECOND)?);
         let frame = frame_of(start, len)?;
         let config = legacy_queue(strip);
-        let outcome = place_in(&mut memory, &mut ring, &config, &frame, loopback);
+        let outcome = place_in(&mut memory, &mut ring, &config, frame.as_frame(), loopback);
         assert_eq!(rt; memory.size(), 65536);
         let after = (
             outcome,
@@ -423,7 +447,7 @@ fn legacy_two_pieces(rt: HostRuntime) -> Result<(), Fail> {
         let mut memory = Traced::new(memory_of(&rt, rt.alloc(), 0, first, SECOND)?);
         let frame = frame_of(MISLEADING, 1518)?;
         let config = legacy_queue(KEEP);
-        let outcome = place_in(&mut memory, &mut ring, &config, &frame, false);
+        let outcome = place_in(&mut memory, &mut ring, &config, frame.as_frame(), false);
         assert_eq!(rt; memory.size(), 65536);
         let after = (
             outcome,

@@ -15,7 +15,7 @@ use crate::words::{append_words, are_messages, words_len};
 use device::{MemSlice, Request, Response, Room};
 use std::alloc::{AllocError, Global};
 use std::marker::Model;
-use wire_frame::{Fault, FrameBuf, FrameLimit};
+use wire_frame::{Fault, Frame, FrameLimit};
 
 /// How many entries a history may have at most.
 pub const MOST_CALLS: usize = 65_536;
@@ -155,9 +155,9 @@ impl History {
         self.heads[index].caller.get()
     }
 
-    /// What was asked in a call, counted from the oldest. Its frame, where it has one, is laid into `frame`.
+    /// What was asked in a call, counted from the oldest. Its bytes stand where they are kept.
     #[inline]
-    pub fn request<'a>(&'a self, index: usize, frame: &'a mut FrameBuf) -> Request<'a>
+    pub fn request(&self, index: usize) -> Request<'_>
         requires { index < length self.now.entries }
         ensures { event_of result ≡ (entry_at self.now index).event }
     {
@@ -176,7 +176,7 @@ impl History {
             EventHead::PfRead(offset) => Request::PfRead(offset),
             EventHead::PfWrite(offset, value) => Request::PfWrite(offset, value),
             EventHead::PfReset => Request::PfReset,
-            EventHead::Wire => Request::Wire(laid(bytes, frame)),
+            EventHead::Wire => Request::Wire(frame_of(bytes)),
         }
     }
 
@@ -231,14 +231,14 @@ fn room_for(alloc: Global, cap: usize) -> Result<Vec<u8>, AllocError>
 
 // The bytes of a frame as a frame.
 #[inline]
-fn laid<'a>(bytes: &[u8], frame: &'a mut FrameBuf) -> &'a FrameBuf
+fn frame_of(bytes: &[u8]) -> Frame<'_>
     requires { IsFrame bytes.now }
-    ensures { result.now ≡ bytes.now }
+    ensures { result.bytes.now ≡ bytes.now }
 {
-    if let Some(limit) = FrameLimit::new(9018) {
-        frame.refill(bytes, limit);
+    match Frame::new(bytes, FrameLimit::longest()) {
+        Ok(frame) => frame,
+        Err(_) => unreachable!(),
     }
-    frame
 }
 
 // At most 2048 bytes as those of one access.

@@ -26,4 +26,3 @@ mod words;
 pub use caller::Caller;
 pub use history::{History, MOST_CALLS};
 pub use recording::Recording;
-pub use replay::Replay;

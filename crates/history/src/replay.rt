@@ -11,30 +11,6 @@ use crate::history::History;
 use device::{Device, Request, Response, Room};
 use guest_memory::GuestMem;
 use live_memory::Dma;
-use wire_frame::FrameBuf;
-
-/// Where a replay lays out what it needs: the frame of an entry, and a device's [`Room`]. Nothing of it is kept.
-#[derive(Drop)]
-pub struct Replay {
-    asked: FrameBuf,
-    room: Room,
-}
-
-impl Replay {
-    /// Nothing was laid out yet.
-    pub fn new() -> Replay {
-        Replay {
-            asked: FrameBuf::blank(),
-            room: Room::new(),
-        }
-    }
-}
-
-impl Default for Replay {
-    fn default() -> Replay {
-        Replay::new()
-    }
-}
 
 impl History {
     /// Takes the event that a request stands for on a device, and keeps the call, for which there is room. What is answered is the
@@ -65,24 +41,18 @@ impl History {
         response
     }
 
-    /// Steps a device by what was asked in a call, counted from the oldest.
-    pub fn step<M: GuestMem>(&self, index: usize, device: &mut Device<M>, replay: &mut Replay)
+    /// Steps a device by what was asked in a call, counted from the oldest. Nothing of `room` is kept.
+    pub fn step<M: GuestMem>(&self, index: usize, device: &mut Device<M>, room: &mut Room)
         requires { index < length self.now.entries }
         ensures world { device.new.world
             ≡ (step device.old.world (entry_at self.now index).event).world }
         ensures sizes { sizes_of device.new.world ≡ sizes_of device.old.world }
     {
-        let request = self.request(index, &mut replay.asked);
-        device.take(request, &mut replay.room);
+        device.take(self.request(index), room);
     }
 
     /// The same, and tells whether the device answers as was kept: the reply with its bytes, and all messages.
-    pub fn gives<M: GuestMem>(
-        &self,
-        index: usize,
-        device: &mut Device<M>,
-        replay: &mut Replay,
-    ) -> bool
+    pub fn gives<M: GuestMem>(&self, index: usize, device: &mut Device<M>, room: &mut Room) -> bool
         requires { index < length self.now.entries }
         ensures world { device.new.world
             ≡ (step device.old.world (entry_at self.now index).event).world }
@@ -91,20 +61,19 @@ impl History {
             ≡ (entry_at self.now index).answer) }
         ensures sizes { sizes_of device.new.world ≡ sizes_of device.old.world }
     {
-        let request = self.request(index, &mut replay.asked);
-        let response = device.take(request, &mut replay.room);
-        self.is_answer(index, &response, &replay.room)
+        let response = device.take(self.request(index), room);
+        self.is_answer(index, &response, room)
     }
 
-    /// Steps a device through all calls, the oldest first. It is a call of its own: what a replay lays out takes 20 KB of the stack, which
+    /// Steps a device through all calls, the oldest first. It is a call of its own: a [`Room`] takes 11 KB of the stack, which
     /// whoever folds calls only now and then is not to have in its frame.
     #[inline(never)]
     pub fn step_all<M: GuestMem>(&self, device: &mut Device<M>)
         ensures { device.new.world ≡ world_after device.old.world (events self.now.entries) }
     {
-        let mut replay = Replay::new();
+        let mut room = Room::new();
         for index in 0..self.len() {
-            self.step(index, device, &mut replay);
+            self.step(index, device, &mut room);
         }
     }
 
@@ -115,10 +84,10 @@ impl History {
         ensures same { IsTrue result
             ↔ (answers device.old.world (events self.now.entries) ≡ given self.now.entries) }
     {
-        let mut replay = Replay::new();
+        let mut room = Room::new();
         let mut same = true;
         for index in 0..self.len() {
-            let here = self.gives(index, device, &mut replay);
+            let here = self.gives(index, device, &mut room);
             same = same & here;
         }
         same

@@ -14,7 +14,7 @@ use device::{Queue, Response, Room};
 use irq_causes::Messages;
 use live_memory::Dma;
 use live_run::{Burst, Frames, WireBurst, serve_burst, wire_burst};
-use wire_frame::{Fault, FrameBuf};
+use wire_frame::{Fault, Frame};
 
 impl<D: Dma<K>, K> HostedDevice<D, K> {
     /// Takes the next descriptor of a transmit queue, as [`Device::serve_live`](device::Device::serve_live) says.
@@ -32,16 +32,16 @@ impl<D: Dma<K>, K> HostedDevice<D, K> {
     }
 
     /// Takes a frame from the wire, as [`Device::wire_live`](device::Device::wire_live) says.
-    pub fn wire(&mut self, frame: &FrameBuf) -> Result<Messages, Fault>
+    pub fn wire(&mut self, frame: Frame<'_>) -> Result<Messages, Fault>
         ensures world { self.new.device.world
             ≡ (step (told_world self.old.device.accesses self.new.device.accesses
-            self.old.device.world) (Wire frame.now)).world }
+            self.old.device.world) (Wire frame.entry.bytes.now)).world }
         ensures answer { messages_or_refused result
             ≡ (step (told_world self.old.device.accesses self.new.device.accesses
-            self.old.device.world) (Wire frame.now)).answer }
+            self.old.device.world) (Wire frame.entry.bytes.now)).answer }
         ensures listed { AreListed
             (accesses_by (told_world self.old.device.accesses self.new.device.accesses
-            self.old.device.world) (Wire frame.now))
+            self.old.device.world) (Wire frame.entry.bytes.now))
             self.old.device.accesses self.new.device.accesses }
         ensures met { AreMet D.shared self.old.device.accesses self.new.device.accesses
             self.old.device.world }
@@ -52,13 +52,13 @@ impl<D: Dma<K>, K> HostedDevice<D, K> {
     }
 
     /// Takes frames from the wire one after another, as [`live_run::wire_burst`] says.
-    pub fn wire_burst(&mut self, bytes: &[u8], ends: &[usize], frame: &mut FrameBuf) -> WireBurst
+    pub fn wire_burst(&mut self, bytes: &[u8], ends: &[usize]) -> WireBurst
         ensures burst { IsWireBurst D.shared self.old.device ends.now bytes.now
             self.new.device result }
         ensures host { self.new.host ≡ self.old.host }
         ensures mailboxes { self.new.mailboxes ≡ self.old.mailboxes }
     {
-        wire_burst(&mut self.device, bytes, ends, frame)
+        wire_burst(&mut self.device, bytes, ends)
     }
 
     /// Takes descriptors of a transmit queue one after another, as [`live_run::serve_burst`] says: `most` at most.

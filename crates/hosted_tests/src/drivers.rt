@@ -180,7 +180,9 @@ fn frames_reach_nobody_who_was_not_admitted(rt: HostRuntime) -> Result<(), Fail>
         true,
     );
     let broadcast = FrameBuf::from_bytes(&[0xFF; 60])?;
-    let came = hosted.wire(&broadcast).map(|messages| messages.to_masks());
+    let came = hosted
+        .wire(broadcast.as_frame())
+        .map(|messages| messages.to_masks());
     assert_equal(&rt, came, Ok([0; 64]));
     // its queue is off
     let response = hosted.serve(0, Queue::Q0, &mut Room::new());

@@ -6,10 +6,7 @@ ghost use Rattle.live_run.specs.Arrivals.{IsArrival, IsWireBurst, cut};
 use device::Device;
 use irq_causes::Messages;
 use live_memory::Dma;
-use wire_frame::{FrameBuf, FrameLimit, PoolId};
-
-/// How many bytes a frame has at most.
-const MOST_FRAME: u16 = 9018;
+use wire_frame::{Frame, FrameLimit, PoolId};
 
 /// What came of frames from the wire.
 #[derive(Drop)]
@@ -27,12 +24,11 @@ pub struct WireBurst {
 /// the bytes, has no bytes.
 ///
 /// It means what as many calls of [`Device::wire_live`](device::Device::wire_live) mean, one after another. What is refused there, or is no
-/// frame, is passed over. Each frame is laid into `frame` first.
+/// frame, is passed over. No frame is copied.
 pub fn wire_burst<D: Dma<K>, K>(
     device: &mut Device<D, K>,
     bytes: &[u8],
     ends: &[usize],
-    frame: &mut FrameBuf,
 ) -> WireBurst
     ensures { IsWireBurst D.shared device.old ends.now bytes.now device.new result }
 {
@@ -42,7 +38,7 @@ pub fn wire_burst<D: Dma<K>, K>(
     let mut messages = Messages::none();
     let mut start = 0;
     for end in ends {
-        let is_taken = take_one(device, cut(bytes, start, *end), frame, &mut messages);
+        let is_taken = take_one(device, cut(bytes, start, *end), &mut messages);
         taken += usize::from(is_taken);
         start = *end;
     }
@@ -66,40 +62,26 @@ fn cut(bytes: &[u8], start: usize, end: usize) -> &[u8]
 }
 
 // One frame more, if the bytes are one. Tells whether the device took it.
-fn take_one<D: Dma<K>, K>(
-    device: &mut Device<D, K>,
-    bytes: &[u8],
-    frame: &mut FrameBuf,
-    messages: &mut Messages,
-) -> bool
+fn take_one<D: Dma<K>, K>(device: &mut Device<D, K>, bytes: &[u8], messages: &mut Messages) -> bool
     ensures came { is_frame 9018 bytes.now ≡ true
         → IsArrival D.shared bytes.now device.old device.new messages.old messages.new result }
     ensures stays { is_frame 9018 bytes.now ≡ false → device.new ≡ device.old }
     ensures silent { is_frame 9018 bytes.now ≡ false → messages.new ≡ messages.old }
     ensures passed { is_frame 9018 bytes.now ≡ false → result ≡ false }
 {
-    lay(frame, bytes) && arrive(device, frame, messages)
-}
-
-// Makes a frame these bytes, if they are one.
-#[inline]
-fn lay(frame: &mut FrameBuf, bytes: &[u8]) -> bool
-    ensures value { result ≡ is_frame 9018 bytes.now }
-    ensures frame { result ≡ true → frame.new ≡ bytes.now }
-{
-    match FrameLimit::new(MOST_FRAME) {
-        Some(longest) => frame.refill(bytes, longest),
-        None => unreachable!(),
+    match Frame::new(bytes, FrameLimit::longest()) {
+        Ok(frame) => arrive(device, frame, messages),
+        Err(_) => false,
     }
 }
 
 // A frame comes from the wire. Tells whether the device took it.
 fn arrive<D: Dma<K>, K>(
     device: &mut Device<D, K>,
-    frame: &FrameBuf,
+    frame: Frame<'_>,
     messages: &mut Messages,
 ) -> bool
-    ensures { IsArrival D.shared frame.now device.old device.new messages.old messages.new result }
+    ensures { IsArrival D.shared frame.entry.bytes.now device.old device.new messages.old messages.new result }
 {
     match device.wire_live(frame) {
         Ok(raised) => {

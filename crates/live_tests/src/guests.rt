@@ -116,6 +116,63 @@ fn bytes_at(device: &mut Device<LiveMem<'_>, Shared>, at: u64) -> Option<[u8; 8]
     Some(bytes)
 }
 
+// What a live read by name answers, and what then stands where two bytes of 7 stood.
+fn two_at(
+    device: &mut Device<LiveMem<'_>, Shared>,
+    pool: u8,
+    at: u64,
+) -> (Result<(), Fault>, [u8; 2]) {
+    let mut out = [7; 2];
+    let done = device.mem_read_live(pool, at, &mut out);
+    (done, out)
+}
+
+// Bytes of a region, of its end with a hole behind it, and what is refused, in the order of the refusals.
+#[test]
+fn a_live_read_fills_the_callers_bytes(rt: HostRuntime) -> Result<(), Fail> {
+    let alloc = rt.alloc();
+    let mut cells = memory_to_send(alloc)?;
+    let mut memory = LiveMem::for_guest(alloc, MOST_MEMORY)?;
+    memory.map(HIGH, cells.as_mut_slice(), false)?;
+    let mut device = vacant_device(alloc, 2)?;
+    assert_equal(&rt, device.attach(0, memory).is_ok(), true);
+    let last = HIGH + FRAME as u64 + 59;
+    assert_equal(&rt, two_at(&mut device, 0, last), (Ok(()), [0xAB, 0]));
+    assert_equal(&rt, two_at(&mut device, 0, 0), (Ok(()), [0, 0]));
+    assert_equal(
+        &rt,
+        two_at(&mut device, 0, MOST_MEMORY - 2),
+        (Ok(()), [0, 0]),
+    );
+    for (pool, at, fault) in [
+        (0, MOST_MEMORY - 1, Fault::BadRange),
+        (0, u64::MAX, Fault::BadRange),
+        (1, 0, Fault::NotOpen),
+        (2, 0, Fault::NoSuchVf),
+    ] {
+        assert_equal(&rt, two_at(&mut device, pool, at), (Err(fault), [7, 7]));
+    }
+    let mut many = [7; 2049];
+    assert_equal(
+        &rt,
+        device.mem_read_live(0, HIGH, &mut many),
+        Err(Fault::TooLong),
+    );
+    assert_equal(&rt, many[0], 7);
+    assert_equal(
+        &rt,
+        device.mem_read_live(0, HIGH, &mut many[..2048]),
+        Ok(()),
+    );
+    assert_equal(&rt, (many[0], many[2047], many[2048]), (0, 0, 7));
+    assert_equal(
+        &rt,
+        device.mem_read_live(1, 0, &mut many),
+        Err(Fault::NotOpen),
+    );
+    Ok(())
+}
+
 // A guest goes: its memory, or `None` where none is handed out.
 fn leave<'a>(
     device: &mut Device<LiveMem<'a>, Shared>,

@@ -5,7 +5,7 @@ use crate::compare::assert_equal;
 use crate::restless::Restless;
 use device::{Device, MemSlice, Outcome, Request, Room};
 use guest_memory::{FlatMem, GuestMem};
-use history::{Caller, History, Replay};
+use history::{Caller, History};
 use live_memory::Dma;
 use script_support::registers::VFLINKS;
 use std::alloc::Global;
@@ -60,7 +60,7 @@ fn gives<M: GuestMem>(
     if index >= history.len() {
         return Err("no such call".into());
     }
-    Ok(history.gives(index, device, &mut Replay::new()))
+    Ok(history.gives(index, device, &mut Room::new()))
 }
 
 #[test]

@@ -10,7 +10,7 @@ use script_support::registers::{
 };
 use std::alloc::Global;
 use std::test::Fail;
-use wire_frame::FrameBuf;
+use wire_frame::{Frame, FrameLimit};
 
 // Where the ring is, and the buffers of its descriptors, 2048 bytes apart.
 const RING: u64 = 0x1000;
@@ -83,8 +83,8 @@ fn one_by_one(device: &mut Device<FlatMem>, lengths: &[usize]) -> (usize, u8) {
     for length in lengths {
         let bytes = [number; 2000];
         let of_it = bytes.get(..*length).unwrap_or(&[]);
-        if let Ok(frame) = FrameBuf::from_bytes(of_it)
-            && let Ok(messages) = device.wire(&frame)
+        if let Ok(frame) = Frame::new(of_it, FrameLimit::longest())
+            && let Ok(messages) = device.wire(frame)
         {
             taken = taken.wrapping_add(1);
             told |= messages.to_masks()[0];
@@ -103,8 +103,7 @@ fn is_as_one_by_one(
     let mut burst = device_to_receive(alloc, buffers)?;
     let mut single = device_to_receive(alloc, buffers)?;
     let (bytes, ends) = behind_one_another(lengths, alloc)?;
-    let mut frame = FrameBuf::blank();
-    let done = wire_burst(&mut burst, &bytes, &ends, &mut frame);
+    let done = wire_burst(&mut burst, &bytes, &ends);
     let told = done.messages.to_masks()[0];
     let is_same = one_by_one(&mut single, lengths) == (done.taken, told)
         && seen(&mut burst)? == seen(&mut single)?;
@@ -116,8 +115,7 @@ fn a_frame_that_is_too_long_is_passed_over(rt: HostRuntime) -> Result<(), Fail> 
     let alloc = rt.alloc();
     let (bytes, ends) = behind_one_another(&[60, 1519, 60], alloc)?;
     let mut device = device_to_receive(alloc, 3)?;
-    let mut frame = FrameBuf::blank();
-    let done = wire_burst(&mut device, &bytes, &ends, &mut frame);
+    let done = wire_burst(&mut device, &bytes, &ends);
     assert_equal(&rt, (done.taken, done.refused), (2, 1));
     assert_equal(
         &rt,
@@ -150,9 +148,8 @@ fn a_burst_is_its_frames_one_by_one(rt: HostRuntime) -> Result<(), Fail> {
 fn ends_that_are_none(rt: HostRuntime) -> Result<(), Fail> {
     let alloc = rt.alloc();
     let mut device = device_to_receive(alloc, 3)?;
-    let mut frame = FrameBuf::blank();
     let bytes = [7; 200];
-    let done = wire_burst(&mut device, &bytes, &[60, 20, 201, 0, 90, 200], &mut frame);
+    let done = wire_burst(&mut device, &bytes, &[60, 20, 201, 0, 90, 200]);
     assert_equal(&rt, (done.taken, done.refused), (3, 3));
     let (head, _, _) = seen(&mut device)?;
     assert_equal(&rt, head, 3);

@@ -4,15 +4,15 @@ ghost use Rattle.wire_frame.specs.Bits.{has_bit};
 ghost use Rattle.local_switch.specs.Switch.{receives, leaves, takes_from_wire, takes_from_pool, is_for_pool, is_for_the_wire};
 
 use crate::ways::{Route, Source};
-use pool_filter::{Tables, accept_mask};
-use wire_frame::{AddressKind, FrameBuf, PoolId, PoolSet, has_bit};
+use pool_filter::{Tables, accepting_pools};
+use wire_frame::{AddressKind, Frame, FrameBuf, PoolId, PoolSet, has_bit};
 
 /// Where a frame goes. That its sender may send it is not asked here.
 #[tactic(auto, using(wire_frame::proofs::BitLemmas::has_bit_and), unfolding(crate::specs::Switch::receives))]
-pub fn route(tables: &Tables, from: Source, frame: &FrameBuf) -> Route
+pub fn route_frame(tables: &Tables, from: Source, frame: Frame<'_>) -> Route
     ensures local { (p : ℕ) → p < 64
-        → has_bit result.local p ≡ receives tables.now from frame.now p }
-    ensures wire { result.wire ≡ leaves tables.now from frame.now }
+        → has_bit result.local p ≡ receives tables.now from frame.entry.bytes.now p }
+    ensures wire { result.wire ≡ leaves tables.now from frame.entry.bytes.now }
 {
     let receiving = tables.receiving_pools();
     match from {
@@ -27,10 +27,19 @@ pub fn route(tables: &Tables, from: Source, frame: &FrameBuf) -> Route
     }
 }
 
+/// The same of a frame that holds its bytes itself.
+pub fn route(tables: &Tables, from: Source, frame: &FrameBuf) -> Route
+    ensures local { (p : ℕ) → p < 64
+        → has_bit result.local p ≡ receives tables.now from frame.now p }
+    ensures wire { result.wire ≡ leaves tables.now from frame.now }
+{
+    route_frame(tables, from, frame.as_frame())
+}
+
 /// Whether a frame is for a pool, be the pool allowed to receive or not: a frame from the wire that it accepts, or that falls
 /// to it as default pool; a frame of another pool that it accepts, under loopback.
-pub fn is_for_pool(tables: &Tables, from: Source, frame: &FrameBuf, pool: PoolId) -> bool
-    ensures { result ≡ is_for_pool tables.now from frame.now pool }
+pub fn is_for_pool(tables: &Tables, from: Source, frame: Frame<'_>, pool: PoolId) -> bool
+    ensures { result ≡ is_for_pool tables.now from frame.entry.bytes.now pool }
 {
     let pools = match from {
         Source::Wire => from_wire(tables, frame),
@@ -41,10 +50,10 @@ pub fn is_for_pool(tables: &Tables, from: Source, frame: &FrameBuf, pool: PoolId
 
 // The pools that a frame from the wire is for: those that accept it, or else the default pool.
 #[tactic(auto, using(wire_frame::proofs::BitLemmas::has_bit_zero), unfolding(crate::specs::Switch::takes_from_wire))]
-fn from_wire(tables: &Tables, frame: &FrameBuf) -> u64
-    ensures { (p : ℕ) → p < 64 → has_bit result p ≡ takes_from_wire tables.now frame.now p }
+fn from_wire(tables: &Tables, frame: Frame<'_>) -> u64
+    ensures { (p : ℕ) → p < 64 → has_bit result p ≡ takes_from_wire tables.now frame.entry.bytes.now p }
 {
-    let accepting = accept_mask(tables, frame);
+    let accepting = accepting_pools(tables, frame);
     if accepting != 0 {
         return accepting;
     }
@@ -56,18 +65,18 @@ fn from_wire(tables: &Tables, frame: &FrameBuf) -> u64
 
 // The pools that a frame of a pool is for: under loopback all others that accept it.
 #[tactic(auto, using(wire_frame::proofs::BitLemmas::has_bit_zero), unfolding(crate::specs::Switch::takes_from_pool))]
-fn from_pool(tables: &Tables, sender: PoolId, frame: &FrameBuf) -> u64
-    ensures { (p : ℕ) → p < 64 → has_bit result p ≡ takes_from_pool tables.now sender frame.now p }
+fn from_pool(tables: &Tables, sender: PoolId, frame: Frame<'_>) -> u64
+    ensures { (p : ℕ) → p < 64 → has_bit result p ≡ takes_from_pool tables.now sender frame.entry.bytes.now p }
 {
     if !tables.loops_back() {
         return 0;
     }
-    without(accept_mask(tables, frame), sender)
+    without(accepting_pools(tables, frame), sender)
 }
 
 // Whether the wire may have someone else whom the frame is for.
-fn is_for_the_wire(tables: &Tables, frame: &FrameBuf) -> bool
-    ensures { result ≡ is_for_the_wire tables.now frame.now }
+fn is_for_the_wire(tables: &Tables, frame: Frame<'_>) -> bool
+    ensures { result ≡ is_for_the_wire tables.now frame.entry.bytes.now }
 {
     let destination = frame.dst();
     destination.kind() != AddressKind::Unicast || !tables.is_held(destination)

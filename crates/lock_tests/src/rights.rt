@@ -11,7 +11,7 @@ use std::process::Abort;
 use std::sync::ledger::{Blank, Ledger};
 use std::test::Fail;
 use test_support::memories;
-use wire_frame::FrameBuf;
+use wire_frame::Frame;
 
 // Whether the ports of pools 3 and 63, the driver, the pump and the service may make a request.
 fn who<L: Ledger>(
@@ -54,7 +54,7 @@ fn assert_others<R: Abort, L: Ledger>(
     rt: &R,
     shares: &Shares<L>,
     ports: (&Share<L>, &Share<L>),
-    frame: &FrameBuf,
+    frame: Frame<'_>,
 ) {
     for (request, driver, pump) in [
         (Request::PfRead(0), true, false),
@@ -80,7 +80,7 @@ fn assert_rights<R: Abort, L: Ledger>(rt: &R, alloc: Global, blank: Blank) -> Re
     let port = shares.port(3).ok_or("no share")?;
     let last = shares.port(63).ok_or("no share")?;
     assert_ports(rt, &shares, (&port, &last), MemSlice::new(&[1, 2])?);
-    assert_others(rt, &shares, (&port, &last), &frame_to_3()?);
+    assert_others(rt, &shares, (&port, &last), frame_to_3()?.as_frame());
     Ok(())
 }
 

@@ -20,7 +20,7 @@ abbrev pub item_of : Given → Item
 item_of (OwnEvent request) = OwnEvent (event_of request)
 item_of (NewSettings o) = NewSettings o.now
 item_of Gone = Gone
-item_of (Offer frame looped) = Offer frame.now looped
+item_of (Offer frame looped) = Offer frame.bytes.now looped
 
 -- the observation that a value stands for, where bytes that were read stand first in the room
 abbrev pub observation_of : Room → Seen → Observation

@@ -3,7 +3,7 @@
 use device::{Outcome, Request, Room};
 use irq_causes::Vectors;
 use pool_filter::Own;
-use wire_frame::FrameBuf;
+use wire_frame::Frame;
 
 /// What a lone function is given. It has a few words: settings and frames stand elsewhere.
 #[derive(Clone, Copy)]
@@ -15,7 +15,7 @@ pub enum Given<'a> {
     /// The device was reset: the function is closed, and has no settings.
     Gone,
     /// A frame, and whether it came from another pool.
-    Offer(&'a FrameBuf, bool),
+    Offer(Frame<'a>, bool),
 }
 
 /// What is seen of a function, in few words. Bytes that were read stand in the [`Room`] that was lent.

@@ -14,7 +14,7 @@ use pool_filter::Own;
 use std::alloc::Global;
 use std::marker::Model;
 use vf_unit::VfUnit;
-use wire_frame::{Fault, FrameBuf, FrameLimit};
+use wire_frame::{Fault, Frame, FrameLimit};
 
 /// One function and its own settings.
 #[derive(Drop)]
@@ -87,15 +87,15 @@ impl<M: GuestMem> Lone<M> {
     }
 
     // A frame, which comes in where the settings say that the function may receive.
-    fn offer(&mut self, frame: &FrameBuf, looped: bool) -> Option<Seen>
-        ensures lone { self.new ≡ moved self.old (Offer frame.now looped) }
+    fn offer(&mut self, frame: Frame<'_>, looped: bool) -> Option<Seen>
+        ensures lone { self.new ≡ moved self.old (Offer frame.entry.bytes.now looped) }
         ensures seen { (room : Room) → option_map (observation_of room) result
-            ≡ shown self.old (Offer frame.now looped) }
+            ≡ shown self.old (Offer frame.entry.bytes.now looped) }
     {
         if !self.settings.may_receive() {
             return None;
         }
-        let vectors = self.unit.deliver(frame, looped);
+        let vectors = self.unit.deliver_frame(frame, looped);
         if vectors.is_empty() {
             None
         } else {

@@ -14,7 +14,7 @@ use guest_memory::GuestMem;
 use local_switch::{Source, is_for_pool};
 use pool_filter::Own;
 use std::marker::Model;
-use wire_frame::{FrameBuf, PoolId};
+use wire_frame::{Frame, PoolId};
 
 /// A device that is watched for one of its pools.
 #[derive(Drop)]
@@ -128,11 +128,11 @@ impl<M: GuestMem> PoolView<M> {
     }
 
     // A frame from the wire.
-    fn wire<'a>(&mut self, frame: &'a FrameBuf) -> Option<Given<'a>>
-        ensures world { self.new.world ≡ (step self.old.world (Event.Wire frame.now)).world }
+    fn wire<'a>(&mut self, frame: Frame<'a>) -> Option<Given<'a>>
+        ensures world { self.new.world ≡ (step self.old.world (Event.Wire frame.entry.bytes.now)).world }
         ensures pool { self.new.pool ≡ self.old.pool }
         ensures kept { option_map item_of result
-            ≡ kept_of self.old.pool self.old.world (Event.Wire frame.now) }
+            ≡ kept_of self.old.pool self.old.world (Event.Wire frame.entry.bytes.now) }
     {
         let taken = self.device.wire(frame);
         if taken.is_ok() && is_for_pool(self.device.tables(), Source::Wire, frame, self.pool) {
@@ -152,9 +152,10 @@ impl<M: GuestMem> PoolView<M> {
         let count = self.device.functions();
         prove!(count <= usize::from(PoolId::COUNT));
         let response = self.device.serve(sender, queue, room);
-        let (Some(frame), Some(sender)) = (room.sent(&response), PoolId::new(sender)) else {
+        let (Some(sent), Some(sender)) = (room.sent(&response), PoolId::new(sender)) else {
             return None;
         };
+        let frame = sent.as_frame();
         if is_for_pool(self.device.tables(), Source::Pool(sender), frame, self.pool) {
             Some(Given::Offer(frame, true))
         } else {

@@ -3,7 +3,7 @@ use internet_checksum::{checksum, sum};
 use offload::{Context, Cut};
 use receive_checksum::{Check, check_sums};
 use std::test::Fail;
-use wire_frame::FrameBuf;
+use wire_frame::{Frame, FrameLimit};
 
 #[test]
 fn example_of_internet_checksum(rt: HostRuntime) {
@@ -36,10 +36,10 @@ fn example_of_receive_checksum(rt: HostRuntime) -> Result<(), Fail> {
     let mut bytes = [0u8; 34];
     bytes[12..22].copy_from_slice(&[0x08, 0x00, 0x45, 0, 0, 20, 0, 0, 0, 0]);
     bytes[22..].copy_from_slice(&[64, 253, 0x8D, 0xB1, 192, 0, 2, 1, 198, 51, 100, 7]);
-    let Ok(frame) = FrameBuf::from_bytes(&bytes) else {
+    let Ok(frame) = Frame::new(&bytes, FrameLimit::longest()) else {
         return Err("it is a frame".into());
     };
-    let found = check_sums(&frame);
+    let found = check_sums(frame);
     assert_eq!(rt; found.ip, Check::Good);
     assert_eq!(rt; found.transport, Check::Unchecked);
     Ok(())

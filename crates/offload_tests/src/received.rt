@@ -4,7 +4,7 @@ use offload::{Context, Sums, insert_sums};
 use receive_checksum::{Check, Checks, check_sums};
 use std::process::Abort;
 use std::test::Fail;
-use wire_frame::FrameBuf;
+use wire_frame::{Frame, FrameLimit};
 
 /// IPv4 and TCP; IPv4 and UDP, and with an odd last byte; IPv6 and TCP; IPv6 and UDP; a tag with IPv4 and UDP, and with IPv6 and TCP; padding
 /// that isn't zeros, behind IPv4 and behind IPv6; options of IPv4 and of TCP; Don't Fragment; and UDP that is two bytes shorter than the payload.
@@ -252,8 +252,8 @@ fn found(rt: &HostRuntime, text: &str) -> Result<Checks, Fail> {
 }
 
 fn of_bytes(bytes: &[u8]) -> Result<Checks, Fail> {
-    match FrameBuf::from_bytes(bytes) {
-        Ok(frame) => Ok(check_sums(&frame)),
+    match Frame::new(bytes, FrameLimit::longest()) {
+        Ok(frame) => Ok(check_sums(frame)),
         Err(_) => Err("it is a frame".into()),
     }
 }

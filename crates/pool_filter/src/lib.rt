@@ -1,7 +1,7 @@
 //! All settings of the physical function, and which pools accept a frame.
 //!
 //! [`Tables`] holds every register of the physical function but those that show which functions were reset. Its meaning
-//! is the words of these registers: a write changes one word and nothing else. On them stand [`accept_mask`], which says
+//! is the words of these registers: a write changes one word and nothing else. On them stand [`accepting_pools`], which says
 //! which pools accept a frame, the default pool, the switches of each pool, and what of the settings is one pool's own.
 //! [`Tables::keeps_apart`] says before any frame whether the settings keep a group of pools from reaching the others.
 //! [`Own`] holds the last as a value, which [`Tables::own`] fills and which then answers without the tables; who asks
@@ -19,7 +19,7 @@ pub mod registers;
 pub mod rules;
 pub mod tables;
 
-pub use filter::accept_mask;
+pub use filter::{accept_mask, accepting_pools};
 pub use flags::PoolFlags;
 pub use own::Own;
 pub use rules::{PoolRules, SenderRules};

@@ -20,7 +20,7 @@ fn pumped_twice<R: Wait>(
     let (mut sender, mut receiver) = channel(alloc)?;
     for number in 0..count {
         let frame = frame_of(number).ok_or("no frame")?;
-        if !sender.frame(rt, &frame) {
+        if !sender.frame(rt, frame.as_frame()) {
             return Err(Fail::from("not sent"));
         }
     }
@@ -61,7 +61,7 @@ fn a_pump_may_go_on_after_it_was_full(rt: HostRuntime) -> Result<(), Fail> {
     let mut shelf = Shelf::new(rt.alloc(), 0);
     for number in 0..100usize {
         let frame = frame_of(number).ok_or("no frame")?;
-        let is_sent = sender.frame(&rt, &frame);
+        let is_sent = sender.frame(&rt, frame.as_frame());
         let end = end_of(pump(&mut receiver, &rt, &mut shelf));
         assert_eq!(rt; (is_sent, end), (true, Pumped::Full(number)));
     }
@@ -73,9 +73,9 @@ fn nothing_is_sent_after_last(rt: HostRuntime) -> Result<(), Fail> {
     let (mut sender, _receiver) = channel(rt.alloc())?;
     let frames = frames_of(rt.alloc(), 2).ok_or("no frames")?;
     let frame = frame_of(0).ok_or("no frame")?;
-    let first = (sender.frame(&rt, &frame), sender.is_ended());
+    let first = (sender.frame(&rt, frame.as_frame()), sender.is_ended());
     let last = (sender.last(&rt), sender.is_ended());
-    let after = (sender.frame(&rt, &frame), sender.last(&rt));
+    let after = (sender.frame(&rt, frame.as_frame()), sender.last(&rt));
     let fed = feed(&mut sender, &rt, &frames);
     assert_eq!(rt;
         (first, last, after, fed),
@@ -96,7 +96,7 @@ fn a_sender_is_told_that_the_receiver_is_gone(rt: HostRuntime) -> Result<(), Fai
     let frame = frame_of(0).ok_or("no frame")?;
     drop(receiver);
     let fed = feed(&mut sender, &rt, &frames);
-    let sent = (sender.frame(&rt, &frame), sender.last(&rt));
+    let sent = (sender.frame(&rt, frame.as_frame()), sender.last(&rt));
     let none = feed(&mut sender, &rt, &[]);
     assert_eq!(rt;
         (fed, sent, none),
@@ -114,7 +114,7 @@ fn ends_that_were_compared_go_on(rt: HostRuntime) -> Result<(), Fail> {
     let Some(frame) = frame_of(0) else {
         return Err(Fail::from("no frame"));
     };
-    let is_sent = sender.frame(&rt, &frame);
+    let is_sent = sender.frame(&rt, frame.as_frame());
     let mut receiver = sender.beside(receiver);
     sender.agrees();
     let is_last = sender.last(&rt);

@@ -5,7 +5,7 @@ ghost use Rattle.receive_checksum.specs.Checks.{packet_checks, checks_of};
 use crate::check::Checks;
 use crate::ip::{check_ipv4, check_ipv6};
 use crate::words::word_at;
-use wire_frame::{FrameBuf, is_tagged};
+use wire_frame::{Frame, is_tagged};
 
 /// How long the Ethernet header of a frame is (IEEE 802.3).
 const HEADER: usize = 14;
@@ -24,8 +24,8 @@ const IPV6_TYPE: u16 = 0x86DD;
 /// sums to 0xFFFF with it.
 #[inline]
 #[tactic(auto, unfolding(crate::specs::Checks::checks_of))]
-pub fn check_sums(frame: &FrameBuf) -> Checks
-    ensures { result ≡ checks_of frame.now }
+pub fn check_sums(frame: Frame<'_>) -> Checks
+    ensures { result ≡ checks_of frame.entry.bytes.now }
 {
     let bytes = frame.bytes();
     if is_tagged(bytes) {

@@ -221,10 +221,10 @@ pub fn frames<R: Wait>(rt: &R, alloc: Global) -> Came {
         Ok((mut sender, receiver)) => {
             let mut sent = 0u32;
             for _ in 0..64 {
-                sent = sent.wrapping_add(u32::from(sender.frame(rt, &frame)));
+                sent = sent.wrapping_add(u32::from(sender.frame(rt, frame.as_frame())));
             }
             drop(receiver);
-            Came::whole(sent == 64 && !sender.frame(rt, &frame))
+            Came::whole(sent == 64 && !sender.frame(rt, frame.as_frame()))
         }
         Err(fault) => Came::refused(fault, true),
     }

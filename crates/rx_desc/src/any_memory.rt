@@ -42,6 +42,7 @@ pub fn place(
     if !ring.is_enabled() {
         return Placed::NoRoom;
     }
+    let frame = frame.as_frame();
     let (source, tag) = without_tag(config.strip_tag, frame);
     let back = WriteBack {
         format: config.format,

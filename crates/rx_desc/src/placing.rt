@@ -13,7 +13,7 @@ use crate::write_back::{RxFormat, WriteBack};
 use live_memory::{Dma, Traced};
 use receive_checksum::{Checks, check_sums};
 use rings::Ring;
-use wire_frame::FrameBuf;
+use wire_frame::Frame;
 
 /// The most buffers that a frame of 9018 bytes fills, at the least size of a buffer.
 pub(crate) const MOST_PIECES: usize = 9;
@@ -55,18 +55,18 @@ pub fn place_in<D: Dma<K>, K>(
     memory: &mut Traced<D, K>,
     ring: &mut Ring,
     config: &RxConfig,
-    frame: &FrameBuf,
+    frame: Frame<'_>,
     loopback: bool,
 ) -> Placed
     requires least { IsTrue ring.old.enabled → 1024 ≤ config.now.buffer_size }
     requires most { IsTrue ring.old.enabled → config.now.buffer_size ≤ 16384 }
     requires inside { LiesInside (length (D.seen memory.old.memory)) ring.old }
     ensures done { Delivers
-        (deliver config.now loopback frame.now
+        (deliver config.now loopback frame.entry.bytes.now
         (met memory.old.accesses memory.new.accesses (D.seen memory.old.memory)) ring.old)
         result (D.seen memory.new.memory) ring.new }
     ensures listed { memory.new.accesses ≡ memory.old.accesses
-        ++ deliver_accesses config.now loopback frame.now
+        ++ deliver_accesses config.now loopback frame.entry.bytes.now
         (met memory.old.accesses memory.new.accesses (D.seen memory.old.memory)) ring.old }
     ensures traced { IsTraced D.shared (D.seen memory.old.memory) memory.old.accesses
         memory.new.accesses }
@@ -102,7 +102,7 @@ fn place_frame<D: Dma<K>, K>(
     memory: &mut Traced<D, K>,
     ring: &mut Ring,
     config: &RxConfig,
-    frame: &FrameBuf,
+    frame: Frame<'_>,
     loopback: bool,
 ) -> Placed
     requires least { 1024 ≤ config.now.buffer_size }
@@ -111,14 +111,14 @@ fn place_frame<D: Dma<K>, K>(
     requires inside { LiesInside (length (D.seen memory.old.memory)) ring.old }
     ensures done { Delivers
         (deliver_pieces
-        (back_of config.now loopback frame.now)
-        (pieces config.now.buffer_size (data_of config.now.strip_tag frame.now))
+        (back_of config.now loopback frame.entry.bytes.now)
+        (pieces config.now.buffer_size (data_of config.now.strip_tag frame.entry.bytes.now))
         (met memory.old.accesses memory.new.accesses (D.seen memory.old.memory)) ring.old)
         result (D.seen memory.new.memory) ring.new }
     ensures listed { memory.new.accesses ≡ memory.old.accesses
         ++ pieces_accesses
-        (back_of config.now loopback frame.now)
-        (pieces config.now.buffer_size (data_of config.now.strip_tag frame.now))
+        (back_of config.now loopback frame.entry.bytes.now)
+        (pieces config.now.buffer_size (data_of config.now.strip_tag frame.entry.bytes.now))
         (met memory.old.accesses memory.new.accesses (D.seen memory.old.memory)) ring.old }
     ensures traced { IsTraced D.shared (D.seen memory.old.memory) memory.old.accesses
         memory.new.accesses }
@@ -138,8 +138,8 @@ fn place_frame<D: Dma<K>, K>(
 
 // What is said of the checksums of a frame: nothing, where they are not looked at.
 #[inline]
-pub(crate) fn sums_of(looks: bool, frame: &FrameBuf) -> Checks
-    ensures { result ≡ sums_of looks frame.now }
+pub(crate) fn sums_of(looks: bool, frame: Frame<'_>) -> Checks
+    ensures { result ≡ sums_of looks frame.entry.bytes.now }
 {
     if looks {
         check_sums(frame)
@@ -150,9 +150,9 @@ pub(crate) fn sums_of(looks: bool, frame: &FrameBuf) -> Checks
 
 // The bytes of a frame that are placed, and the tag that was taken off it, where it is to be stripped and has one.
 #[inline]
-pub(crate) fn without_tag(strip_tag: bool, frame: &FrameBuf) -> (Parts<'_>, Option<u16>)
-    ensures text { text_of result.0 ≡ data_of strip_tag frame.now }
-    ensures tag { result.1 ≡ tag_taken strip_tag frame.now }
+pub(crate) fn without_tag(strip_tag: bool, frame: Frame<'_>) -> (Parts<'_>, Option<u16>)
+    ensures text { text_of result.0 ≡ data_of strip_tag frame.entry.bytes.now }
+    ensures tag { result.1 ≡ tag_taken strip_tag frame.entry.bytes.now }
     ensures some { 1 ≤ length (text_of result.0) }
     ensures short { length (text_of result.0) ≤ 9018 }
 {

@@ -14,7 +14,7 @@ use crate::words::Words;
 use device::{MemSlice, Request};
 use std::alloc::Global;
 use std::marker::Model;
-use wire_frame::{FrameBuf, FrameLimit};
+use wire_frame::{Frame, FrameLimit};
 
 /// Events, the first one first.
 #[derive(Drop)]
@@ -74,7 +74,7 @@ impl Events {
         Ok(())
     }
 
-    /// An event, as a device is asked it. Its bytes and its frame, where it has some, may be laid out in `scratch`.
+    /// An event, as a device is asked it. Its bytes, where it has some, may be laid out in `scratch`.
     #[inline]
     pub fn request<'a>(&'a self, index: usize, scratch: &'a mut Scratch) -> Request<'a>
         requires { index < length self.now }
@@ -84,11 +84,19 @@ impl Events {
             Record::MemWrite(pool, at, span) => {
                 Request::MemWrite(pool, at, few(self.store.bytes(span, &mut scratch.bytes)))
             }
-            Record::Wire(span) => Request::Wire(framed(
-                self.store.bytes(span, &mut scratch.bytes),
-                &mut scratch.frame,
-            )),
-            record => record.with(few(&[]), &scratch.frame),
+            Record::Wire(span) => {
+                Request::Wire(framed(self.store.bytes(span, &mut scratch.bytes)))
+            }
+            Record::Open(pool) => Request::Open(pool),
+            Record::End(pool) => Request::End(pool),
+            Record::VfRead(pool, offset) => Request::VfRead(pool, offset),
+            Record::VfWrite(pool, offset, value) => Request::VfWrite(pool, offset, value),
+            Record::MemRead(pool, at, count) => Request::MemRead(pool, at, count),
+            Record::Serve(pool, queue) => Request::Serve(pool, queue),
+            Record::Flr(pool) => Request::Flr(pool),
+            Record::PfRead(offset) => Request::PfRead(offset),
+            Record::PfWrite(offset, value) => Request::PfWrite(offset, value),
+            Record::PfReset => Request::PfReset,
         }
     }
 }
@@ -107,12 +115,12 @@ fn few(bytes: &[u8]) -> MemSlice<'_>
 
 // The bytes of a frame as a frame.
 #[inline]
-fn framed<'a>(bytes: &[u8], frame: &'a mut FrameBuf) -> &'a FrameBuf
+fn framed(bytes: &[u8]) -> Frame<'_>
     requires { IsFrame bytes.now }
-    ensures { result.now ≡ bytes.now }
+    ensures { result.bytes.now ≡ bytes.now }
 {
-    if let Some(longest) = FrameLimit::new(9018) {
-        frame.refill(bytes, longest);
+    match Frame::new(bytes, FrameLimit::longest()) {
+        Ok(frame) => frame,
+        Err(_) => unreachable!(),
     }
-    frame
 }

@@ -83,7 +83,7 @@ impl Script {
         self.events.len()
     }
 
-    /// An event, as a device is asked it. Its bytes and its frame, where it has some, may be laid out in `scratch`.
+    /// An event, as a device is asked it. Its bytes, where it has some, may be laid out in `scratch`.
     #[inline]
     pub fn request<'a>(&'a self, index: usize, scratch: &'a mut Scratch) -> Request<'a>
         requires { index < length self.now.events }

@@ -10,7 +10,7 @@ use std::sync::Wait;
 use std::sync::ledger::Ledger;
 use std::thread::yield_now;
 use std::time::Clock;
-use wire_frame::{FrameBuf, FrameLimit};
+use wire_frame::{Frame, FrameLimit};
 use wire_pump::{FrameReceiver, FrameSender, LockedDoor, PumpEnd, pump};
 
 /// The longest frame that comes.
@@ -34,7 +34,6 @@ pub fn head(value: u32, from: u8) -> [u8; 14] {
 /// Sends frames until it is over or the pump is gone, and then that there are no more. How many were sent.
 pub fn feed<R: Wait + Clock>(rt: &R, sender: &mut FrameSender, until: Until, seed: u64) -> u64 {
     let mut chance = Pcg32::new(seed, 255);
-    let mut room = FrameBuf::blank();
     let mut bytes = [0; LONGEST];
     let mut sent = 0u64;
     let Some(limit) = FrameLimit::new(LONGEST as u16) else {
@@ -47,8 +46,10 @@ pub fn feed<R: Wait + Clock>(rt: &R, sender: &mut FrameSender, until: Until, see
         let value = chance.next_u32();
         bytes[..14].copy_from_slice(&head(value, 255));
         let length = 60 + (value >> 16) as usize % (LONGEST - 59);
-        room.refill(&bytes[..length], limit);
-        if !sender.frame(rt, &room) {
+        let Ok(frame) = Frame::new(&bytes[..length], limit) else {
+            break;
+        };
+        if !sender.frame(rt, frame) {
             break;
         }
         sent = sent.wrapping_add(1);

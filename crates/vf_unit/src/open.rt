@@ -30,7 +30,7 @@ use std::alloc::{AllocError, Global};
 use std::marker::Model;
 use std::mem::replace;
 use tx_desc::{Progress, Terms, Turn};
-use wire_frame::{FrameBuf, FrameLimit, PortVlan, field, has_bit};
+use wire_frame::{Frame, FrameBuf, FrameLimit, PortVlan, field, has_bit};
 
 /// What SRRCTL always reads, beside what is kept of it.
 const DROPS: u32 = 1 << DROP_EN;
@@ -381,16 +381,16 @@ impl<D: Dma<K>, K> OpenVf<D, K> {
     /// Places a frame in receive queue 0; the messages that this issues. `loopback` says that another pool sent it.
     #[inline]
     #[tactic(auto, using(crate::proofs::Told::state_told), unfolding(crate::specs::Function::delivered))]
-    pub fn deliver(&mut self, frame: &FrameBuf, loopback: bool) -> Vectors
+    pub fn deliver(&mut self, frame: Frame<'_>, loopback: bool) -> Vectors
         ensures state { self.new.state
-            ≡ (delivered loopback frame.now
+            ≡ (delivered loopback frame.entry.bytes.now
             (told self.old.accesses self.new.accesses self.old.state)).state }
         ensures messages { result
-            ≡ (delivered loopback frame.now
+            ≡ (delivered loopback frame.entry.bytes.now
             (told self.old.accesses self.new.accesses self.old.state)).messages }
         ensures size { length self.new.state.memory ≡ length self.old.state.memory }
         ensures listed { self.new.accesses ≡ self.old.accesses
-            ++ delivered_accesses loopback frame.now
+            ++ delivered_accesses loopback frame.entry.bytes.now
             (told self.old.accesses self.new.accesses self.old.state) }
         ensures traced { IsTraced D.shared self.old.state.memory self.old.accesses self.new.accesses }
     {

@@ -15,7 +15,7 @@ use live_memory::{Alone, Dma, Traced};
 use offload::Offloads;
 use std::alloc::{AllocError, Global};
 use std::marker::Model;
-use wire_frame::{FrameBuf, FrameLimit, PortVlan};
+use wire_frame::{Frame, FrameBuf, FrameLimit, PortVlan};
 
 /// A virtual function, closed or open. Each call says what it does to one that is open; a closed one stays as it is.
 #[derive(Drop)]
@@ -195,17 +195,17 @@ impl<D: Dma<K>, K> VfUnit<D, K> {
     /// write the memory meanwhile: it is done to the function that was met.
     #[inline]
     #[tactic(auto, unfolding(crate::specs::Unit::told_of))]
-    pub fn deliver_live(&mut self, frame: &FrameBuf, loopback: bool) -> Vectors
+    pub fn deliver_live(&mut self, frame: Frame<'_>, loopback: bool) -> Vectors
         ensures function { self.new.function
-            ≡ (given loopback frame.now
+            ≡ (given loopback frame.entry.bytes.now
             (met_function self.old self.new)).state }
         ensures messages { result
-            ≡ (given loopback frame.now
+            ≡ (given loopback frame.entry.bytes.now
             (met_function self.old self.new)).messages }
         ensures size { size_of self.new.function ≡ size_of self.old.function }
         ensures counted { IsCounted self.old.function self.new.function }
         ensures listed { self.new.accesses ≡ self.old.accesses
-            ++ given_accesses loopback frame.now (met_function self.old self.new) }
+            ++ given_accesses loopback frame.entry.bytes.now (met_function self.old self.new) }
         ensures met { IsMet D.shared self.old.function self.old.accesses self.new.accesses }
     {
         if self.is_open {
@@ -318,13 +318,25 @@ impl<M: GuestMem> VfUnit<M> {
     /// Places a frame in receive queue 0; the messages that this issues. `loopback` says that another pool sent it.
     #[inline]
     #[tactic(auto, using(crate::proofs::Told::met_alone))]
+    pub fn deliver_frame(&mut self, frame: Frame<'_>, loopback: bool) -> Vectors
+        ensures function { self.new.function
+            ≡ (given loopback frame.entry.bytes.now self.old.function).state }
+        ensures messages { result ≡ (given loopback frame.entry.bytes.now self.old.function).messages }
+        ensures counted { IsCounted self.old.function self.new.function }
+        ensures size { size_of self.new.function ≡ size_of self.old.function }
+    {
+        self.deliver_live(frame, loopback)
+    }
+
+    /// The same of a frame that holds its bytes itself.
+    #[inline]
     pub fn deliver(&mut self, frame: &FrameBuf, loopback: bool) -> Vectors
         ensures function { self.new.function ≡ (given loopback frame.now self.old.function).state }
         ensures messages { result ≡ (given loopback frame.now self.old.function).messages }
         ensures counted { IsCounted self.old.function self.new.function }
         ensures size { size_of self.new.function ≡ size_of self.old.function }
     {
-        self.deliver_live(frame, loopback)
+        self.deliver_frame(frame.as_frame(), loopback)
     }
 
     /// Takes the descriptor at the head of a transmit queue, under the port's VLAN rule and the limit on frames. A frame

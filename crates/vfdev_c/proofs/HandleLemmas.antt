@@ -52,6 +52,11 @@ made_hands w old new wanted d response room handed before after is wants so take
       bytes = comes.bytes;
     }
 
+-- what was read stands where it was wanted, and of a read that is refused nothing does
+pub bytes_put : (done : Result (Unit {0}) Fault) (before after : List ℕ) → OnErr done (after ≡ before) → after ≡ bytes_shown (bytes_or_refused done after) before
+bytes_put (Ok _) before after stays = refl
+bytes_put (Err fault) before after stays = stays
+
 -- it reads a guest's memory straight into the caller's bytes, which are no more than one access may name
 pub read_hands : (w old : World) (p at : ℕ) (done : Result (Unit {0}) Fault) (handed : Handed) (before after : List ℕ) → w ≡ old → length before ≤ 2048
     → w ≡ (step w (MemRead p at (length before))).world → silently (bytes_or_refused done after) ≡ (step w (MemRead p at (length before))).answer → OnErr done (after ≡ before)
@@ -72,12 +77,8 @@ read_hands w old p at done handed before after is few stays answer unchanged rep
       };
       left = none;
       frame = λ long. absurd (omega (arith, long, few));
-      bytes = λ q from same. put done unchanged ∙ ap (λ (a : Answer). bytes_shown a.reply before) answer;
+      bytes = λ q from same. bytes_put done before after unchanged ∙ ap (λ (a : Answer). bytes_shown a.reply before) answer;
     }
-  where
-    put : (done : Result (Unit {0}) Fault) → OnErr done (after ≡ before) → after ≡ bytes_shown (bytes_or_refused done after) before
-    put (Ok _) stays = refl
-    put (Err fault) stays = stays
 
 -- a device has a function
 pub none_makeable : (b : Bool) → (b && is_makeable []) ≡ true → ⊥

@@ -19,7 +19,7 @@ use Rattle.device.specs.Takes.{Takes}
 use Rattle.device.specs.World.{World, Stepped, step, function_of, acted, refused}
 use Rattle.vfdev_c.specs.declared.handed.Handed.{Handed}
 use Rattle.vfdev_c.specs.declared.wanted.Wanted.{Wanted}
-use Rattle.vfdev_c.specs.declared.wanted.Wanted.TheVariants.{Read, Frame, Other}
+use Rattle.vfdev_c.specs.declared.wanted.Wanted.TheVariants.{Read, Other}
 use Rattle.vfdev_c.specs.Handle.{bytes_shown, frame_in, length_in, shown}
 use Rattle.vfdev_c.specs.Recorded.{is_mem_read, kept_as}
 use Rattle.vfdev_c.specs.Wanted.{event_in, HandsOver, HasBytes, IsWanted}
@@ -62,7 +62,6 @@ alike w (Read p at count) wants = record {
   leaves = refl;
   lists = λ i r. listed_long w p at count (nat_le count 65535) r refl i;
 }
-alike w (Frame bytes) wants = record { does = refl; leaves = refl; lists = refl }
 alike w (Other request) not =
     let same = kept_itself (event_in (Other request)) not in
     record { does = ap (step w) same; leaves = ap (left_by w) same; lists = ap (accesses_by w) same }

@@ -1,8 +1,7 @@
 -- What a call wants of a device, and what comes of it for the caller.
-use Rattle.std.specs.Prelude.{◌≡◌, ℕ, ◌≤◌, true, false, nat_eq, List, length, None, Ok, if◌then◌else◌}
-use Rattle.wire_frame.specs.Frame.{is_frame}
+use Rattle.std.specs.Prelude.{◌≡◌, ℕ, ◌≤◌, false, nat_eq, List, length, None, Ok, if◌then◌else◌}
 use Rattle.device.specs.Events.{Event}
-use Rattle.device.specs.declared.event.Event.TheVariants.{MemRead, Wire}
+use Rattle.device.specs.declared.event.Event.TheVariants.{MemRead}
 use Rattle.device.specs.declared.event.Reply.TheVariants.{Bytes}
 use Rattle.device.specs.declared.response.Response.{Response}
 use Rattle.device.specs.declared.room.Room.{Room}
@@ -13,20 +12,18 @@ use Rattle.vfdev_c.specs.Handle.{Held, Gives, bytes_on, bytes_shown, frame_in, l
 use Rattle.vfdev_c.specs.Recorded.{is_mem_read}
 use Rattle.vfdev_c.specs.declared.handed.Handed.{Handed}
 use Rattle.vfdev_c.specs.declared.wanted.Wanted.{Wanted}
-use Rattle.vfdev_c.specs.declared.wanted.Wanted.TheVariants.{Read, Frame, Other}
+use Rattle.vfdev_c.specs.declared.wanted.Wanted.TheVariants.{Read, Other}
 
 -- ---- what is wanted
 
 -- the event that a call asks for
 abbrev pub event_in : Wanted → Event
 event_in (Read function at count) = MemRead function at count
-event_in (Frame bytes) = Wire bytes.now
 event_in (Other request) = event_of request
 
--- the bytes of a frame are one, and a read is wanted as such
+-- a read is wanted as such
 abbrev pub IsWanted : Wanted → Type 0
 IsWanted (Read function at count) = Unit
-IsWanted (Frame bytes) = is_frame 9018 bytes.now ≡ true
 IsWanted (Other request) = is_mem_read (event_of request) ≡ false
 
 -- ---- what comes of it

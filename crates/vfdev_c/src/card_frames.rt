@@ -6,7 +6,6 @@ ghost use Rattle.vfdev_c.specs.Handle.{frame_in, length_in, no_device};
 
 use crate::card_held::CardHeld;
 use crate::handle::Vfdev;
-use crate::handle_state::{MOST_FRAME, lay};
 use crate::left::lay_left;
 use crate::on_card::on_card;
 use crate::reply::VfdevReply;
@@ -14,7 +13,7 @@ use crate::wired::VfdevWired;
 use irq_causes::Vectors;
 use std::alloc::Global;
 use vf_unit::Vector;
-use wire_frame::{Fault, PoolId, is_frame};
+use wire_frame::{Fault, Frame, FrameLimit, PoolId};
 
 /// What came of descriptors that were taken, as C sees it.
 #[repr(C)]
@@ -192,11 +191,10 @@ impl CardHeld {
     fn wire(&mut self, bytes: &[u8]) -> VfdevReply
         ensures { Wires bytes.now self.old self.new result }
     {
-        if !is_frame(bytes, MOST_FRAME) {
+        let Ok(frame) = Frame::new(bytes, FrameLimit::longest()) else {
             return VfdevReply::refused(Fault::BadFrame);
-        }
-        lay(&mut self.frame, bytes);
-        match self.card.wire(&self.frame) {
+        };
+        match self.card.wire(frame) {
             Ok(()) => VfdevReply::done(),
             Err(fault) => VfdevReply::refused(fault),
         }
@@ -206,7 +204,7 @@ impl CardHeld {
     fn wire_burst(&mut self, bytes: &[u8], ends: &[usize]) -> VfdevWired
         ensures { WiresAll ends.now bytes.now self.old self.new result }
     {
-        let came = self.card.wire_burst(bytes, ends, &mut self.frame);
+        let came = self.card.wire_burst(bytes, ends);
         VfdevWired {
             taken: came.taken,
             refused: came.refused,

@@ -14,7 +14,7 @@ use offload::Offloads;
 use spare_memory::Spares;
 use std::alloc::Global;
 use std::marker::Model;
-use wire_frame::{Fault, FrameBuf, FrameLimit, PoolId, Vid};
+use wire_frame::{Fault, FrameLimit, PoolId, Vid};
 
 /// How many VLAN ids there are at most.
 const MOST: usize = 64;
@@ -28,13 +28,12 @@ pub(crate) const MOST_FRAMES: usize = 256;
 /// How many bytes they may have together. With less room for one more than the longest frame has, no descriptor is taken.
 pub(crate) const FRAME_BYTES: usize = 262_144;
 
-/// A card over memories of guests, with spare memories for those that come, and room for frames that come and leave.
+/// A card over memories of guests, with spare memories for those that come, and room for frames that leave.
 #[derive(Drop)]
 pub struct CardHeld {
     pub(crate) card: Card<LiveMem<'static>, Shared>,
     pub(crate) spares: Spares<'static>,
     pub(crate) frames: Frames,
-    pub(crate) frame: FrameBuf,
     pub(crate) room: Room,
 }
 
@@ -79,7 +78,6 @@ impl CardHeld {
             card,
             spares,
             frames,
-            frame: FrameBuf::blank(),
             room: Room::new(),
         })
     }

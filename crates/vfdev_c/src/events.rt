@@ -4,13 +4,12 @@ ghost use Rattle.device.specs.declared.event.Event.{Event};
 ghost use Rattle.vfdev_c.specs.Handle.{Calls, raised_on, messages_in, bytes_on, where_room, wire_asked, write_asked};
 
 use crate::handle::Vfdev;
-use crate::handle_state::MOST_FRAME;
 use crate::reply::VfdevReply;
 use crate::wanted::Wanted;
 use device::{MemSlice, Request};
 use irq_causes::Messages;
 use std::alloc::Global;
-use wire_frame::{Fault, is_frame};
+use wire_frame::{Fault, Frame, FrameLimit};
 
 /// How many pools there are, each of which has a byte of the messages.
 pub const POOLS: usize = 64;
@@ -158,11 +157,11 @@ pub extern "C" fn vfdev_wire(
     if messages.len() < POOLS {
         return VfdevReply::no_room();
     }
-    if !is_frame(bytes, MOST_FRAME) {
+    let Ok(frame) = Frame::new(bytes, FrameLimit::longest()) else {
         put_messages(Messages::none(), messages);
         return VfdevReply::refused(Fault::BadFrame);
-    }
-    let handed = handle.give(alloc, Wanted::Frame(bytes), &mut []);
+    };
+    let handed = handle.ask(alloc, Request::Wire(frame));
     put_messages(handed.messages, messages);
     handed.reply
 }

@@ -1,6 +1,5 @@
 //! What a handle leads to.
-ghost use Rattle.std.specs.Prelude.{◌≡◌, ◌≤◌, ◌↔◌, IsTrue, true, length, Some};
-ghost use Rattle.wire_frame.specs.Frame.{is_frame};
+ghost use Rattle.std.specs.Prelude.{◌≡◌, ◌≤◌, ◌↔◌, IsTrue, length, Some};
 ghost use Rattle.device.specs.Events.{Event};
 ghost use Rattle.device.specs.declared.event.Event.TheVariants.{MemRead};
 ghost use Rattle.device.specs.World.{World, step, answers, world_after};
@@ -27,7 +26,6 @@ use history::History;
 use live_memory::Dma;
 use local_switch::Source;
 use std::marker::Model;
-use wire_frame::{FrameBuf, FrameLimit};
 
 /// How long a frame may be, in bytes.
 pub const MOST_FRAME: usize = 9018;
@@ -49,11 +47,10 @@ pub enum HandleState {
     Guests(GuestDevice),
 }
 
-/// A device, with room for a frame that comes, and for what its events send and read.
+/// A device, with room for what its events send and read.
 #[derive(Drop)]
 pub struct Running {
     device: Device<FlatMem>,
-    frame: FrameBuf,
     room: Room,
 }
 
@@ -72,7 +69,6 @@ impl Running {
     {
         Running {
             device,
-            frame: FrameBuf::blank(),
             room: Room::new(),
         }
     }
@@ -110,7 +106,7 @@ impl DeviceKind for Running {
             }
         }
         isolates(&self.device);
-        let request = wanted.laid(&mut self.frame);
+        let request = wanted.as_request();
         let response = self.device.take(request, &mut self.room);
         Handed::of(&response, &self.room, out)
     }
@@ -134,15 +130,4 @@ pub(crate) fn isolates<D: Dma<K>, K>(device: &Device<D, K>)
     let count = device.functions();
     prove!(count <= 64);
     isolation();
-}
-
-// Makes a frame these bytes, which are one.
-#[inline]
-pub(crate) fn lay(frame: &mut FrameBuf, bytes: &[u8])
-    requires { is_frame 9018 bytes.now ≡ true }
-    ensures { frame.new ≡ bytes.now }
-{
-    if let Some(limit) = FrameLimit::new(9018) {
-        frame.refill(bytes, limit);
-    }
 }

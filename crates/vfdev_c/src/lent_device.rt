@@ -1,10 +1,13 @@
 //! A device over blocks that guests write while it works on them.
 ghost use Rattle.std.specs.Prelude.{◌≡◌, ◌≤◌, ◌⊎◌, ◌&&◌, true, false, map, length, Some, Err, IfOk, IfErr};
+ghost use Rattle.device.specs.declared.event.Event.TheVariants.{MemRead};
 ghost use Rattle.device.specs.World.{fresh, is_frame_limit, is_makeable};
 ghost use Rattle.live_run.specs.Arrivals.{IsWireBurst};
 ghost use Rattle.live_run.specs.Bursts.{IsBurst};
 ghost use Rattle.live_run.specs.Frames.{has_room};
 ghost use Rattle.vfdev_c.specs.LentWorld.{untouched};
+ghost use Rattle.vfdev_c.specs.Wanted.{Hands};
+ghost use Rattle.vfdev_c.specs.declared.handle_state.HandleState.TheVariants.{Lent};
 
 use crate::counts::{VfdevCounts, count};
 use crate::device_kind::DeviceKind;
@@ -12,6 +15,7 @@ use crate::handed::Handed;
 use crate::handle_state::isolates;
 use crate::reply::VfdevReply;
 use crate::wanted::Wanted;
+use device::bytes::MOST_BYTES;
 use device::{Device, Queue, Room};
 use live_memory::Shared;
 use live_run::{Burst, Frames, WireBurst, serve_burst, wire_burst};
@@ -19,14 +23,13 @@ use local_switch::Source;
 use mapped_memory::LiveMem;
 use std::alloc::Global;
 use std::marker::Model;
-use wire_frame::{Fault, FrameBuf};
+use wire_frame::Fault;
 
-/// A device over blocks that guests write while it works on them, with room for a frame that comes, and for what its events send
-/// and read. A contract sees its world, and all that it read and wrote of each function's memory since it was made, in order.
+/// A device over blocks that guests write while it works on them, with room for what its events send and read. A contract sees its world,
+/// and all that it read and wrote of each function's memory since it was made, in order.
 #[derive(Drop)]
 pub struct LentDevice {
     pub(crate) device: Device<LiveMem<'static>, Shared>,
-    frame: FrameBuf,
     room: Room,
 }
 
@@ -66,7 +69,6 @@ impl LentDevice {
     {
         LentDevice {
             device,
-            frame: FrameBuf::blank(),
             room: Room::new(),
         }
     }
@@ -85,7 +87,7 @@ impl LentDevice {
         ensures most { result.taken ≤ most }
         ensures why { result.goes_on ≡ true → (result.taken ≡ most) ⊎ (has_room frames.new ≡ false) }
     {
-        let LentDevice { device, room, .. } = self;
+        let LentDevice { device, room } = self;
         serve_burst(device, function, queue, most, frames, room)
     }
 
@@ -93,7 +95,17 @@ impl LentDevice {
     pub(crate) fn wire_burst(&mut self, bytes: &[u8], ends: &[usize]) -> WireBurst
         ensures { IsWireBurst true self.old ends.now bytes.now self.new result }
     {
-        wire_burst(&mut self.device, bytes, ends, &mut self.frame)
+        wire_burst(&mut self.device, bytes, ends)
+    }
+
+    // Reads a guest's memory straight into the caller's bytes, which are no more than one access may name.
+    #[inline(always)]
+    fn read(&mut self, function: u8, at: u64, out: &mut [u8]) -> Handed
+        requires { length out.old ≤ 2048 }
+        ensures { Hands (Some (Lent self.old)) (MemRead function at (length out.old)) (Some (Lent self.new)) result out.old out.new }
+    {
+        isolates(&self.device);
+        Handed::none(VfdevReply::read(self.device.mem_read_live(function, at, out)))
     }
 }
 
@@ -104,8 +116,13 @@ impl DeviceKind for LentDevice {
 
     #[inline(always)]
     fn give(&mut self, wanted: Wanted<'_>, out: &mut [u8]) -> Handed {
+        if let Wanted::Read(function, at, count) = wanted {
+            if count == out.len() && count <= MOST_BYTES {
+                return self.read(function, at, out);
+            }
+        }
         isolates(&self.device);
-        let request = wanted.laid(&mut self.frame);
+        let request = wanted.as_request();
         let response = self.device.take_live(request, &mut self.room);
         Handed::of(&response, &self.room, out)
     }

@@ -17,16 +17,15 @@ use history::{Caller, History, Recording};
 use local_switch::Source;
 use std::alloc::Global;
 use std::marker::Model;
-use wire_frame::{Fault, FrameBuf};
+use wire_frame::Fault;
 
 // Who makes the calls: whoever holds the handle, for all functions, as a driver of the physical function does.
 const CALLER: Caller = Caller::Driver;
 
-/// A device with the calls that were made on it since it was made, with room for a frame that comes, and for what its events send and read.
+/// A device with the calls that were made on it since it was made, with room for what its events send and read.
 #[derive(Drop)]
 pub struct Recorder {
     recording: Recording<FlatMem>,
-    frame: FrameBuf,
     room: Room,
 }
 
@@ -56,7 +55,6 @@ impl Recorder {
         let live = Box::new(alloc, live)?;
         Ok(Recorder {
             recording: Recording::new(live, None, history),
-            frame: FrameBuf::blank(),
             room: Room::new(),
         })
     }
@@ -102,7 +100,7 @@ impl DeviceKind for Recorder {
             return Handed::none(VfdevReply::history_full());
         }
         isolates(self.recording.device());
-        let request = wanted.laid(&mut self.frame);
+        let request = wanted.as_request();
         let response = self.recording.record(CALLER, request, &mut self.room);
         Handed::of(&response, &self.room, out)
     }

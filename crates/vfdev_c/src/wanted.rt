@@ -4,9 +4,7 @@ ghost use Rattle.device.specs.Request.{event_of};
 ghost use Rattle.vfdev_c.specs.Recorded.{kept_as, named};
 ghost use Rattle.vfdev_c.specs.Wanted.{event_in, IsWanted};
 
-use crate::handle_state::lay;
 use device::Request;
-use wire_frame::FrameBuf;
 
 // How many bytes an event names at most.
 const MOST_NAMED: usize = 65_535;
@@ -16,26 +14,19 @@ const MOST_NAMED: usize = 65_535;
 pub enum Wanted<'a> {
     /// So many bytes of a guest's memory from an address on.
     Read(u8, u64, usize),
-    /// A frame comes from the wire: its bytes, which are one.
-    Frame(&'a [u8]),
     /// Any other event.
     Other(Request<'a>),
 }
 
 impl<'a> Wanted<'a> {
-    // The request for a device. A frame that comes is laid out in `frame`, and of more bytes than an event names, which are refused, it
-    // names as many as it can.
+    // The request for a device. Of more bytes than an event names, which are refused, it names as many as it can.
     #[inline(always)]
-    pub(crate) fn laid(self, frame: &'a mut FrameBuf) -> Request<'a>
+    pub(crate) fn as_request(self) -> Request<'a>
         requires { IsWanted self }
         ensures { event_of result ≡ kept_as (event_in self.entry) }
     {
         match self {
             Wanted::Read(function, at, count) => Request::MemRead(function, at, named(count)),
-            Wanted::Frame(bytes) => {
-                lay(frame, bytes);
-                Request::Wire(frame)
-            }
             Wanted::Other(request) => request,
         }
     }

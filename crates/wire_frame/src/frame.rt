@@ -49,6 +49,14 @@ impl FrameLimit {
         FrameLimit { most: 1518 }
     }
 
+    /// 9018 bytes, the longest frame that there is.
+    #[inline]
+    pub fn longest() -> FrameLimit
+        ensures { result ≡ 9018 }
+    {
+        FrameLimit { most: 9018 }
+    }
+
     /// The number of bytes.
     #[inline]
     pub fn get(self) -> u16
@@ -69,7 +77,70 @@ impl Default for FrameLimit {
     }
 }
 
-/// A frame without FCS, of 14 to 9018 bytes; one with a VLAN tag has at least 18 (IEEE 802.3 and 802.1Q).
+/// A frame that stands elsewhere: 14 to 9018 bytes without FCS; one with a VLAN tag has at least 18 (IEEE 802.3 and 802.1Q).
+#[derive(Clone, Copy)]
+pub struct Frame<'a> {
+    bytes: &'a [u8],
+    ghost frame: { IsFrame bytes.now },
+}
+
+impl<'a> Frame<'a> {
+    /// The frame of these bytes, where it is no longer than `limit`. They are refused as [`Fault::BadFrame`] exactly where they are
+    /// no such frame.
+    #[inline]
+    pub fn new(bytes: &'a [u8], limit: FrameLimit) -> Result<Frame<'a>, Fault>
+        ensures variant { is_ok result ≡ is_frame limit bytes.now }
+        ensures value { IfOk result (λ f. f.bytes.now ≡ bytes.now) }
+        ensures err { IfErr result (λ e. e ≡ Fault.BadFrame) }
+    {
+        if !is_frame(bytes, usize::from(limit.get())) {
+            return Err(Fault::BadFrame);
+        }
+        Ok(Frame { bytes })
+    }
+
+    /// The bytes of the frame.
+    #[inline]
+    pub fn bytes(self) -> &'a [u8]
+        ensures value { result.now ≡ self.entry.bytes.now }
+        ensures frame { IsFrame self.entry.bytes.now }
+    {
+        self.bytes
+    }
+
+    /// The destination: bytes 0 to 5.
+    #[inline]
+    pub fn dst(self) -> Mac
+        ensures { result.0 ≡ destination self.entry.bytes.now }
+    {
+        let bytes = self.bytes();
+        Mac([bytes[0], bytes[1], bytes[2], bytes[3], bytes[4], bytes[5]])
+    }
+
+    /// The source: bytes 6 to 11.
+    #[inline]
+    pub fn src(self) -> Mac
+        ensures { result.0 ≡ source self.entry.bytes.now }
+    {
+        let bytes = self.bytes();
+        Mac([bytes[6], bytes[7], bytes[8], bytes[9], bytes[10], bytes[11]])
+    }
+
+    /// The tag control, where the frame is tagged: priority and VLAN id (IEEE 802.1Q, TCI).
+    #[inline]
+    pub fn tag(self) -> Option<u16>
+        ensures { result ≡ tag_of self.entry.bytes.now }
+    {
+        let bytes = self.bytes();
+        if is_tagged(bytes) {
+            Some(u16::from(bytes[14]) * 256 + u16::from(bytes[15]))
+        } else {
+            None
+        }
+    }
+}
+
+/// A frame of its own bytes, held in place; what it shows elsewhere is a [`Frame`].
 #[derive(Debug, Drop)]
 pub struct FrameBuf {
     kept: FrameBytes,
@@ -150,13 +221,22 @@ impl FrameBuf {
         self.kept.as_slice()
     }
 
+    /// The same frame, where it stands.
+    #[inline]
+    pub fn as_frame(&self) -> Frame<'_>
+        ensures { result.bytes.now ≡ self.now }
+    {
+        Frame {
+            bytes: self.bytes(),
+        }
+    }
+
     /// The destination: bytes 0 to 5.
     #[inline]
     pub fn dst(&self) -> Mac
         ensures { result.0 ≡ destination self.now }
     {
-        let bytes = self.bytes();
-        Mac([bytes[0], bytes[1], bytes[2], bytes[3], bytes[4], bytes[5]])
+        self.as_frame().dst()
     }
 
     /// The source: bytes 6 to 11.
@@ -164,8 +244,7 @@ impl FrameBuf {
     pub fn src(&self) -> Mac
         ensures { result.0 ≡ source self.now }
     {
-        let bytes = self.bytes();
-        Mac([bytes[6], bytes[7], bytes[8], bytes[9], bytes[10], bytes[11]])
+        self.as_frame().src()
     }
 
     /// The tag control, where the frame is tagged: priority and VLAN id (IEEE 802.1Q, TCI).
@@ -173,12 +252,7 @@ impl FrameBuf {
     pub fn tag(&self) -> Option<u16>
         ensures { result ≡ tag_of self.now }
     {
-        let bytes = self.bytes();
-        if is_tagged(bytes) {
-            Some(u16::from(bytes[14]) * 256 + u16::from(bytes[15]))
-        } else {
-            None
-        }
+        self.as_frame().tag()
     }
 
     /// The tag control, and the bytes without the tag, where the frame is tagged.

@@ -1,6 +1,7 @@
 //! Ethernet frames, and the small types that every layer of the device shares.
 //!
-//! A [`FrameBuf`] is a frame by its type: 14 to 9018 bytes without FCS, of which a tagged one has at least 18.
+//! A [`Frame`] is a frame by its type, whose bytes stand elsewhere: 14 to 9018 of them without FCS, and at least 18 where it is tagged.
+//! A [`FrameBuf`] holds such bytes itself.
 //! [`PoolId`], [`Vid`] and [`FrameLimit`] carry their bounds in the same way, and [`Fault`] names every refusal of the
 //! device. A [`PoolSet`] is a set of pools, which a `for` loop goes through in rising order. Beside them stand the words that
 //! several crates speak of: bits ([`has_bit`]) and fields ([`field`]) of words, the two words of pools in a table
@@ -19,7 +20,7 @@ pub mod vlan;
 pub use address::{AddressKind, Mac};
 pub use bits::{field, has_bit, pool_words};
 pub use fault::Fault;
-pub use frame::{FrameBuf, FrameBytes, FrameLimit, is_frame, is_tagged};
+pub use frame::{Frame, FrameBuf, FrameBytes, FrameLimit, is_frame, is_tagged};
 pub use pool::PoolId;
 pub use pool_set::{PoolSet, Pools};
 pub use row::{Row, read_one, read_word, write_one, write_word};

@@ -2,7 +2,7 @@
 ghost use Rattle.std.specs.Prelude.{◌≡◌, ◌+◌, ◌<◌, ◌⊎◌, ◌++◌, ◌∷◌, [], List, true, false, length, vec_capacity, IfSome, IfNone, OnSome, if◌then◌else◌};
 ghost use Rattle.std.specs.Box.{box_value};
 ghost use Rattle.wire_pump.specs.declared.message.WireMsg.{WireMsg};
-ghost use Rattle.wire_pump.specs.declared.message.WireMsg.TheVariants.{Frame, Last};
+ghost use Rattle.wire_pump.specs.declared.message.WireMsg.TheVariants.{Frame as OfFrame, Last};
 ghost use Rattle.crossbeam_channel.specs.Claims.{IsSeatAt};
 ghost use Rattle.crossbeam_channel.specs.Ends.{sends_on, receives_on};
 ghost use Rattle.wire_pump.specs.Pump.{is_ended, is_proper, sender, receiver, IsReceived};
@@ -14,7 +14,7 @@ use crate::message::Parcel;
 use crossbeam_channel::{Pass, RuledReceiver, RuledSender};
 use std::marker::Model;
 use std::sync::Wait;
-use wire_frame::{FrameBuf, FrameLimit};
+use wire_frame::{Frame, FrameBuf, FrameLimit};
 
 /// The end of the wire's reader. Contracts see its channel, how many messages that holds, those that were sent, how many boxes
 /// there are to be filled, and the frames whose boxes came back.
@@ -103,9 +103,9 @@ impl FrameSender {
     /// Sends a frame, and tells whether it was sent. It waits while 64 messages are under way. It was not sent, and never will
     /// be, where the receiver is gone or `Last` was sent before.
     #[tactic(auto, using(crate::proofs::Moves::goes_on, crate::proofs::Moves::ended_frame, crate::proofs::Moves::one_frame))]
-    pub fn frame<R: Wait>(&mut self, rt: &R, frame: &FrameBuf) -> bool
+    pub fn frame<R: Wait>(&mut self, rt: &R, frame: Frame<'_>) -> bool
         ensures sent { self.new ≡ record self.old {
-          sent = if result then self.old.sent ++ Frame frame.now ∷ [] else self.old.sent;
+          sent = if result then self.old.sent ++ OfFrame frame.entry.bytes.now ∷ [] else self.old.sent;
           boxes = self.new.boxes;
           came_back = self.new.came_back;
         } }
@@ -211,7 +211,7 @@ impl FrameReceiver {
     #[tactic(auto, using(crate::proofs::Moves::goes_on, crate::proofs::Moves::ended_frame))]
     pub(crate) fn put_back<R: Wait>(&mut self, rt: &R, used: Box<FrameBuf>)
         ensures given { self.new.is_alone ≡ false
-            → self.new ≡ record self.old { given = self.old.given ++ Frame (box_value used) ∷ [] } }
+            → self.new ≡ record self.old { given = self.old.given ++ OfFrame (box_value used) ∷ [] } }
         ensures rest { self.new
             ≡ record self.old { given = self.new.given; is_alone = self.new.is_alone } }
         ensures alone { self.old.is_alone ≡ true → self.new.is_alone ≡ true }
@@ -324,13 +324,10 @@ fn compare_back(
 }
 
 // Makes a frame equal to another.
-fn fill(room: &mut FrameBuf, frame: &FrameBuf)
-    ensures { room.new ≡ frame.now }
+fn fill(room: &mut FrameBuf, frame: Frame<'_>)
+    ensures { room.new ≡ frame.entry.bytes.now }
 {
-    let Some(longest) = FrameLimit::new(9018) else {
-        unreachable!()
-    };
-    room.refill(frame.bytes(), longest);
+    room.refill(frame.bytes(), FrameLimit::longest());
 }
 
 // Sends a message that may follow. It comes back where it was not sent.

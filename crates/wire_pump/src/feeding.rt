@@ -23,7 +23,7 @@ pub fn feed<R: Wait>(sender: &mut FrameSender, rt: &R, frames: &[FrameBuf]) -> F
     ensures proper { is_proper sender.new.sent ≡ true }
 {
     for (sent, frame) in frames.iter().enumerate() {
-        if !sender.frame(rt, frame) {
+        if !sender.frame(rt, frame.as_frame()) {
             return FeedEnd::Gone(sent);
         }
     }

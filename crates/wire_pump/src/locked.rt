@@ -119,7 +119,7 @@ impl<M: GuestMem, L: Ledger> Door for LockedDoor<M, L> {
         let response = self.device.act_request(
             rt,
             &mut self.share,
-            Request::Wire(frame),
+            Request::Wire(frame.as_frame()),
             &mut self.room,
             self.when_full,
         );
@@ -150,7 +150,7 @@ impl<M: GuestMem, L: Ledger> Door for LockedDoor<M, L> {
             → self.new ≡ record self.old { refused = Some (Wire frame.now) } }
         ensures line { Some self.new.share.line ≡ Some self.old.share.line }
     {
-        let request = Request::Wire(frame);
+        let request = Request::Wire(frame.as_frame());
         let taken = self
             .device
             .act_request(rt, &mut self.share, request, &mut self.room, self.when_full)

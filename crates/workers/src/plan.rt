@@ -16,7 +16,7 @@ use script::{Scratch, Script};
 use std::alloc::{AllocError, Global};
 use std::marker::Model;
 use std::sync::Arc;
-use wire_frame::{FrameBuf, PoolId};
+use wire_frame::{Frame, PoolId};
 
 /// For each pool whether it has a port.
 pub type Ports = [bool; 64];
@@ -105,8 +105,8 @@ impl Plan {
         self.turns[usize::from(caller.number())].len()
     }
 
-    /// One of the events after `go` that a caller does, as a device is asked it. Its bytes and its frame, where it has some,
-    /// may be laid out in `scratch`.
+    /// One of the events after `go` that a caller does, as a device is asked it. Its bytes, where it has some, may be laid
+    /// out in `scratch`.
     #[inline]
     #[tactic(auto, using(crate::proofs::Places::turn_number, crate::proofs::Places::turns_count, crate::proofs::Places::turn_inside, crate::proofs::Places::turn_event))]
     pub fn request<'a>(
@@ -132,9 +132,9 @@ impl Plan {
     }
 
     /// One of the frames that come from the wire after `go`. It may be laid out in `scratch`.
-    pub fn frame<'a>(&'a self, turn: usize, scratch: &'a mut Scratch) -> &'a FrameBuf
+    pub fn frame<'a>(&'a self, turn: usize, scratch: &'a mut Scratch) -> Frame<'a>
         requires { turn < length (frames_of (own_events self.now Pump)) }
-        ensures { result.now ≡ slice_index_or (frames_of (own_events self.now Pump)) turn [] }
+        ensures { result.bytes.now ≡ slice_index_or (frames_of (own_events self.now Pump)) turn [] }
     {
         match self.request(Caller::Pump, turn, scratch) {
             Request::Wire(frame) => frame,

@@ -55,7 +55,6 @@ fn a_twin_gives_messages_to_any_pools(rt: HostRuntime) -> Result<(), Fail> {
         all[pool] = pool as u8;
     }
     let broadcast = FrameBuf::from_bytes(&[0xFF; 60])?;
-    let mut replay = Replay::new();
     let mut room = Room::new();
     let pools: [&[u8]; 4] = [&[], &[0], &[5, 63], &all];
     for (vector, pools) in [
@@ -70,7 +69,7 @@ fn a_twin_gives_messages_to_any_pools(rt: HostRuntime) -> Result<(), Fail> {
         let mut history = History::new(rt.alloc(), 1000)?;
         open_all(&rt, &mut history, &mut device, vector)?;
         accept_broadcast(&rt, &mut history, &mut device, pools);
-        let wire = Request::Wire(&broadcast);
+        let wire = Request::Wire(broadcast.as_frame());
         let pump = Caller::Pump;
         let told = keep(&rt, &mut history, &mut device, pump, wire, &mut room).messages;
         assert_equal(
@@ -84,7 +83,7 @@ fn a_twin_gives_messages_to_any_pools(rt: HostRuntime) -> Result<(), Fail> {
         let told = keep(&rt, &mut history, &mut device, port_of(7), set, &mut room).messages;
         assert_equal(&rt, told.pools().bits(), 1 << 7);
         let mut twin = device_of_64(rt.alloc())?;
-        assert_equal(&rt, first_other(&history, &mut twin, &mut replay), None);
+        assert_equal(&rt, first_other(&history, &mut twin, &mut room), None);
     }
     Ok(())
 }
@@ -102,17 +101,16 @@ fn a_device_whose_function_is_open_gives_another_answer(rt: HostRuntime) -> Resu
         let service = Caller::Service;
         keep(&rt, &mut history, &mut device, service, request, &mut room);
     }
-    let mut replay = Replay::new();
     let mut other = device_of_64(rt.alloc())?;
     assert_equal(&rt, other.open(0), Ok(()));
-    assert_equal(&rt, first_other(&history, &mut other, &mut replay), Some(1));
+    assert_equal(&rt, first_other(&history, &mut other, &mut room), Some(1));
     // and one without that function too
     let mut smaller = Device::new(rt.alloc(), memories(rt.alloc(), 1, 4096)?)?;
-    assert_equal(&rt, first_other(&history, &mut smaller, &mut replay), None);
+    assert_equal(&rt, first_other(&history, &mut smaller, &mut room), None);
     assert_equal(&rt, smaller.end(0), Ok(()));
     assert!(rt; 2 < history.len());
-    assert!(rt; !history.gives(2, &mut smaller, &mut replay));
-    history.step(1, &mut smaller, &mut replay);
-    assert!(rt; history.gives(2, &mut smaller, &mut replay));
+    assert!(rt; !history.gives(2, &mut smaller, &mut room));
+    history.step(1, &mut smaller, &mut room);
+    assert!(rt; history.gives(2, &mut smaller, &mut room));
     Ok(())
 }

@@ -33,7 +33,7 @@ fn caller_at(index: usize) -> Option<Caller> {
 fn assert_kept<R: Abort>(rt: &R, alloc: Global, asked: &[Request<'_>]) -> Result<(), Fail> {
     let mut device = device_of_64(alloc)?;
     let mut history = History::new(alloc, 16)?;
-    let (mut frame, mut room) = (FrameBuf::blank(), Room::new());
+    let mut room = Room::new();
     for i in 0..asked.len() {
         let caller = caller_at(i).ok_or("no caller")?;
         keep(rt, &mut history, &mut device, caller, asked[i], &mut room);
@@ -41,17 +41,13 @@ fn assert_kept<R: Abort>(rt: &R, alloc: Global, asked: &[Request<'_>]) -> Result
     assert_equal(rt, history.len(), asked.len());
     for i in 0..history.len() {
         assert_equal(rt, Some(history.caller(i)), caller_at(i));
-        let kept = history.request(i, &mut frame);
+        let kept = history.request(i);
         for j in 0..asked.len() {
             assert_eq!(rt; is_same(kept, asked[j]), i == j, "at {i} and {j}");
         }
     }
     let mut twin = device_of_64(alloc)?;
-    assert_equal(
-        rt,
-        first_other(&history, &mut twin, &mut Replay::new()),
-        None,
-    );
+    assert_equal(rt, first_other(&history, &mut twin, &mut room), None);
     Ok(())
 }
 
@@ -82,7 +78,7 @@ fn assert_bytes_kept<'x, R: Abort>(
     rt: &R,
     alloc: Global,
     written: &'x [u8],
-    frame: &'x FrameBuf,
+    frame: Frame<'x>,
 ) -> Result<(), Fail> {
     let written = MemSlice::new(written)?;
     assert_kept(
@@ -102,10 +98,10 @@ fn assert_bytes_kept<'x, R: Abort>(
 #[test]
 fn events_with_bytes_read_back(rt: HostRuntime) -> Result<(), Fail> {
     let shortest = FrameBuf::from_bytes(&[1; 14])?;
-    assert_bytes_kept(&rt, rt.alloc(), &[], &shortest)?;
+    assert_bytes_kept(&rt, rt.alloc(), &[], shortest.as_frame())?;
     // longer than the device takes: it is refused, and kept as any other
     let longest = FrameBuf::from_bytes(&[2; 9018])?;
-    assert_bytes_kept(&rt, rt.alloc(), &[3; 2048], &longest)?;
+    assert_bytes_kept(&rt, rt.alloc(), &[3; 2048], longest.as_frame())?;
     Ok(())
 }
 
@@ -113,7 +109,7 @@ fn events_with_bytes_read_back(rt: HostRuntime) -> Result<(), Fail> {
 fn there_are_as_many_entries_as_the_cap(rt: HostRuntime) -> Result<(), Fail> {
     let mut device = device_of_64(rt.alloc())?;
     let mut history = History::new(rt.alloc(), 2)?;
-    let (mut frame, mut room) = (FrameBuf::blank(), Room::new());
+    let mut room = Room::new();
     assert!(rt; history.is_empty());
     for offset in [PFVFRE, PFVFRE + 4] {
         assert!(rt; !history.is_full());
@@ -143,11 +139,6 @@ fn there_are_as_many_entries_as_the_cap(rt: HostRuntime) -> Result<(), Fail> {
     );
     assert!(rt; 0 < history.len());
     assert_equal(&rt, history.caller(0), port_of(9));
-    assert!(rt;
-        is_same(
-            history.request(0, &mut frame),
-            Request::MemWrite(9, 7, written)
-        )
-    );
+    assert!(rt; is_same(history.request(0), Request::MemWrite(9, 7, written)));
     Ok(())
 }

@@ -110,13 +110,13 @@ fn pf_read_pf_write_flr_and_reset(rt: HostRuntime) -> Result<(), Fail> {
 fn wire_tells_who_got_messages(rt: HostRuntime) -> Result<(), Fail> {
     let mut device = Device::new(rt.alloc(), memories(rt.alloc(), 8, 65536)?)?;
     set_up(&rt, &mut device)?;
-    let messages = device.wire(&frame_to(3, 0)?)?;
+    let messages = device.wire(frame_to(3, 0)?.as_frame())?;
     assert_equal(&rt, messages.pools().bits(), 8);
     assert_equal(&rt, to(messages, 3), 1);
     // there is one buffer, so a second frame has no room
-    assert_equal(&rt, heard(device.wire(&frame_to(3, 1)?)), Some(0));
+    assert_equal(&rt, heard(device.wire(frame_to(3, 1)?.as_frame())), Some(0));
     let long = FrameBuf::from_bytes(&[0; 1519])?;
-    assert_equal(&rt, heard(device.wire(&long)), None);
+    assert_equal(&rt, heard(device.wire(long.as_frame())), None);
     Ok(())
 }
 

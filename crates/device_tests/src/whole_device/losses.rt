@@ -26,19 +26,19 @@ fn frames_from_the_wire_that_nobody_gets_are_counted(rt: HostRuntime) -> Result<
     let mut device = sender(&rt, rt.alloc())?;
     assert_equal(&rt, unclaimed(&device), (0, Some(0)));
     // function 3 gets this one
-    assert_equal(&rt, device.wire(&frame_to(3, 0)?).is_ok(), true);
+    assert_equal(&rt, device.wire(frame_to(3, 0)?.as_frame()).is_ok(), true);
     assert_equal(&rt, unclaimed(&device), (0, Some(0)));
     // nobody has the address, and there is no default pool
     do_silently(&rt, &mut device, &Event::PfWrite(PF_VT_CTL, 1 << 29));
-    assert_equal(&rt, device.wire(&frame_to(9, 1)?).is_ok(), true);
+    assert_equal(&rt, device.wire(frame_to(9, 1)?.as_frame()).is_ok(), true);
     assert_equal(&rt, unclaimed(&device), (1, Some(0)));
     // the default pool would get it, and may not receive
     do_silently(&rt, &mut device, &Event::PfWrite(PF_VT_CTL, 0));
     do_silently(&rt, &mut device, &Event::PfWrite(PFVFRE, 0xFE));
-    assert_equal(&rt, device.wire(&frame_to(9, 2)?).is_ok(), true);
+    assert_equal(&rt, device.wire(frame_to(9, 2)?.as_frame()).is_ok(), true);
     assert_equal(&rt, unclaimed(&device), (2, Some(0)));
     do_silently(&rt, &mut device, &Event::PfWrite(PFVFRE, 0xFF));
-    assert_equal(&rt, device.wire(&frame_to(9, 3)?).is_ok(), true);
+    assert_equal(&rt, device.wire(frame_to(9, 3)?.as_frame()).is_ok(), true);
     assert_equal(&rt, unclaimed(&device), (2, Some(0)));
     device.reset();
     assert_equal(&rt, unclaimed(&device), (2, Some(0)));
@@ -88,7 +88,11 @@ fn a_function_counts_what_came_and_what_was_lost(rt: HostRuntime) -> Result<(), 
     let mut device = sender(&rt, rt.alloc())?;
     // there is one receive descriptor
     for number in 0..3 {
-        assert_equal(&rt, device.wire(&frame_to(3, number)?).is_ok(), true);
+        assert_equal(
+            &rt,
+            device.wire(frame_to(3, number)?.as_frame()).is_ok(),
+            true,
+        );
     }
     assert!(rt; send(&rt, &mut device, 0)?.reply.is_sent());
     // the check refuses its source

@@ -10,7 +10,7 @@ use script_support::registers::{
     RDT0, ROUTES, RXDCTL0, SRRCTL0, TDBAL0, TDH0, TDLEN0, TDT0, TXDCTL0, VALID, VFCTRL, VFGPRC,
     VFGPTC, VMOLR, VMVIR, VTEIAC, VTEICR, VTEIMS, VTIVAR,
 };
-use wire_frame::{FrameBuf, FrameLimit};
+use wire_frame::{Frame, FrameLimit};
 
 // How many functions there are.
 pub const FUNCTIONS: u8 = 3;
@@ -65,7 +65,6 @@ pub struct Drawn {
     chance: Chance,
     driver: u8,
     due: usize,
-    frame: FrameBuf,
     bytes: [u8; MOST_BYTES],
 }
 
@@ -93,7 +92,6 @@ impl Drawn {
             chance: Chance::new(seed),
             driver: 0,
             due: DRIVEN.len(),
-            frame: FrameBuf::blank(),
             bytes: [0; MOST_BYTES],
         }
     }
@@ -181,9 +179,10 @@ impl Drawn {
         };
         let end = 18usize.saturating_add(self.chance.below(most) as usize);
         let end = end.min(self.bytes.len());
-        self.frame
-            .refill(&self.bytes[..end], FrameLimit::standard());
-        Request::Wire(&self.frame)
+        match Frame::new(&self.bytes[..end], FrameLimit::standard()) {
+            Ok(frame) => Request::Wire(frame),
+            Err(_) => Request::PfRead(0),
+        }
     }
 
     // What comes up seldom: a write of any value, a reset, or a function that closes or opens.

@@ -26,7 +26,7 @@ loop-pool-init g c =
       left = λ k bit. refl;
       silent = λ k bit. no_messages_at _ c.none-raised.ensures k;
       none = λ k past. no_messages_at _ c.none-raised.ensures k;
-      done = λ k below clear. kept_from g.D.Dma.shared (has_bit c.args.pools k) c.args.loopback c.args.frame.now (get_or old k nobody) _ (unset k clear) (no_messages_at _ c.none-raised.ensures k);
+      done = λ k below clear. kept_from g.D.Dma.shared (has_bit c.args.pools k) c.args.loopback c.args.frame.bytes.now (get_or old k nobody) _ (unset k clear) (no_messages_at _ c.none-raised.ensures k);
     }
 
 pub offset_bounds-units-place : goal.offset_bounds-units-place
@@ -34,6 +34,9 @@ offset_bounds-units-place g c =
     let inside : c.from-place.result < length c.loop-pool.units = omega (arith, c.if-place-units) in
     let inside_first : c.from-place.result < length c.args.units.now = omega (arith, inside, c.loop-pool.invariant.same_length) in
     search rules
+
+pub note-requires : goal.note-requires
+note-requires g c = c.loop-pool.invariant.silent _ c.in-Some.ensures.steps.there
 
 pub loop-pool-preserved-then-place-units : goal.loop-pool-preserved-then-place-units
 loop-pool-preserved-then-place-units g c =
@@ -50,9 +53,9 @@ loop-pool-preserved-then-place-units g c =
     let heard : c.note.new.raised ≡ set c.loop-pool.raised p c.deliver_live-vectors.result = c.note.ensures ∙ ap (λ i. set c.loop-pool.raised i c.deliver_live-vectors.result) (sym place) in
     let here_now : TracedFunction = get_or c.loop-pool.units p c.index-units-place.result in
     let unit : here_now ≡ get_or old p nobody = get_or_default c.loop-pool.units p c.index-units-place.result nobody within ∙ h.left p taken.there in
-    let offers : Offers g.D.Dma.shared (has_bit c.args.pools p) c.args.loopback c.args.frame.now (get_or old p nobody) new c.deliver_live-vectors.result =
-    subst (λ (u : TracedFunction). Offers g.D.Dma.shared (has_bit c.args.pools p) c.args.loopback c.args.frame.now u new c.deliver_live-vectors.result) unit
-    (gets g.D.Dma.shared (has_bit c.args.pools p) c.args.loopback c.args.frame.now here_now new c.deliver_live-vectors.result (h.set p taken.there) c.deliver_live-vectors.ensures.function c.deliver_live-vectors.ensures.messages c.deliver_live-vectors.ensures.listed c.deliver_live-vectors.ensures.met c.deliver_live-vectors.ensures.size) in
+    let offers : Offers g.D.Dma.shared (has_bit c.args.pools p) c.args.loopback c.args.frame.bytes.now (get_or old p nobody) new c.deliver_live-vectors.result =
+    subst (λ (u : TracedFunction). Offers g.D.Dma.shared (has_bit c.args.pools p) c.args.loopback c.args.frame.bytes.now u new c.deliver_live-vectors.result) unit
+    (gets g.D.Dma.shared (has_bit c.args.pools p) c.args.loopback c.args.frame.bytes.now here_now new c.deliver_live-vectors.result (h.set p taken.there) c.deliver_live-vectors.ensures.function c.deliver_live-vectors.ensures.messages c.deliver_live-vectors.ensures.listed c.deliver_live-vectors.ensures.met c.deliver_live-vectors.ensures.size) in
     record {
       few = rw length-set h.few;
       raised_length = ap length heard ∙ length-set c.loop-pool.raised p c.deliver_live-vectors.result ∙ h.raised_length;
@@ -61,7 +64,7 @@ loop-pool-preserved-then-place-units g c =
       left = λ k bit. get_or-set_other c.loop-pool.units p k new nobody (still_left rest p after k taken bit).0 ∙ h.left k (still_left rest p after k taken bit).1;
       silent = λ k bit. ap (λ ms. get_or ms k 0) heard ∙ get_or-set_other c.loop-pool.raised p k c.deliver_live-vectors.result 0 (still_left rest p after k taken bit).0 ∙ h.silent k (still_left rest p after k taken bit).1;
       none = λ k past. ap (λ ms. get_or ms k 0) heard ∙ get_or-set_other c.loop-pool.raised p k c.deliver_live-vectors.result 0 (λ here. absurd (omega (arith, here, past, within, h.same_length))) ∙ h.none k past;
-      done = one_more g.D.Dma.shared c.args.loopback c.args.frame.now c.args.pools old c.loop-pool.units c.loop-pool.raised c.note.new.raised rest p after new c.deliver_live-vectors.result taken within in_raised heard offers h.done;
+      done = one_more g.D.Dma.shared c.args.loopback c.args.frame.bytes.now c.args.pools old c.loop-pool.units c.loop-pool.raised c.note.new.raised rest p after new c.deliver_live-vectors.result taken within in_raised heard offers h.done;
     }
 
 pub loop-pool-preserved : goal.loop-pool-preserved

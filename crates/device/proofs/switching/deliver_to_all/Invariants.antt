@@ -15,5 +15,5 @@ invariant-loop-pool g l = record {
   silent : (k : ℕ) → bit_at l.pool-iterator k ≡ 1 → get_or l.raised k 0 ≡ 0;
   none : (k : ℕ) → length l.fn.units ≤ k → get_or l.raised k 0 ≡ 0;
   done : (k : ℕ) → k < length l.fn.units → bit_at l.pool-iterator k ≡ 0 →
-      Offers g.D.Dma.shared (has_bit l.fn.pools k) l.loopback l.frame (get_or l.fn.units k nobody) (get_or l.units k nobody) (get_or l.raised k 0);
+      Offers g.D.Dma.shared (has_bit l.fn.pools k) l.loopback l.frame.bytes.now (get_or l.fn.units k nobody) (get_or l.units k nobody) (get_or l.raised k 0);
 }

@@ -21,7 +21,7 @@ some_accept s frame mask p h fits some bits =
     bits p h ∙ sym (or-false _) ∙ ap (λ (b : Bool). accepts s p frame || (b && is_pool (default_pool s) p)) (sym none)
 
 pub returns-then-accepting-ne0 : goal.returns-then-accepting-ne0
-returns-then-accepting-ne0 c = λ p h. some_accept c.args.tables.now c.args.frame.now _ p h (omega arith) c.if-accepting-ne0.true c.accept_mask-accepting.ensures
+returns-then-accepting-ne0 c = λ p h. some_accept c.args.tables.now c.args.frame.bytes.now _ p h (omega arith) c.if-accepting-ne0.true c.accepting_pools-accepting.ensures
 
 falls_to_default : (s : Settings) (frame : List ℕ) (mask pool p : ℕ) (bit : Bool) → p < 64 → mask ≡ 0 → ((q : ℕ) → q < 64 → has_bit mask q ≡ accepts s q frame) → default_pool s ≡ Some pool → bit ≡ eqb pool p → bit ≡ takes_from_wire s frame p
 unfolding takes_from_wire
@@ -31,4 +31,4 @@ falls_to_default s frame mask pool p bit h empty bits default is =
     is ∙ rw (refused, none, default) refl
 
 pub returns-in-Some : goal.returns-in-Some
-returns-in-Some c = λ p h. falls_to_default c.args.tables.now c.args.frame.now _ _ p _ h c.if-accepting-ne0.false c.accept_mask-accepting.ensures (sym c.in-Some.ensures) (c.bit_of.ensures p h)
+returns-in-Some c = λ p h. falls_to_default c.args.tables.now c.args.frame.bytes.now _ _ p _ h c.if-accepting-ne0.false c.accepting_pools-accepting.ensures (sym c.in-Some.ensures) (c.bit_of.ensures p h)

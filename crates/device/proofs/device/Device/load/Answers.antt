@@ -2,6 +2,7 @@
 use Rattle.std.proofs.Common.{◌≤◌, length, arith, refl, sym, ap, subst, ◌∙◌}
 use Rattle.device.specs.declared.event.Event.TheVariants.{MemRead}
 use Rattle.device.specs.Act.{act_accesses}
+use Rattle.device.specs.Outcome.{reply_of}
 use Rattle.device.specs.World.{World, Stepped, own_step}
 use Rattle.device.specs.Live.{TracedWorld}
 use Rattle.device.proofs.LiveLemmas.{untouched, told_world_none}
@@ -36,7 +37,7 @@ pub returns-clause-world : goal.returns-clause-world
 returns-clause-world g c = read_world (record { profile = c.self.inside.profile; settings = c.self.inside.tables.value; resets = c.self.inside.resets; wire = c.self.inside.wire.frames; unclaimed = c.self.inside.unclaimed }) c.self.inside.units.items c.args.self.now c.from-index.result c.args.pool c.index_mut.result.now c.load.new.unit (MemRead c.args.pool c.args.at c.args.count) c.self.view_is (record { place = c.from-index.ensures; below = omega (arith, c.if-index-len.false, c.len.ensures); is = c.index_mut.ensures.value }) (c.load.ensures.function c.args.pool)
 
 pub returns-clause-answer : goal.returns-clause-answer
-returns-clause-answer g c = read_answer (record { profile = c.self.inside.profile; settings = c.self.inside.tables.value; resets = c.self.inside.resets; wire = c.self.inside.wire.frames; unclaimed = c.self.inside.unclaimed }) c.self.inside.units.items c.args.self.now c.from-index.result c.args.pool c.index_mut.result.now c.load.new.unit (MemRead c.args.pool c.args.at c.args.count) c.load.new.cells c.load.result c.self.view_is (record { place = c.from-index.ensures; below = omega (arith, c.if-index-len.false, c.len.ensures); is = c.index_mut.ensures.value }) (c.load.ensures.reply c.args.pool) (c.load.ensures.silent c.args.pool)
+returns-clause-answer g c = read_answer (record { profile = c.self.inside.profile; settings = c.self.inside.tables.value; resets = c.self.inside.resets; wire = c.self.inside.wire.frames; unclaimed = c.self.inside.unclaimed }) c.self.inside.units.items c.args.self.now c.from-index.result c.args.pool c.index_mut.result.now c.load.new.unit (MemRead c.args.pool c.args.at c.args.count) (reply_of c.load.new.cells c.load.result) c.self.view_is (record { place = c.from-index.ensures; below = omega (arith, c.if-index-len.false, c.len.ensures); is = c.index_mut.ensures.value }) (c.load.ensures.reply c.args.pool) (c.load.ensures.silent c.args.pool)
 
 pub returns-clause-met : goal.returns-clause-met
 returns-clause-met g c = own_met g.D.Dma.shared (record { profile = c.self.inside.profile; settings = c.self.inside.tables.value; resets = c.self.inside.resets; wire = c.self.inside.wire.frames; unclaimed = c.self.inside.unclaimed }) c.self.inside.units.items c.args.self.now c.from-index.result c.args.pool c.index_mut.result.now c.load.new.unit c.self.view_is (record { place = c.from-index.ensures; below = omega (arith, c.if-index-len.false, c.len.ensures); is = c.index_mut.ensures.value }) c.load.ensures.met

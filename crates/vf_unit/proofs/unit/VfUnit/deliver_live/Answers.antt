@@ -12,4 +12,4 @@ pub returns-then-self-clause-counted : goal.returns-then-self-clause-counted
 returns-then-self-clause-counted g c =
     rw c.if-self.true
     (subst (λ (f : TracedFunction). IsCounted f.function (Open c.deliver.new.self.state)) c.self.view_is
-    (rw c.if-self.true (state_once c.args.loopback c.args.frame.now _ _ c.self.inside.inner.state _ c.deliver.ensures.state)))
+    (rw c.if-self.true (state_once c.args.loopback c.args.frame.bytes.now _ _ c.self.inside.inner.state _ c.deliver.ensures.state)))

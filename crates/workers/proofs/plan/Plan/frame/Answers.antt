@@ -10,4 +10,4 @@ pub unreachable-requires : goal.unreachable-requires
 unreachable-requires c = only_frames c.args.self.now c.args.turn c.request.result c.requires c.request.ensures c.in_default.not-Wire
 
 pub returns : goal.returns
-returns c = frame_at c.args.self.now c.args.turn c.in-Wire.frame.now (subst (λ (n : ℕ). c.args.turn < n) (frames_count c.args.self.now) c.requires) (search rules)
+returns c = frame_at c.args.self.now c.args.turn c.in-Wire.frame.bytes.now (subst (λ (n : ℕ). c.args.turn < n) (frames_count c.args.self.now) c.requires) (search rules)

@@ -1,25 +1,19 @@
 -- What a call leaves, and when a device can be made.
-use Rattle.std.proofs.Common.{◌≡◌, ◌≤◌, ℕ, zero, suc, Bool, true, false, ◌&&◌, nat_le, List, [], replicate, length, refl, sym, ap, subst, ◌∙◌, true≢false, Some, arith}
-use Rattle.std.specs.Prelude.{Result, Ok, Err, OnErr}
+use Rattle.std.proofs.Common.{◌≡◌, ℕ, zero, suc, Bool, true, false, ◌&&◌, nat_le, List, [], replicate, length, refl, sym, ap, subst, ◌∙◌, true≢false, Some}
 use Rattle.std.specs.List.{list_all}
 use Rattle.guest_memory.specs.Memory.{is_memory_size}
-use Rattle.irq_causes.specs.Messages.{no_messages}
-use Rattle.wire_frame.specs.declared.fault.Fault.{Fault}
 use Rattle.device.specs.Events.{Event}
-use Rattle.device.specs.declared.event.Answer.{Answer}
-use Rattle.device.specs.declared.event.Event.TheVariants.{MemRead}
 use Rattle.device.specs.declared.response.Response.{Response}
 use Rattle.device.specs.declared.room.Room.{Room}
-use Rattle.device.specs.Outcome.{bytes_or_refused}
 use Rattle.device.specs.Takes.{Takes}
-use Rattle.device.specs.World.{World, step, is_frame_limit, is_makeable, silently}
+use Rattle.device.specs.World.{World, step, is_frame_limit, is_makeable}
 use Rattle.vfdev_c.specs.declared.handed.Handed.{Handed}
 use Rattle.vfdev_c.specs.declared.handle_state.HandleState.TheVariants.{Made}
 use Rattle.vfdev_c.specs.declared.wanted.Wanted.{Wanted}
-use Rattle.vfdev_c.specs.Handle.{IsolatedStep, bytes_shown, can_make, shown}
+use Rattle.vfdev_c.specs.Handle.{IsolatedStep, can_make}
 use Rattle.vfdev_c.specs.Recorded.{kept_as}
 use Rattle.vfdev_c.specs.Wanted.{event_in, Hands, HandsOver, IsWanted}
-use Rattle.vfdev_c.proofs.WantedLemmas.{comes_of}
+use Rattle.vfdev_c.proofs.WantedLemmas.{Comes, comes_of}
 
 -- a law of all events in all worlds of as many functions
 abbrev pub Isolates : World → Type 0
@@ -29,56 +23,31 @@ Isolates w = (v : World) (e : Event) → length v.functions ≡ length w.functio
 pub isolated_at : (w new : World) (e : Event) → new ≡ (step w e).world → Isolates w → IsolatedStep w e new
 isolated_at w new e same law = subst (λ v. IsolatedStep w e v) (sym same) (law w e refl)
 
--- a device over memories of its own takes an event
+-- what comes of an event in the world of a device over memories of its own is handed on
+pub made_from : (w old new : World) (e : Event) (handed : Handed) (before after : List ℕ) → w ≡ old → Comes w e new handed before after → Isolates w
+    → Hands (Some (Made old)) e (Some (Made new)) handed before after
+made_from w old new e handed before after is comes law = subst (λ old. Hands (Some (Made old)) e (Some (Made new)) handed before after) is record {
+  gives = record {
+    called = record {
+      held = ap (λ v. Some (Made v)) comes.world;
+      replied = comes.replied;
+      isolated = isolated_at w new e comes.world law;
+      once = tt;
+      listed = tt;
+    };
+    raises = comes.raises;
+  };
+  left = comes.left;
+  frame = comes.frame;
+  bytes = comes.bytes;
+}
+
+-- it takes an event
 pub made_hands : (w old new : World) (wanted : Wanted) (d : Event) (response : Response) (room : Room) (handed : Handed) (before after : List ℕ) → w ≡ old → IsWanted wanted
     → d ≡ kept_as (event_in wanted) → Takes w d new response room → HandsOver response room handed before after → Isolates w
     → Hands (Some (Made old)) (event_in wanted) (Some (Made new)) handed before after
-made_hands w old new wanted d response room handed before after is wants so takes over law =
-    let e = event_in wanted in
-    let comes = comes_of w new wanted d response room handed before after wants so takes over in
-    subst (λ old. Hands (Some (Made old)) e (Some (Made new)) handed before after) is record {
-      gives = record {
-        called = record {
-          held = ap (λ v. Some (Made v)) comes.world;
-          replied = comes.replied;
-          isolated = isolated_at w new e comes.world law;
-          once = tt;
-          listed = tt;
-        };
-        raises = comes.raises;
-      };
-      left = comes.left;
-      frame = comes.frame;
-      bytes = comes.bytes;
-    }
-
--- what was read stands where it was wanted, and of a read that is refused nothing does
-pub bytes_put : (done : Result (Unit {0}) Fault) (before after : List ℕ) → OnErr done (after ≡ before) → after ≡ bytes_shown (bytes_or_refused done after) before
-bytes_put (Ok _) before after stays = refl
-bytes_put (Err fault) before after stays = stays
-
--- it reads a guest's memory straight into the caller's bytes, which are no more than one access may name
-pub read_hands : (w old : World) (p at : ℕ) (done : Result (Unit {0}) Fault) (handed : Handed) (before after : List ℕ) → w ≡ old → length before ≤ 2048
-    → w ≡ (step w (MemRead p at (length before))).world → silently (bytes_or_refused done after) ≡ (step w (MemRead p at (length before))).answer → OnErr done (after ≡ before)
-    → handed.reply ≡ shown (bytes_or_refused done after) → handed.messages ≡ no_messages → handed.left ≡ 0 → Isolates w
-    → Hands (Some (Made old)) (MemRead p at (length before)) (Some (Made old)) handed before after
-read_hands w old p at done handed before after is few stays answer unchanged replied silent none law =
-    let e = MemRead p at (length before) in
-    subst (λ old. Hands (Some (Made old)) e (Some (Made old)) handed before after) is record {
-      gives = record {
-        called = record {
-          held = ap (λ v. Some (Made v)) stays;
-          replied = replied ∙ ap (λ (a : Answer). shown a.reply) answer;
-          isolated = isolated_at w w e stays law;
-          once = tt;
-          listed = tt;
-        };
-        raises = silent ∙ ap (λ (a : Answer). a.raised) answer;
-      };
-      left = none;
-      frame = λ long. absurd (omega (arith, long, few));
-      bytes = λ q from same. bytes_put done before after unchanged ∙ ap (λ (a : Answer). bytes_shown a.reply before) answer;
-    }
+made_hands w old new wanted d response room handed before after is wants so takes over =
+    made_from w old new (event_in wanted) handed before after is (comes_of w new wanted d response room handed before after wants so takes over)
 
 -- a device has a function
 pub none_makeable : (b : Bool) → (b && is_makeable []) ≡ true → ⊥

@@ -1,30 +1,25 @@
 -- Blocks that are lent, and the device over them.
-use Rattle.std.proofs.Common.{◌≡◌, ◌≤◌, ℕ, suc, true, List, [], ◌∷◌, ◌++◌, length, map, refl, sym, ap, subst, ◌∙◌, arith}
-use Rattle.std.specs.Prelude.{Some, Result, OnErr}
-use Rattle.irq_causes.specs.Messages.{no_messages}
-use Rattle.wire_frame.specs.declared.fault.Fault.{Fault}
+use Rattle.std.proofs.Common.{◌≡◌, ℕ, suc, true, List, [], ◌∷◌, ◌++◌, length, map, refl, sym, ap, subst, ◌∙◌}
+use Rattle.std.specs.Prelude.{Some}
 use Rattle.mapped_memory.specs.Regions.{Regions}
 use Rattle.device.specs.Events.{Event}
-use Rattle.device.specs.declared.event.Answer.{Answer}
-use Rattle.device.specs.declared.event.Event.TheVariants.{MemRead}
 use Rattle.device.specs.declared.response.Response.{Response}
 use Rattle.device.specs.declared.room.Room.{Room}
 use Rattle.device.specs.Accesses.{accesses_by}
 use Rattle.device.specs.Live.{TracedWorld, AreListed, TakesLive}
-use Rattle.device.specs.Outcome.{bytes_or_refused}
-use Rattle.device.specs.World.{World, step, silently}
+use Rattle.device.specs.World.{World, step}
 use Rattle.device.proofs.LiveLemmas.{length_told}
 use Rattle.vfdev_c.specs.declared.lending.BlockSpan.{BlockSpan}
 use Rattle.vfdev_c.specs.Spans.{span, lent, one_more, block_of, blocks_of, IsBlock, AreBlocks, no_access}
 use Rattle.vfdev_c.specs.declared.handed.Handed.{Handed}
 use Rattle.vfdev_c.specs.declared.handle_state.HandleState.TheVariants.{Lent}
 use Rattle.vfdev_c.specs.declared.wanted.Wanted.{Wanted}
-use Rattle.vfdev_c.specs.Handle.{IsolatedStep, shown, bytes_shown}
+use Rattle.vfdev_c.specs.Handle.{IsolatedStep}
 use Rattle.vfdev_c.specs.LentWorld.{met_by, AreAllListed, AreOnce}
 use Rattle.vfdev_c.specs.Recorded.{kept_as}
 use Rattle.vfdev_c.specs.Wanted.{event_in, Hands, HandsOver, IsWanted}
-use Rattle.vfdev_c.proofs.HandleLemmas.{Isolates, bytes_put}
-use Rattle.vfdev_c.proofs.WantedLemmas.{alike, comes_of}
+use Rattle.vfdev_c.proofs.HandleLemmas.{Isolates}
+use Rattle.vfdev_c.proofs.WantedLemmas.{Comes, alike, comes_of}
 
 -- ---- one block more
 
@@ -67,50 +62,31 @@ isolated_met : (old new : TracedWorld) (e : Event) → new.world ≡ (step (met_
 isolated_met old new e is law =
     subst (λ v. IsolatedStep (met_by old new).world e v) (sym is) (law (met_by old new).world e (length_told old.accesses new.accesses old.world.functions))
 
--- what is wanted of it, whose accesses are listed
+-- what comes of an event in the world that was met, and whose accesses are listed, is handed on
+pub lent_from : (seen old new : TracedWorld) (e : Event) (handed : Handed) (before after : List ℕ) → seen ≡ old → Comes (met_by seen new).world e new.world handed before after
+    → AreAllListed seen e new → AreOnce seen new → Isolates seen.world → Hands (Some (Lent old)) e (Some (Lent new)) handed before after
+lent_from seen old new e handed before after is comes listed once law = subst (λ old. Hands (Some (Lent old)) e (Some (Lent new)) handed before after) is record {
+  gives = record {
+    called = record {
+      held = ap (λ (v : World). Some (Lent (record { world = v; accesses = new.accesses }))) comes.world;
+      replied = comes.replied;
+      isolated = isolated_met seen new e comes.world law;
+      once = once;
+      listed = listed;
+    };
+    raises = comes.raises;
+  };
+  left = comes.left;
+  frame = comes.frame;
+  bytes = comes.bytes;
+}
+
+-- it takes an event
 pub lent_hands : (seen old new : TracedWorld) (wanted : Wanted) (d : Event) (response : Response) (room : Room) (handed : Handed) (before after : List ℕ) → seen ≡ old → IsWanted wanted
     → d ≡ kept_as (event_in wanted) → TakesLive true seen.accesses new.accesses seen.world d new.world response room → AreAllListed seen d new
     → HandsOver response room handed before after → Isolates seen.world → Hands (Some (Lent old)) (event_in wanted) (Some (Lent new)) handed before after
-lent_hands seen old new wanted d response room handed before after is wants so takes listed over law =
-    let e = event_in wanted in
-    let met = met_by seen new in
-    let comes = comes_of met.world new.world wanted d response room handed before after wants so takes.takes over in
-    subst (λ old. Hands (Some (Lent old)) e (Some (Lent new)) handed before after) is record {
-      gives = record {
-        called = record {
-          held = ap (λ (v : World). Some (Lent (record { world = v; accesses = new.accesses }))) comes.world;
-          replied = comes.replied;
-          isolated = isolated_met seen new e comes.world law;
-          once = takes.met;
-          listed = subst (λ own. AreListed own seen.accesses new.accesses) (ap (accesses_by met.world) so ∙ (alike met.world wanted wants).lists) listed;
-        };
-        raises = comes.raises;
-      };
-      left = comes.left;
-      frame = comes.frame;
-      bytes = comes.bytes;
-    }
-
--- it reads a guest's memory straight into the caller's bytes, which are no more than one access may name
-pub lent_read_hands : (seen old new : TracedWorld) (p at : ℕ) (done : Result (Unit {0}) Fault) (handed : Handed) (before after : List ℕ) → seen ≡ old → length before ≤ 2048
-    → new.world ≡ (step (met_by seen new).world (MemRead p at (length before))).world → silently (bytes_or_refused done after) ≡ (step (met_by seen new).world (MemRead p at (length before))).answer
-    → OnErr done (after ≡ before) → AreAllListed seen (MemRead p at (length before)) new → AreOnce seen new
-    → handed.reply ≡ shown (bytes_or_refused done after) → handed.messages ≡ no_messages → handed.left ≡ 0 → Isolates seen.world
-    → Hands (Some (Lent old)) (MemRead p at (length before)) (Some (Lent new)) handed before after
-lent_read_hands seen old new p at done handed before after is few world answer unchanged listed once replied silent none law =
-    let e = MemRead p at (length before) in
-    subst (λ old. Hands (Some (Lent old)) e (Some (Lent new)) handed before after) is record {
-      gives = record {
-        called = record {
-          held = ap (λ (v : World). Some (Lent (record { world = v; accesses = new.accesses }))) world;
-          replied = replied ∙ ap (λ (a : Answer). shown a.reply) answer;
-          isolated = isolated_met seen new e world law;
-          once = once;
-          listed = listed;
-        };
-        raises = silent ∙ ap (λ (a : Answer). a.raised) answer;
-      };
-      left = none;
-      frame = λ long. absurd (omega (arith, long, few));
-      bytes = λ q from same. bytes_put done before after unchanged ∙ ap (λ (a : Answer). bytes_shown a.reply before) answer;
-    }
+lent_hands seen old new wanted d response room handed before after is wants so takes listed over =
+    let w = (met_by seen new).world in
+    let same = ap (accesses_by w) so ∙ (alike w wanted wants).lists in
+    lent_from seen old new (event_in wanted) handed before after is (comes_of w new.world wanted d response room handed before after wants so takes.takes over)
+    (subst (λ own. AreListed own seen.accesses new.accesses) same listed) takes.met

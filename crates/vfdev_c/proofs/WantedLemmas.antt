@@ -1,7 +1,8 @@
 -- What a device makes of what a call wants, and reads of more bytes than an entry names.
 use Rattle.std.proofs.Common.{◌≡◌, ℕ, zero, suc, ◌+◌, ◌≤◌, Bool, true, false, true≢false, nat_le, nat_lt, List, length, replicate, slice_range, Option, Some, None, refl, sym, ap, subst, ◌∙◌, arith}
-use Rattle.std.specs.Prelude.{if◌then◌else◌}
+use Rattle.std.specs.Prelude.{if◌then◌else◌, Result, Ok, Err, OnErr}
 use Rattle.std.proofs.lemmas.Bool.Decides.{nat_tests}
+use Rattle.irq_causes.specs.Messages.{no_messages}
 use Rattle.wire_frame.specs.declared.fault.Fault.{Fault}
 use Rattle.wire_frame.specs.declared.fault.Fault.TheVariants.{NoSuchVf}
 use Rattle.offload.proofs.Parts.{length-slice}
@@ -13,10 +14,10 @@ use Rattle.device.specs.declared.response.Response.{Response}
 use Rattle.device.specs.declared.room.Room.{Room}
 use Rattle.device.specs.Accesses.{accesses_by}
 use Rattle.device.specs.Act.{act, refusal, unless_refused}
-use Rattle.device.specs.Outcome.{answer_of, left_by, left_of}
+use Rattle.device.specs.Outcome.{answer_of, bytes_or_refused, left_by, left_of}
 use Rattle.device.specs.Replies.{Reply}
 use Rattle.device.specs.Takes.{Takes}
-use Rattle.device.specs.World.{World, Stepped, step, function_of, acted, refused}
+use Rattle.device.specs.World.{World, Stepped, step, function_of, acted, refused, silently}
 use Rattle.vfdev_c.specs.declared.handed.Handed.{Handed}
 use Rattle.vfdev_c.specs.declared.wanted.Wanted.{Wanted}
 use Rattle.vfdev_c.specs.declared.wanted.Wanted.TheVariants.{Read, Other}
@@ -129,3 +130,21 @@ comes_of w new wanted d response room handed before after wants so takes over =
           (subst (λ (r : Reply). HasBytes r (length before)) (sym (ap (λ (a : Answer). a.reply) answer ∙ ap (λ e. (step w e).answer.reply) is)) (read_has w p at (length before)))
           ∙ ap (λ (a : Answer). bytes_shown a.reply before) answer;
     }
+
+-- what was read stands where it was wanted, and of a read that is refused nothing does
+bytes_put : (done : Result (Unit {0}) Fault) (before after : List ℕ) → OnErr done (after ≡ before) → after ≡ bytes_shown (bytes_or_refused done after) before
+bytes_put (Ok _) before after stays = refl
+bytes_put (Err fault) before after stays = stays
+
+-- a guest's memory is read straight into the caller's bytes, which are no more than one access may name
+pub read_comes : (w new : World) (p at : ℕ) (done : Result (Unit {0}) Fault) (handed : Handed) (before after : List ℕ) → length before ≤ 2048
+    → new ≡ (step w (MemRead p at (length before))).world → silently (bytes_or_refused done after) ≡ (step w (MemRead p at (length before))).answer → OnErr done (after ≡ before)
+    → handed.reply ≡ shown (bytes_or_refused done after) → handed.messages ≡ no_messages → handed.left ≡ 0 → Comes w (MemRead p at (length before)) new handed before after
+read_comes w new p at done handed before after few world answer unchanged replied silent none = record {
+  world = world;
+  replied = replied ∙ ap (λ (a : Answer). shown a.reply) answer;
+  raises = silent ∙ ap (λ (a : Answer). a.raised) answer;
+  left = none;
+  frame = λ long. absurd (omega (arith, long, few));
+  bytes = λ q from same. bytes_put done before after unchanged ∙ ap (λ (a : Answer). bytes_shown a.reply before) answer;
+}

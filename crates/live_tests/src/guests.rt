@@ -127,6 +127,19 @@ fn two_at(
     (done, out)
 }
 
+// The same of many bytes from HIGH on: the first and the last that then stand there.
+fn many_at(
+    alloc: Global,
+    device: &mut Device<LiveMem<'_>, Shared>,
+    pool: u8,
+    count: usize,
+) -> Result<(Result<(), Fault>, Option<u8>, Option<u8>), Fail> {
+    let mut out = Vec::new(alloc);
+    out.resize(count, 7)?;
+    let done = device.mem_read_live(pool, HIGH, out.as_mut_slice());
+    Ok((done, out.first().copied(), out.last().copied()))
+}
+
 // Bytes of a region, of its end with a hole behind it, and what is refused, in the order of the refusals.
 #[test]
 fn a_live_read_fills_the_callers_bytes(rt: HostRuntime) -> Result<(), Fail> {
@@ -152,24 +165,13 @@ fn a_live_read_fills_the_callers_bytes(rt: HostRuntime) -> Result<(), Fail> {
     ] {
         assert_equal(&rt, two_at(&mut device, pool, at), (Err(fault), [7, 7]));
     }
-    let mut many = [7; 2049];
-    assert_equal(
-        &rt,
-        device.mem_read_live(0, HIGH, &mut many),
-        Err(Fault::TooLong),
-    );
-    assert_equal(&rt, many[0], 7);
-    assert_equal(
-        &rt,
-        device.mem_read_live(0, HIGH, &mut many[..2048]),
-        Ok(()),
-    );
-    assert_equal(&rt, (many[0], many[2047], many[2048]), (0, 0, 7));
-    assert_equal(
-        &rt,
-        device.mem_read_live(1, 0, &mut many),
-        Err(Fault::NotOpen),
-    );
+    for (pool, count, seen) in [
+        (0, 2048, (Ok(()), Some(0), Some(0))),
+        (0, 2049, (Err(Fault::TooLong), Some(7), Some(7))),
+        (1, 2049, (Err(Fault::NotOpen), Some(7), Some(7))),
+    ] {
+        assert_equal(&rt, many_at(alloc, &mut device, pool, count)?, seen);
+    }
     Ok(())
 }
 

@@ -6,12 +6,12 @@ ghost use Rattle.live_memory.specs.Clearing.{clearing};
 ghost use Rattle.live_memory.specs.Trace.{Read, Wrote};
 ghost use Rattle.mapped_memory.specs.Regions.{bytes_at, is_space, written, cleared};
 ghost use Rattle.mapped_memory.specs.Whole.{bytes_whole};
-ghost use Rattle.mapped_memory.specs.Mapping.{AreMapped, next_from, refusal, with_part, bytes_from, parts_without};
+ghost use Rattle.mapped_memory.specs.Mapping.{AreMapped, IsHome, next_from, refusal, with_part, bytes_from, parts_without};
 
 use crate::map_error::{MapError, RefusedBytes};
 use crate::region::Region;
 use crate::scans::{
-    clear_all, home_of, is_any_met, next_from, place_behind, place_of, read_all, write_all,
+    clear_all, home_of, is_any_met, is_home, next_from, place_behind, place_of, read_all, write_all,
 };
 use guest_memory::is_memory_size;
 use live_memory::{Dma, Shared, Step, Trace};
@@ -204,36 +204,87 @@ impl<'a> LiveMem<'a> {
         Some(self.regions.remove(place).into_cells())
     }
 
-    // Copies the bytes from `addr` on into `out`: those of one region, where one has them all.
+    // Copies the bytes from `addr` on into `out`: those of one region, where one has them all. That of the access before is looked at
+    // first.
     #[inline]
     fn read_parts(&mut self, addr: usize, out: &mut [u8])
         requires { addr + length out.old ≤ length self.old.seen }
         ensures out { out.new ≡ bytes_at self.old.parts addr (length out.old) }
         ensures memory { self.new ≡ self.old }
     {
-        match home_of(&self.regions, self.last, addr, out.len()) {
+        let last = self.last;
+        if is_home(&self.regions, last, addr, out.len()) {
+            return self.read_home(last, addr, out);
+        }
+        self.read_elsewhere(addr, out);
+    }
+
+    // The same, where the region of the access before hasn't all of them. It isn't inlined, so that an access to that region is few
+    // instructions.
+    #[inline(never)]
+    fn read_elsewhere(&mut self, addr: usize, out: &mut [u8])
+        requires { addr + length out.old ≤ length self.old.seen }
+        ensures out { out.new ≡ bytes_at self.old.parts addr (length out.old) }
+        ensures memory { self.new ≡ self.old }
+    {
+        match home_of(&self.regions, addr, out.len()) {
             Some(place) => {
                 self.last = place;
-                self.regions[place].read(addr, out);
+                self.read_home(place, addr, out);
             }
             None => read_all(&self.regions, addr, out),
         }
     }
 
-    // Writes `source` from `addr` on: into one region, where it has all of these addresses.
+    // The same, where the region at a place has all of them.
+    #[inline]
+    fn read_home(&self, place: usize, addr: usize, out: &mut [u8])
+        requires space { addr + length out.old ≤ length self.now.seen }
+        requires home { IsHome addr (length out.old) place self.now.parts }
+        ensures { out.new ≡ bytes_at self.now.parts addr (length out.old) }
+    {
+        self.regions[place].read_own(addr, out);
+    }
+
+    // Writes `source` from `addr` on: into one region, where it has all of these addresses. That of the access before is looked at first.
     #[inline]
     fn write_parts(&mut self, addr: usize, source: &[u8])
         requires { addr + length source.now ≤ length self.old.seen }
         ensures { self.new
             ≡ record self.old { parts = map (written addr source.now) self.old.parts } }
     {
-        match home_of(&self.regions, self.last, addr, source.len()) {
+        let last = self.last;
+        if is_home(&self.regions, last, addr, source.len()) {
+            return self.write_home(last, addr, source);
+        }
+        self.write_elsewhere(addr, source);
+    }
+
+    // The same, where the region of the access before hasn't all of them. It isn't inlined either.
+    #[inline(never)]
+    fn write_elsewhere(&mut self, addr: usize, source: &[u8])
+        requires { addr + length source.now ≤ length self.old.seen }
+        ensures { self.new
+            ≡ record self.old { parts = map (written addr source.now) self.old.parts } }
+    {
+        match home_of(&self.regions, addr, source.len()) {
             Some(place) => {
                 self.last = place;
-                self.regions[place].write(addr, source);
+                self.write_home(place, addr, source);
             }
             None => write_all(&mut self.regions, addr, source),
         }
+    }
+
+    // The same, where the region at a place has all of these addresses.
+    #[inline]
+    fn write_home(&mut self, place: usize, addr: usize, source: &[u8])
+        requires space { addr + length source.now ≤ length self.old.seen }
+        requires home { IsHome addr (length source.now) place self.old.parts }
+        ensures { self.new
+            ≡ record self.old { parts = map (written addr source.now) self.old.parts } }
+    {
+        self.regions[place].write_own(addr, source);
     }
 }
 

@@ -58,11 +58,19 @@ impl Words {
     pub(crate) fn read(&self, offset: u32) -> Option<u32>
         ensures { result ≡ addresses_at self.now offset }
     {
-        read_word(&self.low, RAL, offset)
-            .or(read_word(&self.high, RAH, offset))
-            .or(read_word(&self.pools, MPSAR, offset))
-            .or(read_word(&self.hashes, MTA, offset))
-            .or(read_one(self.control, MCSTCTRL, offset))
+        if let Some(word) = read_word(&self.low, RAL, offset) {
+            return Some(word);
+        }
+        if let Some(word) = read_word(&self.high, RAH, offset) {
+            return Some(word);
+        }
+        if let Some(word) = read_word(&self.pools, MPSAR, offset) {
+            return Some(word);
+        }
+        if let Some(word) = read_word(&self.hashes, MTA, offset) {
+            return Some(word);
+        }
+        read_one(self.control, MCSTCTRL, offset)
     }
 }
 

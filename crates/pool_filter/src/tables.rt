@@ -100,13 +100,25 @@ impl Tables {
     fn read_pools(&self, offset: u32) -> Option<u32>
         ensures { result ≡ pools_at self.now offset }
     {
-        read_one(self.pool_control, PF_VT_CTL, offset)
-            .or(read_word(&self.receive_enable, PFVFRE, offset))
-            .or(read_word(&self.transmit_enable, PFVFTE, offset))
-            .or(read_word(&self.port_vlans, VMVIR, offset))
-            .or(read_word(&self.sender_checks, PFVFSPOOF, offset))
-            .or(read_one(self.loopback, PFDTXGSWC, offset))
-            .or(self.pool_flags.read(offset))
+        if let Some(word) = read_one(self.pool_control, PF_VT_CTL, offset) {
+            return Some(word);
+        }
+        if let Some(word) = read_word(&self.receive_enable, PFVFRE, offset) {
+            return Some(word);
+        }
+        if let Some(word) = read_word(&self.transmit_enable, PFVFTE, offset) {
+            return Some(word);
+        }
+        if let Some(word) = read_word(&self.port_vlans, VMVIR, offset) {
+            return Some(word);
+        }
+        if let Some(word) = read_word(&self.sender_checks, PFVFSPOOF, offset) {
+            return Some(word);
+        }
+        if let Some(word) = read_one(self.loopback, PFDTXGSWC, offset) {
+            return Some(word);
+        }
+        self.pool_flags.read(offset)
     }
 
     /// The register at an offset; 0 where none of these stands.
@@ -114,11 +126,13 @@ impl Tables {
     pub fn read(&self, offset: u32) -> u32
         ensures { result ≡ settings_at self.now offset }
     {
-        self.addresses
-            .read(offset)
-            .or(self.vlans.read(offset))
-            .or(self.read_pools(offset))
-            .unwrap_or(0)
+        if let Some(word) = self.addresses.read(offset) {
+            return word;
+        }
+        if let Some(word) = self.vlans.read(offset) {
+            return word;
+        }
+        self.read_pools(offset).unwrap_or(0)
     }
 
     // Writes PF_VT_CTL, if the offset names it.

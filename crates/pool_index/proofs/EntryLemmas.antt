@@ -2,7 +2,6 @@
 use Rattle.std.proofs.Common.{arith, ◌≡◌, ◌≢◌, ℕ, zero, suc, ◌+◌, ◌<◌, Bool, true, false, true≢false, ◌&&◌, ◌||◌, List, [], ◌∷◌, ◌++◌, Option, Some, None, is_some, length, map, bit_or, refl, sym, ap, ◌∙◌, eqb, eqb-true, length-append, if◌then◌else◌}
 use Rattle.std.specs.Cmp.{nat_eq_equiv}
 use Rattle.std.specs.List.{list_any, range_with_len, AllByRecursion, IsDistinct}
-use Rattle.std.specs.Option.{unwrap_or}
 use Rattle.std.proofs.Math.Bool.{or-false, or-true, and-false}
 use Rattle.std.proofs.lemmas.Bool.{eq-eqb, eqb-false, and_parts}
 use Rattle.std.proofs.lemmas.Bool.Decides.{nat_tests}
@@ -26,39 +25,66 @@ none_passes t a (suc n) fails = rw (fails a (omega arith)) (none_passes t (a + 1
 
 -- ---- a scan of the entries
 
-pub answer_none : (t : Entries) (key : ℕ) → IsAnswer None 0 t key
-unfolding is_held is_given
-answer_none t key = (refl, λ p h. has_bit_zero p)
+all_pass : (t u : ℕ → Bool) (es : List ℕ) → ((e : ℕ) → t e ≡ true → u e ≡ true) → list_any t es ≡ true → list_any u es ≡ true
+all_pass t u [] implies some = some
+all_pass t u (e ∷ es) implies some = go (t e) refl (all_pass t u es implies)
+  where
+    go : (b : Bool) → t e ≡ b → (list_any t es ≡ true → list_any u es ≡ true) → (u e || list_any u es) ≡ true
+    go true is rest = rw (implies e is) refl
+    go false is rest = rw (rest (rw is at some)) (or-true (u e))
 
-skipped : (t : ℕ → Bool) (n : ℕ) → t n ≡ false → list_any t (range_with_len 0 n) ≡ list_any t (range_with_len 0 (n + 1))
-skipped t n fails = sym (list_any-range_more t n ∙ ap (λ b. list_any t (range_with_len 0 n) || b) fails ∙ or-false (list_any t (range_with_len 0 n)))
+pub none_held : (t : Entries) (key : ℕ) → false ≡ is_held 0 t key
+unfolding is_held
+none_held t key = refl
 
-between_false : (a b c : Bool) → (a && c) ≡ false → (a && b && c) ≡ false
+pub none_given : (t : Entries) (key p : ℕ) → has_bit 0 p ≡ is_given 0 t p key
+unfolding is_given
+none_given t key p = has_bit_zero p
+
+pub held_more : (held : Bool) (n : ℕ) (t : Entries) (key : ℕ) → held ≡ is_held n t key → (held || (t.is_valid n && eqb (t.key n) key)) ≡ is_held (n + 1) t key
+unfolding is_held
+held_more held n t key so_far = ap (λ b. b || (t.is_valid n && eqb (t.key n) key)) so_far ∙ sym (list_any-range_more (λ e. t.is_valid e && eqb (t.key e) key) n)
+
+between_false : (a b c : Bool) → (a && c) ≡ false → ((a && b) && c) ≡ false
 between_false true true c is = is
 between_false true false c is = refl
 between_false false b c is = refl
 
-between_true : (a b c : Bool) → (a && c) ≡ true → (a && b && c) ≡ b
+between_true : (a b c : Bool) → (a && c) ≡ true → ((a && b) && c) ≡ b
 between_true true true c is = is
 between_true true false c is = refl
 between_true false b c is = absurd (true≢false (sym is))
 
-module _ (found : Option ℕ) (n : ℕ) (t : Entries) (key : ℕ) (so_far : IsAnswer found n t key) where
-  -- entry n does not hold the key
-  pub answer_same : (t.is_valid n && eqb (t.key n) key) ≡ false → IsAnswer found (n + 1) t key
-  unfolding is_held is_given
-  answer_same not_held = (
-    so_far.0 ∙ skipped (λ e. t.is_valid e && eqb (t.key e) key) n not_held,
-    λ p h. so_far.1 p h ∙ skipped (λ e. (t.is_valid e && t.has_pool p e) && eqb (t.key e) key) n (between_false (t.is_valid n) (t.has_pool p n) (eqb (t.key n) key) not_held),
-  )
+module _ (pools p n : ℕ) (t : Entries) (key : ℕ) (so_far : has_bit pools p ≡ is_given n t p key) (holds : Bool) (is : holds ≡ (t.is_valid n && eqb (t.key n) key)) where
+  -- entry n doesn't hold the key
+  pub given_same : holds ≡ false → has_bit (bit_or pools 0) p ≡ is_given (n + 1) t p key
+  unfolding is_given
+  given_same not_held = joined_more (λ e. (t.is_valid e && t.has_pool p e) && eqb (t.key e) key) pools 0 p n so_far (has_bit_zero p ∙ sym (between_false (t.is_valid n) (t.has_pool p n) (eqb (t.key n) key) (sym is ∙ not_held)))
 
   -- it holds the key, and its pools join the mask
-  pub answer_more : (pools : ℕ) → ((p : ℕ) → p < 64 → has_bit pools p ≡ t.has_pool p n) → (t.is_valid n && eqb (t.key n) key) ≡ true → IsAnswer (Some (bit_or (unwrap_or found 0) pools)) (n + 1) t key
-  unfolding is_held is_given
-  answer_more pools mask held = (
-    sym (list_any-range_more (λ e. t.is_valid e && eqb (t.key e) key) n ∙ ap (λ b. list_any (λ e. t.is_valid e && eqb (t.key e) key) (range_with_len 0 n) || b) held ∙ or-true _),
-    λ p h. joined_more (λ e. (t.is_valid e && t.has_pool p e) && eqb (t.key e) key) (unwrap_or found 0) pools p n (so_far.1 p h) (mask p h ∙ sym (between_true (t.is_valid n) (t.has_pool p n) (eqb (t.key n) key) held)),
-  )
+  pub given_more : (given : ℕ) → has_bit given p ≡ t.has_pool p n → holds ≡ true → has_bit (bit_or pools given) p ≡ is_given (n + 1) t p key
+  unfolding is_given
+  given_more given mask held = joined_more (λ e. (t.is_valid e && t.has_pool p e) && eqb (t.key e) key) pools given p n so_far (mask ∙ sym (between_true (t.is_valid n) (t.has_pool p n) (eqb (t.key n) key) (sym is ∙ held)))
+
+-- a key that no valid entry holds is given to no pool
+pub unheld_not_given : (n : ℕ) (t : Entries) (key : ℕ) → false ≡ is_held n t key → (p : ℕ) → has_bit 0 p ≡ is_given n t p key
+unfolding is_held is_given
+unheld_not_given n t key none p = go (list_any given (range_with_len 0 n)) refl
+  where
+    given : ℕ → Bool
+    given e = (t.is_valid e && t.has_pool p e) && eqb (t.key e) key
+
+    holds : ℕ → Bool
+    holds e = t.is_valid e && eqb (t.key e) key
+
+    without_pool : (a b c : Bool) → ((a && b) && c) ≡ true → (a && c) ≡ true
+    without_pool true true c is = is
+    without_pool true false c is = absurd (true≢false (sym is))
+    without_pool false b c is = absurd (true≢false (sym is))
+
+    go : (b : Bool) → list_any given (range_with_len 0 n) ≡ b → has_bit 0 p ≡ list_any given (range_with_len 0 n)
+    go true is = absurd (true≢false (sym (all_pass given holds (range_with_len 0 n) (λ e. without_pool (t.is_valid e) (t.has_pool p e) (eqb (t.key e) key)) is) ∙ sym none))
+    go false is = has_bit_zero p ∙ sym is
 
 -- ---- a table in which no entry is valid
 
@@ -170,14 +196,6 @@ room ks n t key rises kept held none =
             held_member t q (range_with_len 0 n) (kept q (eqb-false q key is) (member_kept ks q before))
 
 -- ---- the keys of one entry, brought up to date one after the other
-
-all_pass : (t u : ℕ → Bool) (es : List ℕ) → ((e : ℕ) → t e ≡ true → u e ≡ true) → list_any t es ≡ true → list_any u es ≡ true
-all_pass t u [] implies some = some
-all_pass t u (e ∷ es) implies some = go (t e) refl (all_pass t u es implies)
-  where
-    go : (b : Bool) → t e ≡ b → (list_any t es ≡ true → list_any u es ≡ true) → (u e || list_any u es) ≡ true
-    go true is rest = rw (implies e is) refl
-    go false is rest = rw (rest (rw is at some)) (or-true (u e))
 
 -- the key that was changed is answered for, and the others are as they were
 one_changed : (n : ℕ) (t : Entries) (old new : List Entry) (key : ℕ) (found : Option ℕ) → Changed key found old new → IsAnswer found n t key → (k : ℕ) → (key ≢ k → IsAnswer (kept_pools old k) n t k) → IsAnswer (kept_pools new k) n t k

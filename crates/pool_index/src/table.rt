@@ -107,17 +107,20 @@ impl<W: KeyedWords<N>, const N: usize> KeyedTable<W, N> {
     }
 }
 
-// The pools of all valid entries that hold the key; `None` where no valid entry does. It looks at every entry.
+// The pools of all valid entries that hold the key; `None` where no valid entry does. It looks at every entry, and reads the words of each:
+// without a branch it does several entries at once.
 fn found<W: KeyedWords<N>, const N: usize>(words: &W, key: u64) -> Option<u64>
     ensures { IsAnswer result N (W.entries words.now) key }
 {
-    let mut found = None;
+    let mut is_held = false;
+    let mut pools = 0;
     for e in 0..N {
-        if holds(words, e, key) {
-            found = Some(found.unwrap_or(0) | words.pools(e));
-        }
+        let holds = holds(words, e, key);
+        let given = words.pools(e);
+        is_held |= holds;
+        pools |= if holds { given } else { 0 };
     }
-    found
+    if is_held { Some(pools) } else { None }
 }
 
 // Whether an entry is valid and holds the key.
@@ -126,5 +129,5 @@ fn holds<W: KeyedWords<N>, const N: usize>(words: &W, e: usize, key: u64) -> boo
     requires { e < N }
     ensures { let t = W.entries words.now in result ≡ (t.is_valid e && (t.key e == key)) }
 {
-    words.is_valid(e) && words.key(e) == key
+    words.is_valid(e) & (words.key(e) == key)
 }

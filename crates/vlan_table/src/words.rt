@@ -53,10 +53,16 @@ impl Words {
     pub(crate) fn read(&self, offset: u32) -> Option<u32>
         ensures { result ≡ vlans_at self.now offset }
     {
-        read_one(self.control, VLNCTRL, offset)
-            .or(read_word(&self.table, VFTA, offset))
-            .or(read_word(&self.entries, VLVF, offset))
-            .or(read_word(&self.pools, VLVFB, offset))
+        if let Some(word) = read_one(self.control, VLNCTRL, offset) {
+            return Some(word);
+        }
+        if let Some(word) = read_word(&self.table, VFTA, offset) {
+            return Some(word);
+        }
+        if let Some(word) = read_word(&self.entries, VLVF, offset) {
+            return Some(word);
+        }
+        read_word(&self.pools, VLVFB, offset)
     }
 }
 

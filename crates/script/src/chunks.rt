@@ -11,8 +11,9 @@ use crate::text::cut;
 /// How many bytes one word of a script may have: those of the longest frame.
 pub const MOST_BYTES: usize = 9018;
 
-// How many bytes are looked at one by one for the end of a chunk: the digits of one byte, and all of them where few are left.
-const PAIR: usize = 2;
+// How many bytes are looked at one by one for the end of a chunk: up to the `.` behind one byte, or behind one that is repeated up to nine
+// times; and all of them where few are left.
+const NEAR: usize = 5;
 
 const SHORT: usize = 12;
 
@@ -38,7 +39,7 @@ fn lay_chunks(word: &[u8], room: &mut [u8]) -> Option<usize>
     let mut end = 0;
     let mut rest = word;
     loop {
-        let few = if rest.len() < SHORT { SHORT } else { PAIR };
+        let few = if rest.len() < SHORT { SHORT } else { NEAR };
         let (chunk, after) = cut(few, b'.', rest);
         end = lay_chunk(chunk, end, room)?;
         match after {

@@ -1,6 +1,8 @@
 //! Routing one frame.
 ghost use Rattle.std.specs.Prelude.{◌≡◌, ℕ, ◌<◌, ◌&&◌, not, ◌==◌};
 ghost use Rattle.wire_frame.specs.Bits.{has_bit};
+ghost use Rattle.pool_filter.specs.Accepts.{accepts};
+ghost use Rattle.local_switch.specs.declared.ways.Source.TheVariants.{Pool};
 ghost use Rattle.local_switch.specs.Switch.{receives, leaves, takes_from_wire, takes_from_pool, is_for_pool, is_for_the_wire};
 
 use crate::ways::{Route, Source};
@@ -8,6 +10,7 @@ use pool_filter::{Tables, accepting_pools};
 use wire_frame::{AddressKind, Frame, FrameBuf, PoolId, PoolSet, has_bit};
 
 /// Where a frame goes. That its sender may send it is not asked here.
+#[inline(always)]
 #[tactic(auto, using(wire_frame::proofs::BitLemmas::has_bit_and), unfolding(crate::specs::Switch::receives))]
 pub fn route_frame(tables: &Tables, from: Source, frame: Frame<'_>) -> Route
     ensures local { (p : ℕ) → p < 64
@@ -15,15 +18,13 @@ pub fn route_frame(tables: &Tables, from: Source, frame: Frame<'_>) -> Route
     ensures wire { result.wire ≡ leaves tables.now from frame.entry.bytes.now }
 {
     let receiving = tables.receiving_pools();
-    match from {
-        Source::Wire => Route {
-            local: PoolSet::from_bits(from_wire(tables, frame) & receiving),
-            wire: false,
-        },
-        Source::Pool(pool) => Route {
-            local: PoolSet::from_bits(from_pool(tables, pool, frame) & receiving),
-            wire: !tables.loops_back() || is_for_the_wire(tables, frame),
-        },
+    let (pools, wire) = match from {
+        Source::Wire => (from_wire(tables, frame), false),
+        Source::Pool(sender) => from_pool(tables, sender, frame),
+    };
+    Route {
+        local: PoolSet::from_bits(pools & receiving),
+        wire,
     }
 }
 
@@ -43,7 +44,7 @@ pub fn is_for_pool(tables: &Tables, from: Source, frame: Frame<'_>, pool: PoolId
 {
     let pools = match from {
         Source::Wire => from_wire(tables, frame),
-        Source::Pool(sender) => from_pool(tables, sender, frame),
+        Source::Pool(sender) => from_pool(tables, sender, frame).0,
     };
     has_bit(pools, u32::from(pool.get()))
 }
@@ -63,23 +64,34 @@ fn from_wire(tables: &Tables, frame: Frame<'_>) -> u64
     }
 }
 
-// The pools that a frame of a pool is for: under loopback all others that accept it.
+// The pools that a frame of a pool is for, and whether it leaves for the wire: under loopback all others that accept it, and the wire where it
+// may be for someone there; else the wire alone.
 #[tactic(auto, using(wire_frame::proofs::BitLemmas::has_bit_zero), unfolding(crate::specs::Switch::takes_from_pool))]
-fn from_pool(tables: &Tables, sender: PoolId, frame: Frame<'_>) -> u64
-    ensures { (p : ℕ) → p < 64 → has_bit result p ≡ takes_from_pool tables.now sender frame.entry.bytes.now p }
+fn from_pool(tables: &Tables, sender: PoolId, frame: Frame<'_>) -> (u64, bool)
+    ensures pools { (p : ℕ) → p < 64 → has_bit result.0 p ≡ takes_from_pool tables.now sender frame.entry.bytes.now p }
+    ensures wire { result.1 ≡ leaves tables.now (Pool sender) frame.entry.bytes.now }
 {
     if !tables.loops_back() {
-        return 0;
+        return (0, true);
     }
-    without(accepting_pools(tables, frame), sender)
+    let accepted = accepting_pools(tables, frame);
+    (
+        without(accepted, sender),
+        is_for_the_wire(tables, frame, accepted),
+    )
 }
 
-// Whether the wire may have someone else whom the frame is for.
-fn is_for_the_wire(tables: &Tables, frame: Frame<'_>) -> bool
+// Whether a frame may be for someone on the wire; these pools accept it. A pool that accepts a frame to one address has that address, so it
+// isn't looked for once more then.
+fn is_for_the_wire(tables: &Tables, frame: Frame<'_>, accepted: u64) -> bool
+    requires { (p : ℕ) → p < 64 → has_bit accepted p ≡ accepts tables.now p frame.bytes.now }
     ensures { result ≡ is_for_the_wire tables.now frame.entry.bytes.now }
 {
     let destination = frame.dst();
-    destination.kind() != AddressKind::Unicast || !tables.is_held(destination)
+    match destination.kind() {
+        AddressKind::Broadcast | AddressKind::Multicast => true,
+        AddressKind::Unicast => accepted == 0 && !tables.is_held(destination),
+    }
 }
 
 // The set of one pool.

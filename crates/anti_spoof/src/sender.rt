@@ -30,6 +30,7 @@ fn is_in_own_vlan<R: SenderRules>(rules: &R, frame: &FrameBuf) -> bool
 /// Whether a pool's own settings permit it to send the frame. Where its address check is on, the source must be an address
 /// of the pool. Where its VLAN check is on, the id of a tagged frame must be an id of the pool, and for an untagged frame
 /// the pool must take untagged frames. Each check works by itself.
+#[inline(always)]
 #[tactic(auto, unfolding(crate::specs::Permitted::permitted))]
 pub fn passes_anti_spoof<R: SenderRules>(rules: &R, frame: &FrameBuf) -> bool
     ensures { result ≡ permitted (R.rules rules.now) frame.now }

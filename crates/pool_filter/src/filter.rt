@@ -40,6 +40,7 @@ fn vlan_mask(tables: &Tables, frame: Frame<'_>) -> u64
 
 /// The pools that accept a frame, as a mask with bit p for pool p. Neither the default pool nor what pools may receive is
 /// looked at.
+#[inline(always)]
 #[tactic(auto, using(wire_frame::proofs::BitLemmas::has_bit_or, wire_frame::proofs::BitLemmas::has_bit_and), unfolding(crate::specs::Accepts::accepts))]
 pub fn accepting_pools(tables: &Tables, frame: Frame<'_>) -> u64
     ensures { (p : ℕ) → p < 64 → has_bit result p ≡ accepts tables.now p frame.entry.bytes.now }

@@ -1,6 +1,6 @@
-//! The two ways of an event: [`Device::take`], and the call by its name.
+//! The two ways of an event: [`Device::take_live`], and the call by its name.
 use device::{Device, MemSlice, Outcome, Queue, Request, Room};
-use guest_memory::GuestMem;
+use live_memory::Dma;
 use wire_frame::{Frame, PoolSet};
 
 /// What an event gives out.
@@ -13,12 +13,12 @@ pub struct Out {
 }
 
 /// An event, and what is to come of it.
-pub trait Call<M: GuestMem> {
+pub trait Call<D: Dma<K>, K> {
     /// Takes the event; whether that came of it.
-    fn call(&self, device: &mut Device<M>, out: &mut Out) -> bool;
+    fn call(&self, device: &mut Device<D, K>, out: &mut Out) -> bool;
 }
 
-/// Any event, by [`Device::take`].
+/// Any event, by [`Device::take_live`].
 #[derive(Clone, Copy)]
 pub struct Take<'a> {
     /// The event.
@@ -29,10 +29,10 @@ pub struct Take<'a> {
     pub pools: PoolSet,
 }
 
-impl<'a, M: GuestMem> Call<M> for Take<'a> {
+impl<'a, D: Dma<K>, K> Call<D, K> for Take<'a> {
     #[inline]
-    fn call(&self, device: &mut Device<M>, out: &mut Out) -> bool {
-        let response = device.take(self.request, &mut out.room);
+    fn call(&self, device: &mut Device<D, K>, out: &mut Out) -> bool {
+        let response = device.take_live(self.request, &mut out.room);
         let is_right = match response.outcome {
             Outcome::Done | Outcome::Sent => true,
             Outcome::Value(value) => value == self.value,
@@ -54,9 +54,9 @@ pub struct VfRead {
     pub value: u32,
 }
 
-impl<M: GuestMem> Call<M> for VfRead {
+impl<D: Dma<K>, K> Call<D, K> for VfRead {
     #[inline]
-    fn call(&self, device: &mut Device<M>, _out: &mut Out) -> bool {
+    fn call(&self, device: &mut Device<D, K>, _out: &mut Out) -> bool {
         match device.vf_read(self.pool, self.offset) {
             Ok(value) => value == self.value,
             Err(_) => false,
@@ -75,9 +75,9 @@ pub struct VfWrite {
     pub value: u32,
 }
 
-impl<M: GuestMem> Call<M> for VfWrite {
+impl<D: Dma<K>, K> Call<D, K> for VfWrite {
     #[inline]
-    fn call(&self, device: &mut Device<M>, _out: &mut Out) -> bool {
+    fn call(&self, device: &mut Device<D, K>, _out: &mut Out) -> bool {
         match device.vf_write(self.pool, self.offset, self.value) {
             Ok(messages) => messages.pools().is_empty(),
             Err(_) => false,
@@ -94,9 +94,9 @@ pub struct PfRead {
     pub value: u32,
 }
 
-impl<M: GuestMem> Call<M> for PfRead {
+impl<D: Dma<K>, K> Call<D, K> for PfRead {
     #[inline]
-    fn call(&self, device: &mut Device<M>, _out: &mut Out) -> bool {
+    fn call(&self, device: &mut Device<D, K>, _out: &mut Out) -> bool {
         match device.pf_read(self.offset) {
             Ok(value) => value == self.value,
             Err(_) => false,
@@ -113,14 +113,14 @@ pub struct PfWrite {
     pub value: u32,
 }
 
-impl<M: GuestMem> Call<M> for PfWrite {
+impl<D: Dma<K>, K> Call<D, K> for PfWrite {
     #[inline]
-    fn call(&self, device: &mut Device<M>, _out: &mut Out) -> bool {
+    fn call(&self, device: &mut Device<D, K>, _out: &mut Out) -> bool {
         device.pf_write(self.offset, self.value).is_ok()
     }
 }
 
-/// [`Device::mem_read`].
+/// [`Device::mem_read_live`].
 #[derive(Clone, Copy)]
 pub struct MemRead {
     /// The function.
@@ -129,10 +129,12 @@ pub struct MemRead {
     pub at: u64,
 }
 
-impl<M: GuestMem> Call<M> for MemRead {
+impl<D: Dma<K>, K> Call<D, K> for MemRead {
     #[inline]
-    fn call(&self, device: &mut Device<M>, out: &mut Out) -> bool {
-        device.mem_read(self.pool, self.at, &mut out.bytes).is_ok()
+    fn call(&self, device: &mut Device<D, K>, out: &mut Out) -> bool {
+        device
+            .mem_read_live(self.pool, self.at, &mut out.bytes)
+            .is_ok()
     }
 }
 
@@ -147,14 +149,14 @@ pub struct MemWrite<'a> {
     pub written: MemSlice<'a>,
 }
 
-impl<'a, M: GuestMem> Call<M> for MemWrite<'a> {
+impl<'a, D: Dma<K>, K> Call<D, K> for MemWrite<'a> {
     #[inline]
-    fn call(&self, device: &mut Device<M>, _out: &mut Out) -> bool {
+    fn call(&self, device: &mut Device<D, K>, _out: &mut Out) -> bool {
         device.mem_write(self.pool, self.at, self.written).is_ok()
     }
 }
 
-/// [`Device::wire`].
+/// [`Device::wire_live`].
 #[derive(Clone, Copy)]
 pub struct Wire<'a> {
     /// The frame.
@@ -163,17 +165,17 @@ pub struct Wire<'a> {
     pub pools: PoolSet,
 }
 
-impl<'a, M: GuestMem> Call<M> for Wire<'a> {
+impl<'a, D: Dma<K>, K> Call<D, K> for Wire<'a> {
     #[inline]
-    fn call(&self, device: &mut Device<M>, _out: &mut Out) -> bool {
-        match device.wire(self.frame) {
+    fn call(&self, device: &mut Device<D, K>, _out: &mut Out) -> bool {
+        match device.wire_live(self.frame) {
             Ok(messages) => messages.pools() == self.pools,
             Err(_) => false,
         }
     }
 }
 
-/// [`Device::serve`].
+/// [`Device::serve_live`].
 #[derive(Clone, Copy)]
 pub struct Serve {
     /// The function.
@@ -184,10 +186,10 @@ pub struct Serve {
     pub pools: PoolSet,
 }
 
-impl<M: GuestMem> Call<M> for Serve {
+impl<D: Dma<K>, K> Call<D, K> for Serve {
     #[inline]
-    fn call(&self, device: &mut Device<M>, out: &mut Out) -> bool {
-        let response = device.serve(self.pool, self.queue, &mut out.room);
+    fn call(&self, device: &mut Device<D, K>, out: &mut Out) -> bool {
+        let response = device.serve_live(self.pool, self.queue, &mut out.room);
         response.outcome.is_sent() && response.messages.pools() == self.pools
     }
 }

@@ -1,11 +1,14 @@
-//! A small benchmark, no part of the product: what an event costs a device, by `Device::take` and by the call by its name.
+//! A small benchmark, no part of the product: what an event costs a device, by `Device::take_live`, which `take` calls, and by the call by its
+//! name.
 //!
-//! - With no arguments each workload is done 300 times both ways, and the output says how many turns did what they should.
-//! - `times` prints a table of nanoseconds an event, the best of 400 rounds of 4096 turns.
-//! - `WORKLOAD take|name TURNS` does one workload one way, so that its instructions can be counted. bench/device.sh does.
+//! - With no words each workload is done 300 times both ways over both kinds of memories, and the output says how many turns did what they
+//!   should.
+//! - `own times` and `lent times` print a table of nanoseconds an event, the best of 400 rounds of 4096 turns.
+//! - `own|lent WORKLOAD take|name TURNS` does one workload one way, so that its instructions can be counted. bench/device.sh does.
 //!
-//! There are 64 memories of 256 KiB behind boxes, as in the product, and rings of 4096 descriptors. Every 2048 turns the
-//! device is given as many descriptors; the rest of a turn is the event alone.
+//! There are 64 memories of 256 KiB and rings of 4096 descriptors. Own memories stand behind boxes, as in the program; lent ones are bytes
+//! that the device is lent, one region each, as in the C interface. Every 2048 turns the device is given as many descriptors; the rest
+//! of a turn is the event alone.
 #![tactic(auto)]
 
 mod calls;
@@ -19,8 +22,13 @@ use crate::workload::{WORKLOADS, Workload};
 use anyhow::{Result, anyhow};
 use device::Device;
 use guest_memory::{FlatMem, GuestMem};
+use live_memory::Dma;
+use mapped_memory::LiveMem;
+use std::alloc::Global;
 use std::env;
 
+/// What is said of words that mean nothing.
+const USAGE: &str = "usage: bench_device [own|lent [times | WORKLOAD take|name TURNS]]";
 /// How many turns a workload has where nothing is timed.
 const FEW: u32 = 300;
 /// How many rounds are timed, each of as many turns as a ring has descriptors.
@@ -46,7 +54,7 @@ fn way_of(name: &str) -> Result<Way> {
 }
 
 // Prints how many turns of each workload did what they should.
-fn print_counts<M: GuestMem>(rt: &HostRuntime, device: &mut Device<M>) -> Result<()> {
+fn print_counts<D: Dma<K>, K>(rt: &HostRuntime, device: &mut Device<D, K>) -> Result<()> {
     for workload in WORKLOADS {
         let plan = Plan {
             workload,
@@ -61,9 +69,9 @@ fn print_counts<M: GuestMem>(rt: &HostRuntime, device: &mut Device<M>) -> Result
 }
 
 // What an event costs, in tenths of a nanosecond.
-fn time<M: GuestMem>(
+fn time<D: Dma<K>, K>(
     rt: &HostRuntime,
-    device: &mut Device<M>,
+    device: &mut Device<D, K>,
     workload: Workload,
     way: Way,
 ) -> Result<u128> {
@@ -77,7 +85,7 @@ fn time<M: GuestMem>(
 }
 
 // Prints the table of nanoseconds.
-fn print_times<M: GuestMem>(rt: &HostRuntime, device: &mut Device<M>) -> Result<()> {
+fn print_times<D: Dma<K>, K>(rt: &HostRuntime, device: &mut Device<D, K>) -> Result<()> {
     println!(rt; "| Workload | By `take`, ns | By name, ns |")?;
     println!(rt; "|---|---|---|")?;
     for workload in WORKLOADS {
@@ -93,10 +101,9 @@ fn print_times<M: GuestMem>(rt: &HostRuntime, device: &mut Device<M>) -> Result<
     Ok(())
 }
 
-// Does what the words of the command line ask for.
-fn answer<M: GuestMem>(rt: &HostRuntime, memories: Vec<M>) -> Result<()> {
+// Does what the words of the command line ask for, over these memories.
+fn answer<D: Dma<K>, K>(rt: &HostRuntime, memories: Vec<D>, words: &[String]) -> Result<()> {
     let mut device = Device::new(rt.alloc(), memories)?;
-    let words = env::args(rt)?.skip(1).collect::<Vec<String>>(rt.alloc())?;
     if words.is_empty() {
         return print_counts(rt, &mut device);
     }
@@ -104,7 +111,7 @@ fn answer<M: GuestMem>(rt: &HostRuntime, memories: Vec<M>) -> Result<()> {
         return print_times(rt, &mut device);
     }
     if words.len() != 3 {
-        return Err(anyhow!("usage: bench_device [times | WORKLOAD take|name TURNS]"));
+        return Err(anyhow!("{USAGE}"));
     }
     let plan = Plan {
         workload: workload_of(&words[0])?,
@@ -116,12 +123,49 @@ fn answer<M: GuestMem>(rt: &HostRuntime, memories: Vec<M>) -> Result<()> {
     Ok(())
 }
 
-fn main(rt: HostRuntime) -> Result<()> {
+// Does it over memories of the device's own, behind boxes.
+fn answer_own(rt: &HostRuntime, words: &[String]) -> Result<()> {
     let alloc = rt.alloc();
     let mut memories = Vec::new(alloc);
     for _ in 0..64 {
         let memory: Box<dyn GuestMem + Send> = Box::new(alloc, FlatMem::new(alloc, MEMORY)?)?;
         memories.push(memory)?;
     }
-    answer(&rt, memories)
+    answer(rt, memories, words)
+}
+
+// Does it over bytes that are lent.
+fn answer_lent(rt: &HostRuntime, words: &[String]) -> Result<()> {
+    let alloc = rt.alloc();
+    let mut cells = Vec::new(alloc);
+    cells.resize(64 * MEMORY as usize, 0u8)?;
+    let mut memories = Vec::new(alloc);
+    for block in cells.chunks_mut(MEMORY as usize) {
+        memories.push(lent_memory(alloc, block)?)?;
+    }
+    answer(rt, memories, words)
+}
+
+// A memory of these bytes, in one region.
+fn lent_memory<'a>(alloc: Global, cells: &'a mut [u8]) -> Result<LiveMem<'a>> {
+    let mut memory = LiveMem::new(alloc, MEMORY)?;
+    match memory.map(0, cells, false) {
+        Ok(()) => Ok(memory),
+        Err(refused) => Err(anyhow!("not mapped: {}", refused.why)),
+    }
+}
+
+fn main(rt: HostRuntime) -> Result<()> {
+    let words = env::args(&rt)?.skip(1).collect::<Vec<String>>(rt.alloc())?;
+    if words.is_empty() {
+        println!(rt; "own memories")?;
+        answer_own(&rt, &words)?;
+        println!(rt; "lent memories")?;
+        return answer_lent(&rt, &words);
+    }
+    match words[0].as_str() {
+        "own" => answer_own(&rt, &words[1..]),
+        "lent" => answer_lent(&rt, &words[1..]),
+        _ => Err(anyhow!("{USAGE}")),
+    }
 }

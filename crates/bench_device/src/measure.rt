@@ -6,7 +6,7 @@ use crate::setup::{GIVEN, frame_of, give, set_up};
 use crate::workload::{SENDER, Workload};
 use anyhow::{Result, anyhow};
 use device::{Device, MemSlice, Queue, Request, Room};
-use guest_memory::GuestMem;
+use live_memory::Dma;
 use pool_filter::registers::{BAM, PF_VT_CTL, VMOLR};
 use std::time::Instant;
 use vf_unit::offsets::{RDH0, RDT0};
@@ -15,7 +15,7 @@ use wire_frame::Frame;
 /// Which way an event is taken.
 #[derive(Clone, Copy, Debug, PartialEq, Eq)]
 pub enum Way {
-    /// By [`Device::take`].
+    /// By [`Device::take_live`].
     Take,
     /// By the call by its name.
     Name,
@@ -43,14 +43,14 @@ pub struct Measured {
 
 // Does one turn. It is a call of its own, so that the compiler knows no event beforehand.
 #[inline(never)]
-fn turn<M: GuestMem, C: Call<M>>(device: &mut Device<M>, call: &C, out: &mut Out) -> bool {
+fn turn<D: Dma<K>, K, C: Call<D, K>>(device: &mut Device<D, K>, call: &C, out: &mut Out) -> bool {
     call.call(device, out)
 }
 
 // Does a round; how many turns did what they should.
 #[inline(never)]
-fn round<M: GuestMem, C: Call<M>>(
-    device: &mut Device<M>,
+fn round<D: Dma<K>, K, C: Call<D, K>>(
+    device: &mut Device<D, K>,
     call: &C,
     plan: Plan,
     out: &mut Out,
@@ -68,9 +68,9 @@ fn round<M: GuestMem, C: Call<M>>(
 }
 
 // Does all rounds.
-fn rounds<M: GuestMem, C: Call<M>>(
+fn rounds<D: Dma<K>, K, C: Call<D, K>>(
     rt: &HostRuntime,
-    device: &mut Device<M>,
+    device: &mut Device<D, K>,
     call: &C,
     plan: Plan,
 ) -> Result<Measured> {
@@ -109,9 +109,9 @@ fn request_of<'a>(workload: Workload, frame: Frame<'a>, bytes: MemSlice<'a>) -> 
 }
 
 // Does a workload by the calls by name.
-fn by_name<M: GuestMem>(
+fn by_name<D: Dma<K>, K>(
     rt: &HostRuntime,
-    device: &mut Device<M>,
+    device: &mut Device<D, K>,
     request: Request<'_>,
     plan: Plan,
 ) -> Result<Measured> {
@@ -155,9 +155,9 @@ fn by_name<M: GuestMem>(
 }
 
 /// Sets the device up, and does a plan on it.
-pub fn measure<M: GuestMem>(
+pub fn measure<D: Dma<K>, K>(
     rt: &HostRuntime,
-    device: &mut Device<M>,
+    device: &mut Device<D, K>,
     plan: Plan,
     way: Way,
 ) -> Result<Measured> {

@@ -3,7 +3,7 @@ use crate::workload::{RECEIVER, SENDER, Workload};
 use addr_tables::registers::{MPSAR, RAH, RAL, VALID};
 use anyhow::Result;
 use device::{Device, MemSlice};
-use guest_memory::GuestMem;
+use live_memory::Dma;
 use pool_filter::registers::{BAM, LOOPBACK, PFDTXGSWC, PFVFRE, PFVFSPOOF, PFVFTE, VMOLR};
 use vf_unit::offsets::*;
 use wire_frame::FrameBuf;
@@ -54,7 +54,7 @@ fn write_addresses(bytes: &mut [u8; 1518], broadcast: bool) {
 }
 
 /// Sets a device up for a workload, whatever it was.
-pub fn set_up<M: GuestMem>(device: &mut Device<M>, workload: Workload) -> Result<()> {
+pub fn set_up<D: Dma<K>, K>(device: &mut Device<D, K>, workload: Workload) -> Result<()> {
     device.reset();
     for pool in 0..workload.pools() {
         open(device, pool)?;
@@ -68,7 +68,7 @@ pub fn set_up<M: GuestMem>(device: &mut Device<M>, workload: Workload) -> Result
 }
 
 // Opens a function that has an address of its own, takes broadcasts, and whose receive queue is on.
-fn open<M: GuestMem>(device: &mut Device<M>, pool: u8) -> Result<()> {
+fn open<D: Dma<K>, K>(device: &mut Device<D, K>, pool: u8) -> Result<()> {
     let entry = u32::from(pool);
     for half in 0..2 {
         device.pf_write(PFVFRE.first + 4 * half, u32::MAX)?;
@@ -93,7 +93,7 @@ fn open<M: GuestMem>(device: &mut Device<M>, pool: u8) -> Result<()> {
 }
 
 // Gives the sender a transmit queue that is on, each of whose descriptors sends the same frame.
-fn fill_transmit_ring<M: GuestMem>(device: &mut Device<M>) -> Result<()> {
+fn fill_transmit_ring<D: Dma<K>, K>(device: &mut Device<D, K>) -> Result<()> {
     let frame = frame_of(60, false)?;
     device.mem_write(SENDER, u64::from(SENT_AT), MemSlice::new(frame.bytes())?)?;
     for place in 0..COUNT {
@@ -112,7 +112,7 @@ fn fill_transmit_ring<M: GuestMem>(device: &mut Device<M>) -> Result<()> {
 }
 
 /// Gives the device descriptors for the turns from `turn` on.
-pub fn give<M: GuestMem>(device: &mut Device<M>, workload: Workload, turn: u32) {
+pub fn give<D: Dma<K>, K>(device: &mut Device<D, K>, workload: Workload, turn: u32) {
     let tail = (turn % COUNT + GIVEN) % COUNT;
     match workload {
         Workload::WireShort | Workload::WireLong => set_tail(device, RECEIVER, RDT0, tail),
@@ -130,6 +130,6 @@ pub fn give<M: GuestMem>(device: &mut Device<M>, workload: Workload, turn: u32) 
 }
 
 // Writes a tail. A refusal shows in what comes of the turns.
-fn set_tail<M: GuestMem>(device: &mut Device<M>, pool: u8, offset: u32, tail: u32) {
+fn set_tail<D: Dma<K>, K>(device: &mut Device<D, K>, pool: u8, offset: u32, tail: u32) {
     let _ = device.vf_write(pool, offset, tail);
 }

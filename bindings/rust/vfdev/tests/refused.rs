@@ -1,22 +1,26 @@
 //! Memory that Rust's allocator refuses, and calls that ask it for none.
 
 use std::alloc::{GlobalAlloc, Layout, System};
+use std::cell::Cell;
 use std::ptr::{null_mut, NonNull};
-use std::sync::atomic::{AtomicBool, AtomicU8, AtomicUsize, Ordering};
+use std::sync::atomic::AtomicU8;
 use vfdev::card::Offloads;
 use vfdev::{Fault, Guests, MappedMemory};
 
-// The system's, which counts, and refuses where it is told to.
+// The system's, which counts, and refuses where it is told to: for each thread by itself, since the one that runs the tests takes memory
+// meanwhile.
 struct Counting;
 
-static ASKED: AtomicUsize = AtomicUsize::new(0);
-static REFUSES: AtomicBool = AtomicBool::new(false);
+thread_local! {
+    static ASKED: Cell<usize> = const { Cell::new(0) };
+    static REFUSES: Cell<bool> = const { Cell::new(false) };
+}
 
 // SAFETY: it is the system's, or refuses.
 unsafe impl GlobalAlloc for Counting {
     unsafe fn alloc(&self, layout: Layout) -> *mut u8 {
-        ASKED.fetch_add(1, Ordering::Relaxed);
-        if REFUSES.load(Ordering::Relaxed) {
+        ASKED.with(|asked| asked.set(asked.get() + 1));
+        if REFUSES.with(Cell::get) {
             return null_mut();
         }
         // SAFETY: the caller's words are handed on.
@@ -46,16 +50,15 @@ fn page() -> Box<Page> {
     Box::new(Page(Box::leak(bytes)))
 }
 
-// (one test, since the allocator is that of all threads)
 #[test]
 fn no_call_but_the_maker_takes_memory() -> Result<(), Fault> {
-    REFUSES.store(true, Ordering::Relaxed);
+    REFUSES.with(|refuses| refuses.set(true));
     let refused = Guests::new(64, 1518, Offloads::NONE).err();
-    REFUSES.store(false, Ordering::Relaxed);
+    REFUSES.with(|refuses| refuses.set(false));
     assert_eq!(refused, Some(Fault::NoMemory));
     let mut device = Guests::new(64, 1518, Offloads::NONE)?;
     let mut pages: Vec<_> = (0..64).map(|_| page()).collect();
-    let before = ASKED.load(Ordering::Relaxed);
+    let before = ASKED.with(Cell::get);
     device.attach(63)?;
     for at in 0..64 {
         let memory = pages.pop().expect("a page");
@@ -67,6 +70,6 @@ fn no_call_but_the_maker_takes_memory() -> Result<(), Fault> {
     assert_eq!(refused.fault, Fault::PastEnd);
     device.plug(63, 0, refused.memory)?;
     device.detach(63)?;
-    assert_eq!(ASKED.load(Ordering::Relaxed), before);
+    assert_eq!(ASKED.with(Cell::get), before);
     Ok(())
 }

@@ -350,9 +350,13 @@ fn nobody_is_disturbed(server: &Server, guests: [Guest; 2], with_pages: bool) {
     wait_until("the others have gone", || {
         (2..4).all(|function| server.is_vacant(function))
     });
+    // (a function is vacant before its thread has ended)
+    wait_until("as many files and threads as before", || {
+        let now = held(server);
+        (now.0, now.1) == (before.0, before.1)
+    });
     let after = held(server);
     println!("{number} frames, {sent} messages; files, threads and KiB before {before:?}, after {after:?}");
-    assert_eq!((before.0, before.1), (after.0, after.1), "files, threads");
     // (a sanitizer takes memory of its own)
     let more = if is_sanitized() { 65536 } else { 4096 };
     assert!(

@@ -81,8 +81,8 @@ fn from_pool(tables: &Tables, sender: PoolId, frame: Frame<'_>) -> (u64, bool)
     )
 }
 
-// Whether a frame may be for someone on the wire; these pools accept it. A pool that accepts a frame to one address has that address, so it
-// isn't looked for once more then.
+// Whether a frame may be for someone on the wire, where `accepted` has the pools here that accept it. A pool that accepts a frame to one
+// address has that address, so where there is such a pool the address isn't searched for.
 fn is_for_the_wire(tables: &Tables, frame: Frame<'_>, accepted: u64) -> bool
     requires { (p : ℕ) → p < 64 → has_bit accepted p ≡ accepts tables.now p frame.bytes.now }
     ensures { result ≡ is_for_the_wire tables.now frame.entry.bytes.now }

@@ -106,6 +106,57 @@ fn has_zeros_where_nothing_was_written(rt: HostRuntime) -> Result<(), Fail> {
     )
 }
 
+// Sets the word at an address, where the memory has it.
+fn put_word<M: GuestMem>(memory: &mut M, addr: u64, word: u64) {
+    let size = memory.size();
+    if size >= 8 && addr <= size - 8 {
+        write_word(memory, addr, word);
+    }
+}
+
+// The word at an address; all ones where the memory hasn't it.
+fn word_in<M: GuestMem>(memory: &M, addr: u64) -> u64 {
+    let size = memory.size();
+    if size >= 8 && addr <= size - 8 {
+        read_word(memory, addr)
+    } else {
+        u64::MAX
+    }
+}
+
+// Words in the last page, in the first, and in the pages on both sides of 256 KiB, written in no order: each is found, the words beside them
+// are zero, and all are when the memory is cleared.
+fn find_far_words<R: Abort, M: GuestMem>(rt: &R, mut memory: M) {
+    let words = [
+        (16_777_208u64, 0x11u64),
+        (0x3_FFFC, 0x2222_2222_2222_2222),
+        (0, 0x33),
+        (0x4_0800, 0x44),
+        (0x80_0000, 0x55),
+    ];
+    for (addr, word) in words {
+        put_word(&mut memory, addr, word);
+    }
+    for (addr, word) in words {
+        assert_equal_at(rt, word_in(&memory, addr), word, addr);
+    }
+    for addr in [8u64, 0x3_FFF4, 0x4_0008, 0x4_0808, 0x7F_FFF8, 0xFF_F7F8] {
+        assert_equal_at(rt, word_in(&memory, addr), 0, addr);
+    }
+    memory.clear();
+    for (addr, _) in words {
+        assert_equal_at(rt, word_in(&memory, addr), 0, addr);
+    }
+}
+
+#[test]
+fn far_pages_are_apart(rt: HostRuntime) -> Result<(), Fail> {
+    for size in [16_777_216] {
+        find_far_words(&rt, FlatMem::new(rt.alloc(), size)?);
+    }
+    Ok(())
+}
+
 // Sets the first word, by whatever memory it is; what the memory then holds there.
 fn first_word<M: GuestMem>(mut memory: M) -> Option<u64> {
     if memory.size() < 8 {

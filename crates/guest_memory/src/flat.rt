@@ -1,9 +1,10 @@
 //! A memory on the heap.
 ghost use Rattle.std.specs.Prelude.{◌≡◌, ℕ, ◌+◌, ◌-◌, ◌*◌, ◌/◌, ◌%◌, ◌<◌, ◌≤◌, ◌↔◌, ◌++◌, true, false, List, length, set, replicate, slice_range, vec_capacity, IfOk, IfErr, IfSome};
 ghost use Rattle.guest_memory.specs.Memory.{overwrite, is_memory_size, word_at, word_bytes, two_words};
-ghost use Rattle.guest_memory.specs.Pages.{place_in, reaching};
+ghost use Rattle.guest_memory.specs.Pages.{place_in};
 
 use crate::GuestMem;
+use crate::table::{PageTable, UNSTORED};
 use crate::words::{bytes_of, bytes_of_two, put_word, put_words, word_of, words_of};
 use std::alloc::Global;
 use std::marker::Model;
@@ -26,20 +27,17 @@ pub fn is_memory_size(size: u64) -> bool
 
 /// The bytes of a page.
 const PAGE: usize = 2048;
-/// The mark of a page that isn't stored.
-const UNSTORED: u16 = u16::MAX;
 
 /// A memory on the heap, of 4096 to 16,777,216 bytes, a multiple of 128.
 ///
 /// The room is taken when the memory is made, and none later. Of it, the pages of 2048 bytes that were written since the
 /// memory was made or cleared are stored, one behind another in the order of their first write; the others are zero. So
-/// the host holds as much as those pages and a table of two bytes for each page up to the last that was ever written. An
-/// access costs as much as its bytes, and the first write to a page as much as the page and those entries of the table that
-/// are new since the memory was made or cleared; clearing costs no more than a few steps.
+/// the host holds as much as those pages, and 256 bytes of a table for each quarter of a MiB that has one. An access costs as much as its
+/// bytes, and the first write to a page as much as the page and 256 bytes; clearing costs no more than a few steps.
 #[derive(Drop)]
 pub struct FlatMem {
-    // where each page is stored, up to the last page that was written
-    table: Vec<u16>,
+    // where each page is stored
+    table: PageTable,
     // the bytes of the stored pages, in the order of their first write
     cells: Vec<u8>,
     size: usize,
@@ -51,10 +49,10 @@ impl Model for FlatMem {
 
     ghost Value = { List ℕ };
 
-    ghost view = { λ m. paged m.size m.table.items m.cells.items };
+    ghost view = { λ m. paged m.size m.table m.cells.items };
 
-    ghost invariant = { λ m. IsPaged m.size m.table.items (length m.cells.items / 2048)
-        (length m.cells.items) (vec_capacity m.cells) (vec_capacity m.table) };
+    ghost invariant = { λ m. IsPaged m.size m.table (length m.cells.items / 2048)
+        (length m.cells.items) (vec_capacity m.cells) };
 }
 
 impl FlatMem {
@@ -72,7 +70,7 @@ impl FlatMem {
         let size = size as usize;
         // one more than pages, so that an access of no bytes at the end needs no test
         let pages = size / PAGE + 1;
-        let table = Vec::with_capacity(alloc, pages)?;
+        let table = PageTable::new(alloc, pages)?;
         let cells = Vec::with_capacity(alloc, pages * PAGE)?;
         Ok(FlatMem { table, cells, size })
     }
@@ -86,7 +84,7 @@ impl FlatMem {
         ensures { out.new ≡ slice_range self.now start (start + length out.old) }
     {
         let cells = self.cells.as_slice();
-        let at = place_of(&self.table, start / PAGE) as usize * PAGE + start % PAGE;
+        let at = self.table.place(start / PAGE) as usize * PAGE + start % PAGE;
         if at < cells.len() {
             out.copy_from_slice(&cells[at..at + out.len()]);
         } else {
@@ -102,7 +100,7 @@ impl FlatMem {
         ensures { IfSome result (λ part. part.now ≡ slice_range self.now start (start + count)) }
     {
         let cells = self.cells.as_slice();
-        let at = place_of(&self.table, start / PAGE) as usize * PAGE + start % PAGE;
+        let at = self.table.place(start / PAGE) as usize * PAGE + start % PAGE;
         if start % PAGE + count <= PAGE && at < cells.len() {
             Some(&cells[at..at + count])
         } else {
@@ -147,7 +145,7 @@ impl FlatMem {
         ensures { self.new ≡ overwrite start source.now self.old }
     {
         let page = start / PAGE;
-        let place = place_of(&self.table, page);
+        let place = self.table.place(page);
         if place == UNSTORED {
             store(&mut self.table, &mut self.cells, page, start % PAGE, source);
         } else {
@@ -191,54 +189,23 @@ impl FlatMem {
     }
 }
 
-// The place of a page, or the mark of one that isn't stored.
-#[inline]
-fn place_of(table: &[u16], page: usize) -> u16
-    ensures { result ≡ place_in table.now page }
-{
-    if page < table.len() {
-        table[page]
-    } else {
-        UNSTORED
-    }
-}
-
 // Stores a page at the next place, with zeros but for `source` from `start` on. There is room, so nothing is allocated.
 #[cold]
 #[inline(never)]
-fn store(table: &mut Vec<u16>, cells: &mut Vec<u8>, page: usize, start: usize, source: &[u8])
+fn store(table: &mut PageTable, cells: &mut Vec<u8>, page: usize, start: usize, source: &[u8])
     requires place { length cells.old.items / 2048 < 8193 }
-    requires entry { page + 1 ≤ vec_capacity table.old }
-    requires few { page + 1 ≤ 8193 }
+    requires entry { page < length table.old }
     requires within { start + length source.now ≤ 2048 }
     requires cells { length cells.old.items + 2048 ≤ vec_capacity cells.old }
-    ensures table { table.new.items
-        ≡ set (reaching (page + 1) table.old.items) page (length cells.old.items / 2048) }
+    ensures table { table.new ≡ set table.old page (length cells.old.items / 2048) }
     ensures cells { cells.new.items
         ≡ overwrite (length cells.old.items + start) source.now
         (cells.old.items ++ replicate 2048 0) }
     ensures len { length cells.new.items ≡ length cells.old.items + 2048 }
-    ensures entries { vec_capacity table.old ≤ vec_capacity table.new }
     ensures room { vec_capacity cells.old ≤ vec_capacity cells.new }
 {
-    reach(table, page + 1);
-    table[page] = (cells.len() / PAGE) as u16;
+    table.set(page, (cells.len() / PAGE) as u16);
     write_first(cells, start, source);
-}
-
-// Makes the table that long at least. There is room, so nothing is allocated.
-fn reach(table: &mut Vec<u16>, pages: usize)
-    requires { pages ≤ vec_capacity table.old }
-    ensures table { table.new.items ≡ reaching pages table.old.items }
-    ensures len { pages ≤ length table.new.items }
-    ensures capacity { vec_capacity table.old ≤ vec_capacity table.new }
-{
-    if table.len() < pages {
-        match table.resize(pages, UNSTORED) {
-            Ok(()) => {}
-            Err(_) => unreachable!(),
-        }
-    }
 }
 
 // One page more, whose bytes are zero but for `source` from `start` on. There is room, so nothing is allocated.
@@ -301,7 +268,7 @@ impl GuestMem for FlatMem {
     #[tactic(auto, using(crate::proofs::PagesLemmas::length_paged, crate::proofs::PagesLemmas::write_stored, crate::proofs::PagesLemmas::is_paged_same, crate::proofs::WordsLemmas::length_word))]
     fn write_word(&mut self, addr: u64, word: u64) {
         let start = addr as usize;
-        let place = place_of(&self.table, start / PAGE);
+        let place = self.table.place(start / PAGE);
         if place != UNSTORED && start % PAGE + 8 <= PAGE {
             let at = place as usize * PAGE + start % PAGE;
             write_word_within(&mut self.cells, at, word);
@@ -313,7 +280,7 @@ impl GuestMem for FlatMem {
     #[tactic(auto, using(crate::proofs::PagesLemmas::length_paged, crate::proofs::PagesLemmas::write_stored, crate::proofs::PagesLemmas::is_paged_same, crate::proofs::WordsLemmas::length_two))]
     fn write_words(&mut self, addr: u64, low: u64, high: u64) {
         let start = addr as usize;
-        let place = place_of(&self.table, start / PAGE);
+        let place = self.table.place(start / PAGE);
         if place != UNSTORED && start % PAGE + 16 <= PAGE {
             let at = place as usize * PAGE + start % PAGE;
             write_words_within(&mut self.cells, at, low, high);

@@ -1,7 +1,6 @@
 -- A write within a page that is stored changes the bytes only where it is.
-use Rattle.std.proofs.Common.{ℕ, ◌+◌, ◌*◌, ◌/◌, ◌%◌, ◌≤◌, List, length, arith, ap, ◌∙◌}
+use Rattle.std.proofs.Common.{ℕ, ◌+◌, ◌*◌, ◌%◌, ◌≤◌, length, arith, ap, ◌∙◌}
 use Rattle.guest_memory.specs.Memory.{two_words}
-use Rattle.guest_memory.specs.Pages.{place_in}
 use Rattle.guest_memory.proofs.PagesLemmas.{length_paged, write_stored}
 use Rattle.guest_memory.proofs.WordsLemmas.{length_two}
 use Rattle.guest_memory.proofs.flat.FlatMemGuestMem.write_words.Goals as goal
@@ -9,5 +8,5 @@ use Rattle.guest_memory.proofs.flat.FlatMemGuestMem.write_words.Goals as goal
 pub returns-then-start-le-PAGE-clause-written : goal.returns-then-start-le-PAGE-clause-written
 returns-then-start-le-PAGE-clause-written c =
     let ends : c.args.addr + length (two_words c.args.low c.args.high) ≤ c.self.inside.size = grind (arith, length_paged, length_two) in
-    let place = c.place_of-place.ensures ∙ ap (λ (t : List ℕ). place_in t (c.args.addr / 2048)) c.deref.ensures.value in
-    rw (c.write_words_within.ensures.cells, ← c.self.view_is) (write_stored _ _ _ _ _ _ _ _ _ c.self.invariant (ap (λ (n : ℕ). n * 2048 + c.args.addr % 2048) place) (omega (arith, length_two c.args.low c.args.high, c.if-start-le-PAGE.true)) ends (λ mark. c.if-place.true (place ∙ mark)))
+    let place = c.place-place.ensures in
+    rw (c.write_words_within.ensures.cells, ← c.self.view_is) (write_stored _ _ _ _ _ _ _ _ c.self.invariant (ap (λ (n : ℕ). n * 2048 + c.args.addr % 2048) place) (omega (arith, length_two c.args.low c.args.high, c.if-start-le-PAGE.true)) ends (λ mark. c.if-place.true (place ∙ mark)))

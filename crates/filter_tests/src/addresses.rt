@@ -69,6 +69,38 @@ fn a_valid_entry_follows_its_words(rt: HostRuntime) {
     }
 }
 
+/// Two entries with one address, whose pools overlap: one gives more, then less, then another pool in place of its own, while the other
+/// keeps what it gives.
+#[test]
+fn an_entry_gives_more_and_less(rt: HostRuntime) {
+    let mut tables = AddrTables::new();
+    let entries = [
+        (RAL, 0x2),
+        (RAH, 0x8000_1100),
+        (MPSAR, 0x3),
+        (RAL + 8, 0x2),
+        (RAH + 8, 0x8000_1100),
+        (MPSAR + 8, 0x6),
+    ];
+    for (offset, value) in entries {
+        tables.write(offset, value);
+    }
+    let address = Mac([2, 0, 0, 0, 0, 0x11]);
+    assert_equal(&rt, tables.pools_of(address), 0x7);
+    let steps = [
+        (0xE, 0xF),
+        (0xE, 0xF),
+        (0x2, 0x3),
+        (0x10, 0x13),
+        (0x0, 0x3),
+        (0x8000_0000, 0x8000_0003),
+    ];
+    for (value, want) in steps {
+        tables.write(MPSAR + 8, value);
+        assert_equal_at(&rt, tables.pools_of(address), want, value);
+    }
+}
+
 /// Three entries for one address, each with another pool, between entries for two others. As one after another ceases to
 /// be valid, the address keeps the pools of the rest.
 #[test]

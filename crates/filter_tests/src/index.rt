@@ -36,6 +36,19 @@ fn keys_are_set(rt: HostRuntime) {
     assert_equal(&rt, index.probe(7).0, 0);
 }
 
+/// A key that isn't kept gets pools by an addition, and then more; another key stays as it is.
+#[test]
+fn keys_gather_pools(rt: HostRuntime) {
+    let mut index = PoolIndex::<2>::new();
+    index.put(9, 0x8000_0000_0000_0000);
+    index.add(4, 0x2);
+    assert_equal(&rt, index.probe(4).0, 0x2);
+    index.add(4, 0x5);
+    index.add(9, 0);
+    assert_equal(&rt, index.probe(4).0, 0x7);
+    assert_equal(&rt, index.probe(9).0, 0x8000_0000_0000_0000);
+}
+
 /// Of three keys the one in the middle is compared first, and any other takes one comparison more: 3 has two binary digits.
 #[test]
 fn the_middle_is_compared_first(rt: HostRuntime) {

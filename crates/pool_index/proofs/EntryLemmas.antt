@@ -1,5 +1,5 @@
 -- What a scan of the entries finds of a key, what a write to one entry leaves, and that there is room for every key.
-use Rattle.std.proofs.Common.{arith, ◌≡◌, ◌≢◌, ℕ, zero, suc, ◌+◌, ◌<◌, Bool, true, false, true≢false, ◌&&◌, ◌||◌, List, [], ◌∷◌, ◌++◌, Option, Some, None, is_some, length, map, bit_or, refl, sym, ap, ◌∙◌, eqb, eqb-true, length-append, if◌then◌else◌}
+use Rattle.std.proofs.Common.{arith, ◌≡◌, ◌≢◌, ℕ, zero, suc, ◌+◌, ◌<◌, ◌≤◌, Bool, true, false, true≢false, ◌&&◌, ◌||◌, List, [], ◌∷◌, ◌++◌, Option, Some, None, is_some, length, map, bit_or, refl, sym, ap, ◌∙◌, eqb, eqb-true, length-append, if◌then◌else◌}
 use Rattle.std.specs.Cmp.{nat_eq_equiv}
 use Rattle.std.specs.List.{list_any, range_with_len, AllByRecursion, IsDistinct}
 use Rattle.std.proofs.Math.Bool.{or-false, or-true, and-false}
@@ -10,8 +10,9 @@ use Rattle.std.proofs.lemmas.List.FromFn.{length-range_with_len}
 use Rattle.std.proofs.lemmas.List.{length-map}
 use Rattle.std.proofs.lemmas.Map.Keys.{IsDistinct-push}
 use Rattle.std.proofs.lemmas.Map.Made.{length-le_from_is_member}
+use Rattle.std.specs.Option.{unwrap_or}
 use Rattle.wire_frame.specs.Bits.{has_bit}
-use Rattle.wire_frame.proofs.BitLemmas.{has_bit_zero, joined_more, list_any-range_more}
+use Rattle.wire_frame.proofs.BitLemmas.{has_bit_or, has_bit_zero, joined_more, list_any-range_more}
 use Rattle.pool_index.specs.declared.index.Entry.{Entry}
 use Rattle.pool_index.specs.Index.{kept_pools, Rises}
 use Rattle.pool_index.specs.Entries.{Entries, SaySame, is_held, is_given, IsAnswer, IsIndexOf}
@@ -129,6 +130,88 @@ module _ (a b : Entries) (e : ℕ) (others : (x : ℕ) → x ≢ e → SaySame a
     says.0 ∙ ap (λ t. list_any t (range_with_len 0 n)) (λ i x. neither key before after a.is_valid b.is_valid (λ y other. (others y other).valid) x i),
     λ p h. says.1 p h ∙ ap (λ t. list_any t (range_with_len 0 n)) (λ i x. neither key before after (λ y. a.is_valid y && a.has_pool p y) (λ y. b.is_valid y && b.has_pool p y) (λ y other j. (others y other).valid j && (others y other).pools p j) x i),
   )
+
+-- an entry that isn't valid, before or after, is no matter to the index
+module _ (a b : Entries) (e : ℕ) (others : (x : ℕ) → x ≢ e → SaySame a b x) where
+  idle : (key : ℕ) (f g : ℕ → Bool) → f e ≡ false → g e ≡ false → ((x : ℕ) → x ≢ e → f x ≡ g x) → (x : ℕ) → (f x && eqb (a.key x) key) ≡ (g x && eqb (b.key x) key)
+  idle key f g before after same x = go (eqb x e) refl
+    where
+      go : (here : Bool) → eqb x e ≡ here → (f x && eqb (a.key x) key) ≡ (g x && eqb (b.key x) key)
+      go true is =
+          let there = eqb-true x e is in
+          let old : f x ≡ false = rw there before in
+          let new : g x ≡ false = rw there after in
+          rw (old, new) refl
+      go false is = let other = eqb-false x e is in λ i. same x other i && eqb ((others x other).keys i) key
+
+  pub index_idle : (ks : List Entry) (n : ℕ) → a.is_valid e ≡ false → b.is_valid e ≡ false → IsIndexOf ks n a → IsIndexOf ks n b
+  unfolding is_held is_given
+  index_idle ks n before after says = (
+    says.0,
+    λ key. (
+      (says.1 key).0 ∙ ap (λ t. list_any t (range_with_len 0 n)) (λ i x. idle key a.is_valid b.is_valid before after (λ y other. (others y other).valid) x i),
+      λ p h. (says.1 key).1 p h ∙ ap (λ t. list_any t (range_with_len 0 n)) (λ i x. idle key (λ y. a.is_valid y && a.has_pool p y) (λ y. b.is_valid y && b.has_pool p y) (ap (λ v. v && a.has_pool p e) before) (ap (λ v. v && b.has_pool p e) after) (λ y other j. (others y other).valid j && (others y other).pools p j) x i),
+    ),
+  )
+
+-- ---- an entry that gives more of one key
+
+one_passes : (t : ℕ → Bool) (a n e : ℕ) → a ≤ e → e < a + n → t e ≡ true → list_any t (range_with_len a n) ≡ true
+one_passes t a zero e l h is = absurd (omega (arith, l, h))
+one_passes t a (suc n) e l h is = go (eqb a e) refl (λ differ. one_passes t (a + 1) n e (grind (arith, nat_tests, l, differ)) (omega (arith, h)) is)
+  where
+    go : (first : Bool) → eqb a e ≡ first → (eqb a e ≡ false → list_any t (range_with_len (a + 1) n) ≡ true) → (t a || list_any t (range_with_len (a + 1) n)) ≡ true
+    go true same later = let here : t a ≡ true = ap t (eqb-true a e same) ∙ is in rw here refl
+    go false other later = rw (later other) (or-true (t a))
+
+-- where all but e pass as they did, and e still passes if it did, some pass just where some did or e does now
+one_more : (f g : ℕ → Bool) (n e : ℕ) → e < n → ((x : ℕ) → x ≢ e → f x ≡ g x) → (f e ≡ true → g e ≡ true) → (list_any f (range_with_len 0 n) || g e) ≡ list_any g (range_with_len 0 n)
+one_more f g n e h same still = go (g e) refl (f e) refl
+  where
+    go : (now : Bool) → g e ≡ now → (was : Bool) → f e ≡ was → (list_any f (range_with_len 0 n) || g e) ≡ list_any g (range_with_len 0 n)
+    go true is was before = rw is (or-true (list_any f (range_with_len 0 n)) ∙ sym (one_passes g 0 n e (omega arith) (omega (arith, h)) is))
+    go false is true before = absurd (true≢false (sym (still before) ∙ is))
+    go false is false before = rw is (or-false (list_any f (range_with_len 0 n)) ∙ ap (λ t. list_any t (range_with_len 0 n)) (λ i x. each x (eqb x e) refl i))
+      where
+        each : (x : ℕ) (here : Bool) → eqb x e ≡ here → f x ≡ g x
+        each x true there = let at = eqb-true x e there in ap f at ∙ before ∙ sym is ∙ ap g (sym at)
+        each x false elsewhere = same x (eqb-false x e elsewhere)
+
+-- a mask that others are joined to without a change has the bits of those
+has_those : (gave gives p : ℕ) → bit_or gave gives ≡ gives → has_bit gave p ≡ true → has_bit gives p ≡ true
+has_those gave gives p more has = ap (λ m. has_bit m p) (sym more) ∙ has_bit_or gave gives p ∙ (rw has refl)
+
+module _ (a b : Entries) (e n key : ℕ) (others : (x : ℕ) → x ≢ e → SaySame a b x) (within : e < n) (was_valid : a.is_valid e ≡ true) (is_valid : b.is_valid e ≡ true) (held : key ≡ a.key e) (holds : key ≡ b.key e) where
+  pub answer_grown : (found : Option ℕ) (gave gives : ℕ) → ((p : ℕ) → p < 64 → has_bit gave p ≡ a.has_pool p e) → ((p : ℕ) → p < 64 → has_bit gives p ≡ b.has_pool p e) → bit_or gave gives ≡ gives → IsAnswer found n a key → IsAnswer (Some (bit_or (unwrap_or found 0) gives)) n b key
+  unfolding is_held is_given
+  answer_grown found gave gives given_before given_now more says = (
+    sym (one_passes (λ x. b.is_valid x && eqb (b.key x) key) 0 n e (omega arith) (omega (arith, within)) here),
+    λ p h. has_bit_or (unwrap_or found 0) gives p ∙ (λ i. says.1 p h i || now p h i) ∙ one_more (before p) (after p) n e within (elsewhere p) (still p h),
+  )
+    where
+      here : (b.is_valid e && eqb (b.key e) key) ≡ true
+      here = rw (is_valid) (eq-eqb (b.key e) key (sym holds))
+
+      before : ℕ → ℕ → Bool
+      before p x = (a.is_valid x && a.has_pool p x) && eqb (a.key x) key
+
+      after : ℕ → ℕ → Bool
+      after p x = (b.is_valid x && b.has_pool p x) && eqb (b.key x) key
+
+      there : (p : ℕ) → after p e ≡ b.has_pool p e
+      there p = between_true (b.is_valid e) (b.has_pool p e) (eqb (b.key e) key) here
+
+      now : (p : ℕ) → p < 64 → has_bit gives p ≡ after p e
+      now p h = given_now p h ∙ sym (there p)
+
+      elsewhere : (p x : ℕ) → x ≢ e → before p x ≡ after p x
+      elsewhere p x other = let same = others x other in λ i. (same.valid i && same.pools p i) && eqb (same.keys i) key
+
+      had : (p : ℕ) → before p e ≡ a.has_pool p e
+      had p = between_true (a.is_valid e) (a.has_pool p e) (eqb (a.key e) key) (rw was_valid (eq-eqb (a.key e) key (sym held)))
+
+      still : (p : ℕ) → p < 64 → before p e ≡ true → after p e ≡ true
+      still p h has = there p ∙ sym (given_now p h) ∙ has_those gave gives p more (given_before p h ∙ sym (had p) ∙ has)
 
 -- ---- there is room for every key that an entry holds
 

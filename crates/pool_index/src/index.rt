@@ -1,5 +1,5 @@
 //! The index, and the search in it.
-ghost use Rattle.std.specs.Prelude.{◌≡◌, ℕ, ◌+◌, ◌^◌, ◌<◌, ◌≤◌, ◌==◌, [], length, true, Some, None, is_some, if◌then◌else◌, MatchResult};
+ghost use Rattle.std.specs.Prelude.{◌≡◌, ℕ, ◌+◌, ◌^◌, ◌<◌, ◌≤◌, ◌==◌, [], length, true, Some, None, is_some, bit_or, if◌then◌else◌, MatchResult};
 ghost use Rattle.pool_index.specs.Index.{kept_pools, pools_in, Rises, IsPlace, IsGap};
 
 use arrayvec::ArrayVec;
@@ -69,6 +69,20 @@ impl<const N: usize> PoolIndex<N> {
             Ok(place) => self.kept[place].pools = pools,
             Err(place) => self.kept.insert(place, Entry { key, pools }),
         }
+    }
+
+    /// Adds these pools to those of the key, which is kept then. Every other key stays as it is. A key that is not kept yet takes one of the
+    /// `N` places.
+    pub fn add(&mut self, key: u64, pools: u64)
+        requires { kept_pools self.old key ≡ None → length self.old < N }
+        ensures kept { (k : ℕ)
+            → kept_pools self.new k
+            ≡ (if key == k then Some (bit_or (pools_in self.old key) pools) else kept_pools self.old k) }
+        ensures rises { Rises 0 self.new }
+        ensures more { length self.new ≤ length self.old + 1 }
+    {
+        let kept = self.probe(key).0;
+        self.put(key, kept | pools);
     }
 
     /// Takes the key out, where it is kept. Every other key stays as it is.

@@ -79,6 +79,9 @@ impl<W: KeyedWords<N>, const N: usize> KeyedTable<W, N> {
     }
 
     /// Writes the word at an offset, and brings up to date the key that the entry held and the one that it holds.
+    ///
+    /// The entries are scanned only where a valid entry's key changes, or it gives a pool no longer, or where it becomes valid or is no longer:
+    /// one that gives more adds that to what is kept of its key, and one that isn't valid before or after is no matter to the index.
     pub fn write(&mut self, offset: u32, value: u32)
         ensures { self.new ≡ W.after self.old offset value }
     {
@@ -86,9 +89,20 @@ impl<W: KeyedWords<N>, const N: usize> KeyedTable<W, N> {
             self.words.write(offset, value);
             return;
         };
+        let was_valid = self.words.is_valid(e);
         let former = self.words.key(e);
+        let gave = self.words.pools(e);
         self.words.write(offset, value);
+        let is_valid = self.words.is_valid(e);
         let key = self.words.key(e);
+        let gives = self.words.pools(e);
+        if !was_valid && !is_valid {
+            return;
+        }
+        if was_valid && is_valid && key == former && gave | gives == gives {
+            self.index.add(key, gives);
+            return;
+        }
         self.index.set(former, found(&self.words, former));
         if key != former {
             self.index.set(key, found(&self.words, key));

@@ -21,7 +21,7 @@ use crate::resets::{clear_resets, read_resets};
 use crate::response::Response;
 use crate::room::Room;
 use crate::service::serve_queue_live;
-use crate::switching::end_all;
+use crate::switching::{end_all, note};
 use guest_memory::GuestMem;
 use irq_causes::{Messages, Vectors};
 use live_memory::Dma;
@@ -248,7 +248,7 @@ impl<D: Dma<K>, K> Device<D, K> {
         }
         let switched = self.switch(Source::Pool(pool), room.frame.as_frame());
         let mut messages = switched.messages;
-        messages.set(pool, acted.vectors);
+        note(&mut messages, pool, acted.vectors);
         Response {
             outcome: acted.outcome,
             messages,

@@ -64,14 +64,14 @@ fn deliver_to_all<D: Dma<K>, K>(
 }
 
 // Sets the messages to one pool, which has been told none. Most frames issue none.
-#[inline]
+#[inline(always)]
 #[tactic(auto, using(crate::proofs::Arrivals::raised_no_more))]
-fn note(raised: &mut Messages, pool: PoolId, vectors: Vectors)
+pub(crate) fn note(raised: &mut Messages, pool: PoolId, vectors: Vectors)
     requires { slice_index raised.old pool ≡ 0 }
     ensures { raised.new ≡ slice_set raised.old pool vectors }
 {
     if !vectors.is_empty() {
-        raised.set(pool, vectors);
+        raised.give(pool, vectors);
     }
 }
 

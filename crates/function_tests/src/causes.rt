@@ -170,6 +170,17 @@ fn each_vector_has_its_pools(rt: HostRuntime) -> Result<(), Fail> {
     Ok(())
 }
 
+// A pool that has got nothing is given vectors 0 and 2, and no other pool gets any.
+#[test]
+#[tactic(auto, unfolding(irq_causes::specs::Messages::no_messages))]
+fn vectors_are_given(rt: HostRuntime) -> Result<(), Fail> {
+    let pool = PoolId::new(7).ok_or("a pool")?;
+    let mut messages = Messages::none();
+    messages.give(pool, Vectors::from_bits(0b101));
+    assert_equal(&rt, messages.words().as_slice(), [0x80, 0, 0x80].as_slice());
+    Ok(())
+}
+
 #[test]
 fn texts_for_people(rt: HostRuntime) -> Result<(), Fail> {
     let set = Vectors::from_bits(5);

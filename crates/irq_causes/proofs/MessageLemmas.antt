@@ -39,6 +39,32 @@ put_other word k zero p h small below other =
 put_other word k (suc zero) p h small below other = bit_at_set_other w64 _ k h p other ∙ bit_at_clear_other w64 word k h p below other
 put_other word k (suc (suc n)) p h small below other = absurd (omega arith)
 
+-- ---- one bit of a word that hasn't it is written: `word | bit << k`
+
+pub join_own : (word k bit : ℕ) → k < 64 → bit < 2 → bit_at word k ≡ 0 → bit_at (bit_or word (bit * 2 ^ k % 18446744073709551616)) k ≡ bit
+join_own word k zero h small lacks =
+    let none : 0 * 2 ^ k % 18446744073709551616 ≡ 0 = omega arith in
+    rw none (bit_at_or word 0 k ∙ omega (arith, bit_at-zero k, lacks))
+join_own word k (suc zero) h small lacks = bit_at_set_same w64 word k h
+join_own word k (suc (suc n)) h small lacks = absurd (omega arith)
+
+pub join_other : (word k bit p : ℕ) → k < 64 → bit < 2 → p ≢ k → bit_at (bit_or word (bit * 2 ^ k % 18446744073709551616)) p ≡ bit_at word p
+join_other word k zero p h small other =
+    let none : 0 * 2 ^ k % 18446744073709551616 ≡ 0 = omega arith in
+    rw none (bit_at_or word 0 p ∙ omega (arith, bit_at-zero p))
+join_other word k (suc zero) p h small other = bit_at_set_other w64 word k h p other
+join_other word k (suc (suc n)) p h small other = absurd (omega arith)
+
+-- a pool that got nothing has its bit in no word
+pub none_of_zero : (a b c p : ℕ) → p < 64 → get_or (masks a b c) p 0 ≡ 0 → bit_at a p ≡ 0
+none_of_zero a b c p below none = omega (arith, none, mask_of_pool a b c p below)
+
+pub none_of_one : (a b c p : ℕ) → p < 64 → get_or (masks a b c) p 0 ≡ 0 → bit_at b p ≡ 0
+none_of_one a b c p below none = omega (arith, none, mask_of_pool a b c p below)
+
+pub none_of_two : (a b c p : ℕ) → p < 64 → get_or (masks a b c) p 0 ≡ 0 → bit_at c p ≡ 0
+none_of_two a b c p below none = omega (arith, none, mask_of_pool a b c p below)
+
 -- the three bits of pool k are written: the list has the set there in place of the old one
 pub masks_put : (a b c x y z k m : ℕ) → k < 64 → m < 8
     → bit_at x k ≡ m % 2 → bit_at y k ≡ m / 2 % 2 → bit_at z k ≡ m / 4

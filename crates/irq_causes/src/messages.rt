@@ -95,6 +95,19 @@ impl Messages {
         self.vector_2 = put(self.vector_2, pool, bits / 4);
     }
 
+    /// Gives those vectors to a pool that has got none. What every other pool got stays.
+    #[inline]
+    #[tactic(auto, using(crate::proofs::MessageLemmas::masks_put, crate::proofs::MessageLemmas::none_of_zero, crate::proofs::MessageLemmas::none_of_one, crate::proofs::MessageLemmas::none_of_two))]
+    pub fn give(&mut self, pool: PoolId, vectors: Vectors)
+        requires { slice_index self.old pool ≡ 0 }
+        ensures { self.new ≡ slice_set self.old pool vectors }
+    {
+        let bits = vectors.bits();
+        self.vector_0 = join(self.vector_0, pool, bits % 2);
+        self.vector_1 = join(self.vector_1, pool, bits / 2 % 2);
+        self.vector_2 = join(self.vector_2, pool, bits / 4);
+    }
+
     /// The pools that got any vector.
     #[inline]
     #[tactic(auto, using(crate::proofs::MessageLemmas::any_of))]
@@ -217,4 +230,16 @@ fn put(word: u64, pool: PoolId, bit: u8) -> u64
 {
     let place = pool.get();
     (word & !(1 << place)) | (u64::from(bit) << place)
+}
+
+// The word with the bit of the pool, which it hasn't, as it is given.
+#[inline]
+#[tactic(auto, using(crate::proofs::MessageLemmas::join_own, crate::proofs::MessageLemmas::join_other))]
+fn join(word: u64, pool: PoolId, bit: u8) -> u64
+    requires small { bit < 2 }
+    requires none { bit_at word pool ≡ 0 }
+    ensures own { bit_at result pool ≡ bit }
+    ensures others { (p : ℕ) → p < 64 → p ≢ pool → bit_at result p ≡ bit_at word p }
+{
+    word | (u64::from(bit) << pool.get())
 }

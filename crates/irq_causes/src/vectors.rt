@@ -76,15 +76,12 @@ impl Vectors {
 
     // Vector `v` alone.
     #[inline]
+    #[tactic(auto, using(crate::proofs::Bounds::one_vector))]
     pub(crate) fn of(v: u8) -> Vectors
         requires { v < 3 }
         ensures { result ≡ 2 ^ v }
     {
-        match v {
-            0 => Vectors { bits: 1 },
-            1 => Vectors { bits: 2 },
-            _ => Vectors { bits: 4 },
-        }
+        Vectors { bits: 1 << v }
     }
 
     // The vectors that a word of a register names, in its bits 2:0.

@@ -50,6 +50,7 @@ pub fn is_for_pool(tables: &Tables, from: Source, frame: Frame<'_>, pool: PoolId
 }
 
 // The pools that a frame from the wire is for: those that accept it, or else the default pool.
+#[inline(always)]
 #[tactic(auto, using(wire_frame::proofs::BitLemmas::has_bit_zero), unfolding(crate::specs::Switch::takes_from_wire))]
 fn from_wire(tables: &Tables, frame: Frame<'_>) -> u64
     ensures { (p : ℕ) → p < 64 → has_bit result p ≡ takes_from_wire tables.now frame.entry.bytes.now p }
@@ -66,6 +67,7 @@ fn from_wire(tables: &Tables, frame: Frame<'_>) -> u64
 
 // The pools that a frame of a pool is for, and whether it leaves for the wire: under loopback all others that accept it, and the wire where it
 // may be for someone there; else the wire alone.
+#[inline(always)]
 #[tactic(auto, using(wire_frame::proofs::BitLemmas::has_bit_zero), unfolding(crate::specs::Switch::takes_from_pool))]
 fn from_pool(tables: &Tables, sender: PoolId, frame: Frame<'_>) -> (u64, bool)
     ensures pools { (p : ℕ) → p < 64 → has_bit result.0 p ≡ takes_from_pool tables.now sender frame.entry.bytes.now p }

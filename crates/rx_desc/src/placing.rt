@@ -80,7 +80,9 @@ pub fn place_in<D: Dma<K>, K>(
     let size = config.buffer_size;
     let bytes = frame.bytes();
     if config.strip_tag || bytes.len() > size {
-        return place_frame(memory, ring, config, frame, loopback);
+        // a copy, so that the settings stay in registers where this call isn't made
+        let settings = *config;
+        return place_frame(memory, ring, &settings, frame, loopback);
     }
     let source = Parts {
         front: &bytes[..0],

@@ -29,7 +29,7 @@ use wire_frame::{FrameBuf, FrameLimit, PortVlan};
 /// into it that were read from it. It makes just the accesses that `fetch_accesses` lists, in that order, and no byte is read twice,
 /// so there is one such memory whatever others write, and whenever. The memory's type is known where it is called;
 /// [`fetch`](crate::fetch) takes one of any kind behind a reference.
-#[inline]
+#[inline(always)]
 pub fn fetch_into<D: Dma<K>, K>(
     memory: &mut Traced<D, K>,
     ring: &mut Ring,
@@ -75,6 +75,7 @@ pub fn fetch_into<D: Dma<K>, K>(
 }
 
 // Takes a descriptor that has bytes.
+#[inline(always)]
 fn take_data<D: Dma<K>, K>(
     memory: &mut Traced<D, K>,
     ring: &mut Ring,
@@ -112,7 +113,7 @@ fn take_data<D: Dma<K>, K>(
 }
 
 // Writes a descriptor back where its driver asks for it, and tells whether it was.
-#[inline]
+#[inline(always)]
 #[tactic(auto, unfolding(crate::specs::Accesses::report_write))]
 pub(crate) fn report<D: Dma<K>, K>(memory: &mut Traced<D, K>, descriptor: TxDescriptor) -> bool
     requires place { descriptor.at + 16 ≤ length (D.seen memory.old.memory) }
@@ -133,7 +134,7 @@ pub(crate) fn report<D: Dma<K>, K>(memory: &mut Traced<D, K>, descriptor: TxDesc
 }
 
 // Gathers the bytes of a descriptor, and ends the frame where it is the last one.
-#[inline]
+#[inline(always)]
 fn gather<D: Dma<K>, K>(
     memory: &mut Traced<D, K>,
     pending: &mut Pending,
@@ -156,16 +157,20 @@ fn gather<D: Dma<K>, K>(
     ensures reads { ReadsApart D.shared descriptor.at
         memory.old.accesses memory.new.accesses (D.seen memory.old.memory) (D.seen memory.new.memory) }
 {
+    // copies, so that the descriptor stays in registers where these calls aren't made
+    let TxDescriptor { at, buffer, word } = descriptor;
     if !descriptor.ends_frame() {
-        pending.join(memory, descriptor, usize::from(limit.get()));
+        let part = TxDescriptor { at, buffer, word };
+        pending.join(memory, part, usize::from(limit.get()));
         return Progress::More;
     }
     if pending.is_empty() && is_whole(frame, descriptor, rule, limit) {
         take_whole(memory, frame, descriptor, rule, limit);
         return Progress::Ended;
     }
-    pending.join(memory, descriptor, usize::from(limit.get()));
-    let is_frame = pending.end(frame, descriptor, rule, limit);
+    let last = TxDescriptor { at, buffer, word };
+    pending.join(memory, last, usize::from(limit.get()));
+    let is_frame = pending.end(frame, last, rule, limit);
     pending.clear();
     if is_frame {
         Progress::Ended
@@ -176,7 +181,7 @@ fn gather<D: Dma<K>, K>(
 
 // Whether the bytes of a descriptor are a frame as they stand, and the lent frame is as long at least. Shorter ones may be none,
 // and a longer one would have to be made room for.
-#[inline]
+#[inline(always)]
 fn is_whole(frame: &FrameBuf, descriptor: TxDescriptor, rule: PortVlan, limit: FrameLimit) -> bool
     ensures { IsTrue result → IsWhole limit rule descriptor.word (length frame.now) }
 {
@@ -188,7 +193,7 @@ fn is_whole(frame: &FrameBuf, descriptor: TxDescriptor, rule: PortVlan, limit: F
 }
 
 // Makes the lent frame the bytes of a descriptor, straight from the memory.
-#[inline]
+#[inline(always)]
 #[tactic(auto, unfolding(crate::specs::Transmit::joined, crate::specs::Transmit::ended))]
 fn take_whole<D: Dma<K>, K>(
     memory: &mut Traced<D, K>,

@@ -29,6 +29,7 @@ use wire_frame::FrameBuf;
 /// the last of them. What leaves is left in `frame`, as it leaves. Where the terms have no offloads it is [`fetch_into`].
 ///
 /// What holds there of memory that others write holds here. A segment reads no memory.
+#[inline(always)]
 #[tactic(auto, unfolding(crate::specs::Offloaded::fetch_with, crate::specs::OffloadedAccesses::fetch_with_accesses, crate::specs::Misuses::misuse_at))]
 pub fn fetch_with_offloads<D: Dma<K>, K>(
     memory: &mut Traced<D, K>,
@@ -55,12 +56,25 @@ pub fn fetch_with_offloads<D: Dma<K>, K>(
     if terms.are_plain() {
         fetch_plainly(memory, ring, sending, frame, terms)
     } else {
-        fetch_next(memory, ring, sending, frame, terms)
+        // copies, so that what a plain step needs and gives stays in registers
+        let offered = *terms;
+        let Turn {
+            outcome,
+            reported,
+            falls_short,
+            misuse,
+        } = fetch_next(memory, ring, sending, frame, &offered);
+        Turn {
+            outcome,
+            reported,
+            falls_short,
+            misuse,
+        }
     }
 }
 
 // Takes a descriptor as a card does that does nothing for its driver.
-#[inline]
+#[inline(always)]
 fn fetch_plainly<D: Dma<K>, K>(
     memory: &mut Traced<D, K>,
     ring: &mut Ring,
@@ -101,6 +115,7 @@ fn fetch_plainly<D: Dma<K>, K>(
 }
 
 // Takes the descriptor at the head, or sends the next segment of the frame that ends with it.
+#[inline(never)]
 fn fetch_next<D: Dma<K>, K>(
     memory: &mut Traced<D, K>,
     ring: &mut Ring,

@@ -11,7 +11,7 @@ use byteorder::{ByteOrder, LittleEndian};
 use live_memory::{Dma, Traced};
 
 // Reads the descriptor that stands at an address, by one access.
-#[inline]
+#[inline(always)]
 pub(crate) fn read_descriptor<D: Dma<K>, K>(memory: &mut Traced<D, K>, at: u64) -> TxDescriptor
     requires { at + 16 ≤ length (D.seen memory.old.memory) }
     ensures at { result.at ≡ at }
@@ -29,7 +29,7 @@ pub(crate) fn read_descriptor<D: Dma<K>, K>(memory: &mut Traced<D, K>, at: u64) 
 
 // Reads the bytes of a descriptor into `out`, which has as many. Those that lie in the descriptor itself were read with it, and
 // aren't read again.
-#[inline]
+#[inline(always)]
 pub(crate) fn read_data<D: Dma<K>, K>(
     memory: &mut Traced<D, K>,
     descriptor: TxDescriptor,
@@ -46,7 +46,9 @@ pub(crate) fn read_data<D: Dma<K>, K>(
     if descriptor.lies_apart() {
         read_part(memory, descriptor.buffer, out);
     } else {
-        read_around(memory, descriptor, out);
+        // a copy, so that the descriptor stays in registers where the call isn't made
+        let TxDescriptor { at, buffer, word } = descriptor;
+        read_around(memory, TxDescriptor { at, buffer, word }, out);
     }
 }
 
@@ -82,7 +84,7 @@ fn gap(to: u64, from: u64) -> usize
 }
 
 // Reads bytes by one access, or by none where there are none.
-#[inline]
+#[inline(always)]
 #[tactic(auto, unfolding(crate::specs::Accesses::part_read))]
 fn read_part<D: Dma<K>, K>(memory: &mut Traced<D, K>, at: u64, out: &mut [u8])
     requires { at + length out.old ≤ length (D.seen memory.old.memory) }

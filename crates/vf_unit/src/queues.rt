@@ -172,7 +172,7 @@ impl TransmitQueue {
     }
 
     /// Takes the descriptor at the head, or sends the next segment of the frame that ends with it.
-    #[inline]
+    #[inline(always)]
     pub fn fetch<D: Dma<K>, K>(
         &mut self,
         memory: &mut Traced<D, K>,

@@ -36,12 +36,12 @@ impl Mac {
     pub fn kind(self) -> AddressKind
         ensures { result ≡ kind_of self.0 }
     {
-        if self.number() == 0xFFFF_FFFF_FFFF {
-            AddressKind::Broadcast
-        } else if has_bit(u64::from(self.0[0]), 0) {
-            AddressKind::Multicast
-        } else {
+        if !has_bit(u64::from(self.0[0]), 0) {
             AddressKind::Unicast
+        } else if self.number() == 0xFFFF_FFFF_FFFF {
+            AddressKind::Broadcast
+        } else {
+            AddressKind::Multicast
         }
     }
 }

@@ -1,8 +1,9 @@
 -- A service, with the frame that it sent switched.
-use Rattle.std.proofs.Common.{◌≡◌, ◌≤◌, ◌∙◌, ℕ, List, Some, None, length, refl, ap, subst, sym}
+use Rattle.std.proofs.Common.{◌≡◌, ◌≤◌, ◌∙◌, ℕ, List, Some, None, length, get_or, refl, ap, subst, sym}
 use Rattle.std.specs.Prelude.{if◌then◌else◌}
 use Rattle.device.specs.World.{World}
 use Rattle.device.specs.Live.{told_functions, told_world}
+use Rattle.device.proofs.Arrivals.{sender_silent}
 use Rattle.device.proofs.Fitting.{sent_fits}
 use Rattle.device.proofs.LiveServes.{unsent_live, sent_live, unsent_listed, sent_listed, others_kept, sender_kept}
 use Rattle.device.proofs.device.Device.serve_pool.Goals as goal
@@ -25,6 +26,10 @@ switch-switched-requires g c =
     subst (λ (f : List ℕ). length f ≤ c.transmit-acted.new.self.world.profile.limit) (sym c.as_frame.ensures)
     (subst (λ (w : World). length c.transmit-acted.new.frame ≤ w.profile.limit) (sym c.transmit-acted.ensures.world) (sent_fits c.args.self.now.world.profile.limit _ _ c.args.queue c.transmit-acted.new.frame sent))
 
+-- the sender gets nothing of its own frame
+pub note-requires : goal.note-requires
+note-requires g c = ap (λ (ms : List ℕ). get_or ms c.args.pool 0) c.switch-switched.ensures.messages ∙ sender_silent _ _ _ c.args.pool c.transmit-acted.ensures.below
+
 pub returns : goal.returns
 returns g c =
     let own = c.transmit-acted.new.frame in
@@ -38,6 +43,6 @@ returns g c =
       takes = sent_live g.D.Dma.shared c.args.self.now.accesses mid.accesses last.accesses c.args.self.now.world mid.world last.world c.args.pool c.args.queue frame _ _ c.switch-switched.result.messages c.transmit-acted.result.vectors c.requires.there
           (others_kept c.args.self.now.accesses mid.accesses (told_world c.args.self.now.accesses mid.accesses c.args.self.now.world) c.args.pool c.args.queue c.transmit-acted.ensures.listed)
           (sender_kept mid.accesses last.accesses mid.world.settings (told_functions mid.accesses last.accesses mid.world.functions) c.args.pool frame c.switch-switched.ensures.listed) c.transmit-acted.ensures.met c.switch-switched.ensures.met
-          c.transmit-acted.ensures.world c.switch-switched.ensures.world c.transmit-acted.ensures.sizes c.switch-switched.ensures.sizes c.transmit-acted.ensures.reply c.transmit-acted.ensures.messages c.switch-switched.ensures.messages c.set.ensures sent was_sent (ap (λ (f : List ℕ). if c.switch-switched.result.left then Some f else None) same ∙ ap (λ b. if b then Some frame else None) c.switch-switched.ensures.left);
+          c.transmit-acted.ensures.world c.switch-switched.ensures.world c.transmit-acted.ensures.sizes c.switch-switched.ensures.sizes c.transmit-acted.ensures.reply c.transmit-acted.ensures.messages c.switch-switched.ensures.messages c.note.ensures sent was_sent (ap (λ (f : List ℕ). if c.switch-switched.result.left then Some f else None) same ∙ ap (λ b. if b then Some frame else None) c.switch-switched.ensures.left);
       listed = sent_listed c.args.self.now.accesses mid.accesses last.accesses c.args.self.now.world mid.world c.args.pool c.args.queue frame c.requires.there c.transmit-acted.ensures.listed c.switch-switched.ensures.listed c.transmit-acted.ensures.world sent;
     }
